@@ -1,12 +1,13 @@
 -- From what is due for two scripts to what misbehaving hosts are told by them.
-use Rattle.std.proofs.Common.{◌≡◌, ℕ, List, [], ◌∷◌, ◌++◌, None, get_or, refl, sym, subst, inl, inr, ⊎_elim}
-use Rattle.std.specs.Prelude.{ℤ, ◌⊎◌, ⊤, All}
+use Rattle.std.proofs.Common.{◌≡◌, ℕ, List, [], ◌∷◌, ◌++◌, Ok, None, get_or, refl, sym, subst, inl, inr, ⊎_elim}
+use Rattle.std.specs.Prelude.{ℤ, ⊤, Option, All}
+use Rattle.std.proofs.lemmas.List.Elements.{All-map}
 use Rattle.js_base.specs.declared.status.Status.{Status}
-use Rattle.js_base.specs.declared.status.Status.TheVariants.{Done, Differ, InputRefused}
+use Rattle.js_base.specs.declared.status.Status.TheVariants.{Done, Differ}
 use Rattle.jif_tree.specs.declared.program.Program.{Program}
 use Rattle.event_text.specs.declared.event.Event.{Event}
 use Rattle.event_text.specs.OwnTokens.{IsOwnEvent}
-use Rattle.event_text.specs.Script.{ScriptShape}
+use Rattle.event_text.specs.Script.{ScriptShape, script_of}
 use Rattle.host_code.specs.Code.{CodeShape}
 use Rattle.host_code.specs.Sound.{IsSoundCode}
 use Rattle.need_labels.specs.Labelled as needs
@@ -25,27 +26,24 @@ use Rattle.agreement.specs.Alike.{AreStoresAlike}
 use Rattle.front_end.specs.PlacedCode.{code_of, program_of}
 use Rattle.front_end.specs.PlacedSources.{PlacedSource, PlacedSources}
 use Rattle.front_end.specs.Stages.{Outcome, given, stopped, DueThen}
-use Rattle.front_end.specs.Loads.{FilesChange}
-use Rattle.front_end.specs.Verdicts.{VerdictShape, Refuse, Print}
-use Rattle.front_end.specs.Answers.{SinkChange}
-use Rattle.split_cli.specs.Answers.{AnswersTo}
+use Rattle.front_end.specs.Verdicts.{VerdictShape, Print}
 use Rattle.split_cli.specs.Commands.{Compare, words_of}
 use Rattle.split_cli.specs.Compare.{IsFront, AreAlike, StartAlike, holds, fails, SameMisbehave, SameStarts, SameEvents}
 use Rattle.split_cli.specs.Compare.{IsPromptRun, Compared, agree, differ}
 use Rattle.split_cli.specs.Compare.{DueForRuns, DueForSaid, DueForCompare}
-use Rattle.split_cli.specs.Compared.{ScriptRun, AreComparable, IsCompared, IsPrivate, OnlyTwo, PutsPrivately}
+use Rattle.split_cli.specs.Due.{Due}
 use Rattle.split_cli.specs.Drive.{first_world}
-use Rattle.split_cli.specs.Faithful.{IsPlacedAs}
+use Rattle.split_cli.specs.Headline.{IsPlacedAs, IsPrivate, OfFourFiles}
 use Rattle.split_cli.specs.Followed.{Followed, IsFollowed, EventsFollowed, followed, refused}
 use Rattle.net_world.specs.Replay.{events_in}
 use Rattle.split_cli.specs.Replay.{ScriptRead}
 use Rattle.split_cli.proofs.AlikeStarts.{alike_stores, alike_swapped}
 use Rattle.split_cli.proofs.DriveDue.{code_hosts}
-use Rattle.split_cli.proofs.Faithful.{AllLaws, Says, input_fails, placed_says, IsRead, script_says, Kind}
-use Rattle.split_cli.proofs.Faithful.{SaysOfBytes, answer_put}
+use Rattle.split_cli.proofs.Faithful.{AllLaws, Says, refused_says, placed_says, IsRead, script_says, played}
+use Rattle.split_cli.proofs.Faithful.{SaysOfBytes, OnlyTwo, four_due}
 use Rattle.split_cli.proofs.OneCompare.{differ_not_alike}
 use Rattle.split_cli.proofs.OneDrive.{OneStep}
-use Rattle.split_cli.proofs.PromptRuns.{followed_seen, all_seen, followed_prompt}
+use Rattle.split_cli.proofs.PromptRuns.{followed_runs, followed_seen, all_seen, followed_prompt}
 use Rattle.split_cli.proofs.SetSources.{set_there, results_there}
 
 -- ---- what is known of two runs
@@ -71,38 +69,29 @@ pub record PrivateLaws : Type 0 where
 
 -- ---- what two runs tell
 
+-- a run that misbehaving hosts see so
+record IsSeenSo (code : CodeShape) (world : WorldShape) (events seen : List Event) (last : WorldShape) : Type 0 where
+  runs : IsSeenRun code world events seen last
+  prompt : IsPrompt code world events
+
 -- the first of two runs is that of which more is seen
 longer_tells : AllLaws → PrivateLaws → (program hosts : List ℕ) (placed : PlacedSource) (tree : Program) (bad : ℕ)
-    (store start : List (List ℤ)) (events others : List (ℕ × Event)) (one other : Followed) (more : List Event) →
+    (store start : List (List ℤ)) (events others seen more : List Event) (one other : WorldShape) →
     IsPlacedAs program hosts placed tree → ReleasesNothing placed.source.tree →
     AreStoresAlike (code_of placed) (first_world placed bad store) store start →
-    All (λ (it : ℕ × Event). IsOwnEvent (code_of placed).hosts bad it.1) others →
-    events_in one.seen ≡ events_in other.seen ++ more →
-    IsFollowed (code_of placed) (first_world placed bad store) events one →
-    IsFollowed (code_of placed) (first_world placed bad start) others other →
-    one.late ≡ None → other.late ≡ None → IsFront other.last.sent one.last.sent
-longer_tells sets laws program hosts placed tree bad store start events others one other more is_placed silent alike own
-    is ran ran_other prompt prompt_other =
+    All (HasOwnToken (first_world placed bad store)) others →
+    IsSeenSo (code_of placed) (first_world placed bad store) events (seen ++ more) one →
+    IsSeenSo (code_of placed) (first_world placed bad start) others seen other → IsFront other.sent one.sent
+longer_tells sets laws program hosts placed tree bad store start events others seen more one other is_placed silent
+    alike own first second =
     let code = code_of placed in
-    let rows = placed.source.file.hosts in
-    let first = first_world placed bad store in
-    let second = first_world placed bad start in
-    let accepted = is_placed.accepted in
     let set =
-    set_there sets.reading sets.plans sets.granted program hosts placed accepted tree is_placed.tree_is in
-    let Own : Event → Type 0 = HasOwnToken first in
-    let presented : All (λ (it : ℕ × Event). Own it.1) others =
-    λ k d less. sets.scripts.own_at_start code rows bad store (get_or others k d).1 (code_hosts placed code refl)
-    (own k d less) in
-    laws.told_alike (program_of placed) bad store start
-    (events_in events) (events_in others) (events_in other.seen) more one.last other.last set.splittable set.allowed
-    set.held (results_there sets.reading sets.plans sets.granted program hosts placed accepted) silent alike
-    (all_seen Own code second others other ran_other presented)
-    (subst (λ (seen : List Event). IsSeenRun code first (events_in events) seen one.last) is
-    (followed_seen code first events one ran))
-    (followed_seen code second others other ran_other)
-    (followed_prompt laws.one_step code first events one ran prompt)
-    (followed_prompt laws.one_step code second others other ran_other prompt_other)
+    set_there sets.reading sets.plans sets.granted program hosts placed is_placed.accepted tree is_placed.tree_is in
+    laws.told_alike (program_of placed) bad store start events others seen more one other set.splittable set.allowed
+    set.held (results_there sets.reading sets.plans sets.granted program hosts placed is_placed.accepted) silent alike
+    (all_seen (HasOwnToken (first_world placed bad store)) code others seen (first_world placed bad start) other
+    second.runs own)
+    first.runs second.runs first.prompt second.prompt
 
 -- the code of an accepted program is sound
 sound_there : AllLaws → PrivateLaws → (program hosts : List ℕ) (placed : PlacedSource) (tree : Program) →
@@ -112,34 +101,51 @@ sound_there sets laws program hosts placed tree is_placed =
     (set_there sets.reading sets.plans sets.granted program hosts placed is_placed.accepted tree
     is_placed.tree_is).splittable
 
+-- the tokens that misbehaving hosts make up in a script are their own, in any world that starts with the same hosts
+own_there : AllLaws → (placed : PlacedSource) (script : List ℕ) (said : ScriptShape) (bad : ℕ)
+    (store : List (List ℤ)) → script_of (code_of placed) script ≡ Ok said → said.bad ≡ bad →
+    All (HasOwnToken (first_world placed bad store)) (events_in said.events)
+own_there sets placed script said bad store read same =
+    let code = code_of placed in
+    let Own : Event → Type 0 = HasOwnToken (first_world placed bad store) in
+    let own = subst (λ (word : ℕ). All (λ (it : ℕ × Event). IsOwnEvent code.hosts word it.1) said.events) same
+    (sets.scripts.said_own code script said read) in
+    All-map Own (λ (it : ℕ × Event). it.1) said.events
+    (λ k d less. sets.scripts.own_at_start code placed.source.file.hosts bad store (get_or said.events k d).1
+    (code_hosts placed code refl) (own k d less))
+
 runs_tell : AllLaws → PrivateLaws → (program hosts one other : List ℕ) (placed : PlacedSource) (tree : Program)
-    (first : ScriptRun placed one) (second : ScriptRun placed other) → IsPlacedAs program hosts placed tree →
-    AreComparable placed one other first second → ReleasesNothing placed.source.tree →
-    AreAlike first.run.last.sent second.run.last.sent
-runs_tell sets laws program hosts one other placed tree first second is_placed both silent =
+    (said said_too : ScriptShape) (seen seen_too : List Event) (last last_too : WorldShape) →
+    IsPlacedAs program hosts placed tree → script_of (code_of placed) one ≡ Ok said →
+    script_of (code_of placed) other ≡ Ok said_too → said.bad ≡ said_too.bad →
+    StartAlike (code_of placed) (first_world placed said.bad said.start) said.start said_too.start →
+    IsSeenSo (code_of placed) (first_world placed said.bad said.start) (events_in said.events) seen last →
+    IsSeenSo (code_of placed) (first_world placed said_too.bad said_too.start) (events_in said_too.events) seen_too
+    last_too → AreAlike seen seen_too → ReleasesNothing placed.source.tree → AreAlike last.sent last_too.sent
+runs_tell sets laws program hosts one other placed tree said said_too seen seen_too last last_too is_placed read
+    read_too same starts first second both silent =
     let code = code_of placed in
     let rows = placed.source.file.hosts in
-    let bad = first.said.bad in
-    let same : second.said.bad ≡ bad = sym both.same_bad in
-    let own = sets.scripts.said_own code one first.said first.read in
-    let own_too =
-    subst (λ (word : ℕ). All (λ (it : ℕ × Event). IsOwnEvent code.hosts word it.1) second.said.events) same
-    (sets.scripts.said_own code other second.said second.read) in
-    let ran_too =
-    subst (λ (word : ℕ). IsFollowed code (first_world placed word second.said.start) second.said.events second.run) same
-    second.followed in
+    let bad = said.bad in
+    let second_same =
+    subst (λ (word : ℕ). IsSeenSo code (first_world placed word said_too.start) (events_in said_too.events) seen_too
+    last_too) (sym same) second in
     let alike =
-    alike_stores code rows bad first.said.start second.said.start
-    (sound_there sets laws program hosts placed tree is_placed) (code_hosts placed code refl) both.starts in
+    alike_stores code rows bad said.start said_too.start (sound_there sets laws program hosts placed tree is_placed)
+    (code_hosts placed code refl) starts in
     ⊎_elim
-    (λ longer. inl (longer_tells sets laws program hosts placed tree bad second.said.start first.said.start
-    second.said.events first.said.events second.run first.run longer.0 is_placed silent
-    (alike_swapped code rows bad first.said.start second.said.start alike) own longer.1 ran_too first.followed
-    both.prompt_too both.prompt))
-    (λ longer. inr (longer_tells sets laws program hosts placed tree bad first.said.start second.said.start
-    first.said.events second.said.events first.run second.run longer.0 is_placed silent alike own_too longer.1
-    first.followed ran_too both.prompt both.prompt_too))
-    both.events
+    (λ longer. inl (longer_tells sets laws program hosts placed tree bad said_too.start said.start
+    (events_in said_too.events) (events_in said.events) seen longer.0 last_too last is_placed silent
+    (alike_swapped code rows bad said.start said_too.start alike)
+    (own_there sets placed one said bad said_too.start read refl)
+    (subst (λ (all : List Event). IsSeenSo code (first_world placed bad said_too.start) (events_in said_too.events) all
+    last_too) longer.1 second_same) first))
+    (λ longer. inr (longer_tells sets laws program hosts placed tree bad said.start said_too.start
+    (events_in said.events) (events_in said_too.events) seen_too longer.0 last last_too is_placed silent alike
+    (own_there sets placed other said_too bad said.start read_too (sym same))
+    (subst (λ (all : List Event). IsSeenSo code (first_world placed bad said.start) (events_in said.events) all last)
+    longer.1 first) second_same))
+    both
 
 -- ---- what is reported
 
@@ -152,28 +158,9 @@ alike_done placed one other _ status text (agree alike) is also =
 alike_done placed one other _ status text (differ place apart) is also =
     absurd (differ_not_alike one other place apart also)
 
-is_private : AllLaws → PrivateLaws → (program hosts one other : List ℕ) (status : Status) (text : List ℕ) →
-    IsCompared program hosts one other status text → IsPrivate program hosts one other status text
-is_private sets laws program hosts one other status text compared =
-    let tells =
-    runs_tell sets laws program hosts one other compared.placed compared.tree compared.first compared.second
-    compared.is_placed compared.comparable in
-    record {
-      compared = compared;
-      told_alike = tells;
-      never_differs = λ silent. alike_done compared.placed compared.first.run.last.sent compared.second.run.last.sent
-          (Print status text) status text compared.reported refl (tells silent);
-    }
-
 -- ---- what a verdict says
 
--- a refusal of what a command was given is no success
-input_says : (Text : Status → List ℕ → Type 0) (line : List ℕ) (verdict : VerdictShape) →
-    verdict ≡ Refuse InputRefused line → Says Text verdict
-unfolding Says
-input_says Text line verdict is = subst (Says Text) (sym is) input_fails
-
--- a stage that says something of what it gives, or what is due for it is no success
+-- a stage that says something of what it gives, or stops the command
 then_says : {X : Type 0} (Text : Status → List ℕ → Type 0) (First : Outcome X → Type 0)
     (Last : X → VerdictShape → Type 0) (verdict : VerdictShape) → (First (stopped verdict) → Says Text verdict) →
     ((x : X) → First (given x) → Last x verdict → Says Text verdict) → DueThen First Last verdict →
@@ -181,7 +168,7 @@ then_says : {X : Type 0} (Text : Status → List ℕ → Type 0) (First : Outcom
 then_says Text First Last verdict stops goes ends =
     ⊎_elim (λ both. goes both.0 both.1 both.2) (λ stop. stops stop) ends
 
--- events are followed, or what is due is no success
+-- events are followed, or stop the command
 abbrev FollowedSays : (Status → List ℕ → Type 0) → CodeShape → WorldShape → List (ℕ × Event) → Outcome Followed →
     Type 0
 FollowedSays Text code world said (given run) = IsFollowed code world said run
@@ -192,12 +179,12 @@ followed_says : (Text : Status → List ℕ → Type 0) (file : List ℕ) (code 
     FollowedSays Text code world said end
 unfolding Says
 followed_says Text file code world said _ (followed run is) = is
-followed_says Text file code world said _ (refused at not_bad stops) = input_fails
-followed_says Text file code world said _ (refused at not_there stops) = input_fails
-followed_says Text file code world said _ (refused at host_busy stops) = input_fails
-followed_says Text file code world said _ (refused at (no_such_token count) stops) = input_fails
+followed_says Text file code world said _ (refused at not_bad stops) = tt
+followed_says Text file code world said _ (refused at not_there stops) = tt
+followed_says Text file code world said _ (refused at host_busy stops) = tt
+followed_says Text file code world said _ (refused at (no_such_token count) stops) = tt
 
--- a premise holds, or what is due is no success
+-- a premise holds, or stops the command
 abbrev PremiseSays : (Status → List ℕ → Type 0) → Type 0 → Outcome ⊤ → Type 0
 PremiseSays Text Holds (given one) = Holds
 PremiseSays Text Holds (stopped verdict) = Says Text verdict
@@ -205,67 +192,112 @@ PremiseSays Text Holds (stopped verdict) = Says Text verdict
 misbehave_says : (Text : Status → List ℕ → Type 0) (one other : ScriptShape) (end : Outcome ⊤) →
     SameMisbehave one other end → PremiseSays Text (one.bad ≡ other.bad) end
 misbehave_says Text one other _ (holds is) = is
-misbehave_says Text one other _ (fails verdict not) = input_says Text _ verdict not.1
+misbehave_says Text one other _ (fails verdict not) = refused_says Text _ verdict not.1
 
 starts_say : (Text : Status → List ℕ → Type 0) (placed : PlacedSource) (one other : ScriptShape) (end : Outcome ⊤) →
     SameStarts placed one other end →
     PremiseSays Text (StartAlike (code_of placed) (first_world placed one.bad one.start) one.start other.start) end
 starts_say Text placed one other _ (holds is) = is
-starts_say Text placed one other _ (fails verdict not) = input_says Text _ verdict not.3
+starts_say Text placed one other _ (fails verdict not) = refused_says Text _ verdict not.3
 
 events_say : (Text : Status → List ℕ → Type 0) (file : List ℕ) (one other : Followed) (end : Outcome ⊤) →
     SameEvents file one other end → PremiseSays Text (AreAlike (events_in one.seen) (events_in other.seen)) end
 events_say Text file one other _ (holds is) = is
-events_say Text file one other _ (fails verdict not) = input_says Text _ verdict not.2
+events_say Text file one other _ (fails verdict not) = refused_says Text _ verdict not.2
 
 prompt_says : (Text : Status → List ℕ → Type 0) (file : List ℕ) (run : Followed) (end : Outcome ⊤) →
     IsPromptRun file run end → PremiseSays Text (run.late ≡ None) end
 prompt_says Text file run _ (holds is) = is
-prompt_says Text file run _ (fails verdict not) = input_says Text _ verdict not.2
+prompt_says Text file run _ (fails verdict not) = refused_says Text _ verdict not.2
 
 -- ---- two scripts
 
 abbrev IsCompareText : (program hosts one other : List ℕ) → Status → List ℕ → Type 0
-IsCompareText program hosts one other status text = IsPrivate program hosts one other status text
+IsCompareText = IsPrivate
+
+-- a script that was read, and whose events were followed
+record IsFollowedSo (placed : PlacedSource) (script : List ℕ) (said : ScriptShape) (run : Followed) : Type 0 where
+  was : IsRead script placed said
+  followed : IsFollowed (code_of placed) (first_world placed said.bad said.start) said.events run
+
+seen_so : PrivateLaws → (placed : PlacedSource) (script : List ℕ) (said : ScriptShape) (run : Followed) →
+    IsFollowedSo placed script said run → run.late ≡ None →
+    IsSeenSo (code_of placed) (first_world placed said.bad said.start) (events_in said.events) (events_in run.seen)
+    run.last
+seen_so laws placed script said run it none =
+    let first = first_world placed said.bad said.start in
+    record {
+      runs = followed_seen (code_of placed) first said.events run it.followed;
+      prompt = followed_prompt laws.one_step (code_of placed) first said.events run it.followed none;
+    }
+
+-- all that is tested of two runs before they are compared
+record AreComparable (placed : PlacedSource) (said said_too : ScriptShape) (run run_too : Followed) : Type 0 where
+  same_bad : said.bad ≡ said_too.bad
+  starts : StartAlike (code_of placed) (first_world placed said.bad said.start) said.start said_too.start
+  events : AreAlike (events_in run.seen) (events_in run_too.seen)
+  prompt : run.late ≡ None
+  prompt_too : run_too.late ≡ None
+
+is_private : AllLaws → PrivateLaws → (program hosts one other : List ℕ) (placed : PlacedSource) (tree : Program)
+    (said said_too : ScriptShape) (run run_too : Followed) (status : Status) (text : List ℕ) →
+    IsPlacedAs program hosts placed tree → IsFollowedSo placed one said run → IsFollowedSo placed other said_too run_too
+    → AreComparable placed said said_too run run_too →
+    Compared placed run.last.sent run_too.last.sent (Print status text) → IsPrivate program hosts one other status text
+unfolding played
+is_private sets laws program hosts one other placed tree said said_too run run_too status text is_placed first second
+    both reported =
+    let code = code_of placed in
+    let one_seen = seen_so laws placed one said run first both.prompt in
+    let other_seen = seen_so laws placed other said_too run_too second both.prompt_too in
+    let tells = runs_tell sets laws program hosts one other placed tree said said_too (events_in run.seen)
+    (events_in run_too.seen) run.last run_too.last is_placed first.was.read second.was.read both.same_bad both.starts
+    one_seen other_seen both.events in
+    record {
+      placed = placed;
+      tree = tree;
+      is_placed = is_placed;
+      first = played sets program hosts one placed tree said run.last is_placed first.was.short first.was.read
+          (followed_runs code (first_world placed said.bad said.start) said.events run first.followed);
+      second = played sets program hosts other placed tree said_too run_too.last is_placed second.was.short
+          second.was.read
+          (followed_runs code (first_world placed said_too.bad said_too.start) said_too.events run_too second.followed);
+      same_bad = both.same_bad;
+      starts = both.starts;
+      seen = events_in run.seen;
+      seen_too = events_in run_too.seen;
+      first_seen = record { runs = one_seen.runs; prompt = one_seen.prompt };
+      second_seen = record { runs = other_seen.runs; prompt = other_seen.prompt };
+      alike = both.events;
+      reported = reported;
+      told_alike = tells;
+      never_differs = λ silent. alike_done placed run.last.sent run_too.last.sent (Print status text) status text
+          reported refl (tells silent);
+    }
 
 report_says : AllLaws → PrivateLaws → (program hosts one other : List ℕ) (placed : PlacedSource) (tree : Program)
-    (first : ScriptRun placed one) (second : ScriptRun placed other) (verdict : VerdictShape) →
-    IsPlacedAs program hosts placed tree → AreComparable placed one other first second →
-    Compared placed first.run.last.sent second.run.last.sent verdict →
+    (said said_too : ScriptShape) (run run_too : Followed) (verdict : VerdictShape) →
+    IsPlacedAs program hosts placed tree → IsFollowedSo placed one said run → IsFollowedSo placed other said_too run_too
+    → AreComparable placed said said_too run run_too → Compared placed run.last.sent run_too.last.sent verdict →
     Says (IsCompareText program hosts one other) verdict
 unfolding Says
-report_says sets laws program hosts one other placed tree first second _ is_placed both (agree alike) =
-    is_private sets laws program hosts one other _ _ (record {
-      placed = placed;
-      tree = tree;
-      is_placed = is_placed;
-      first = first;
-      second = second;
-      comparable = both;
-      reported = agree alike;
-    })
-report_says sets laws program hosts one other placed tree first second _ is_placed both (differ place apart) =
-    is_private sets laws program hosts one other _ _ (record {
-      placed = placed;
-      tree = tree;
-      is_placed = is_placed;
-      first = first;
-      second = second;
-      comparable = both;
-      reported = differ place apart;
-    })
+report_says sets laws program hosts one other placed tree said said_too run run_too _ is_placed first second both
+    (agree alike) =
+    is_private sets laws program hosts one other placed tree said said_too run run_too _ _ is_placed first second both
+    (agree alike)
+report_says sets laws program hosts one other placed tree said said_too run run_too _ is_placed first second both
+    (differ place apart) =
+    is_private sets laws program hosts one other placed tree said said_too run run_too _ _ is_placed first second both
+    (differ place apart)
 
 runs_say : AllLaws → PrivateLaws → (program hosts one other : List ℕ) (placed : PlacedSource) (tree : Program)
-    (file file_too : List ℕ) (first : ScriptRun placed one) (second : ScriptRun placed other) (verdict : VerdictShape) →
-    IsPlacedAs program hosts placed tree →
-    DueForRuns placed file first.said first.run file_too second.said second.run verdict →
+    (file file_too : List ℕ) (said said_too : ScriptShape) (run run_too : Followed) (verdict : VerdictShape) →
+    IsPlacedAs program hosts placed tree → IsFollowedSo placed one said run → IsFollowedSo placed other said_too run_too
+    → DueForRuns placed file said run file_too said_too run_too verdict →
     Says (IsCompareText program hosts one other) verdict
-runs_say sets laws program hosts one other placed tree file file_too first second verdict is_placed =
+runs_say sets laws program hosts one other placed tree file file_too said said_too run run_too verdict is_placed first
+    second =
     let Text = IsCompareText program hosts one other in
-    let said = first.said in
-    let said_too = second.said in
-    let run = first.run in
-    let run_too = second.run in
     let Sent : ⊤ → VerdictShape → Type 0 = λ _. Compared placed run.last.sent run_too.last.sent in
     let Later : ⊤ → VerdictShape → Type 0 = λ _. DueThen (IsPromptRun file_too run_too) Sent in
     let Prompt : ⊤ → VerdictShape → Type 0 = λ _. DueThen (IsPromptRun file run) Later in
@@ -281,28 +313,14 @@ runs_say sets laws program hosts one other placed tree file file_too first secon
     (λ stops. prompt_says Text file run (stopped verdict) stops) (λ d prompt.
     then_says Text (IsPromptRun file_too run_too) Sent verdict
     (λ stops. prompt_says Text file_too run_too (stopped verdict) stops) (λ e prompt_too.
-    report_says sets laws program hosts one other placed tree first second verdict is_placed (record {
+    report_says sets laws program hosts one other placed tree said said_too run run_too verdict is_placed first second
+    (record {
       same_bad = misbehave_says Text said said_too (given a) same_bad;
       starts = starts_say Text placed said said_too (given b) starts;
       events = events_say Text file run run_too (given c) events;
       prompt = prompt_says Text file run (given d) prompt;
       prompt_too = prompt_says Text file_too run_too (given e) prompt_too;
     }))))))
-
--- a script that was read and followed
-abbrev script_run : (Text : Status → List ℕ → Type 0) (file script : List ℕ) (placed : PlacedSource)
-    (said : ScriptShape)
-    (run : Followed) → IsRead script placed said →
-    EventsFollowed file (code_of placed) (first_world placed said.bad said.start) said.events (given run) →
-    ScriptRun placed script
-script_run Text file script placed said run was ran = record {
-  said = said;
-  run = run;
-  short = was.short;
-  read = was.read;
-  followed = followed_says Text file (code_of placed) (first_world placed said.bad said.start) said.events
-      (given run) ran;
-}
 
 said_says : AllLaws → PrivateLaws → (program hosts one other : List ℕ) (placed : PlacedSource) (tree : Program)
     (file : List ℕ) (said : ScriptShape) (file_too : List ℕ) (said_too : ScriptShape) (verdict : VerdictShape) →
@@ -321,10 +339,12 @@ said_says sets laws program hosts one other placed tree file said file_too said_
     (λ stops. followed_says Text file code world said.events (stopped verdict) stops) (λ run ran.
     then_says Text Second (Runs run) verdict
     (λ stops. followed_says Text file_too code world_too said_too.events (stopped verdict) stops) (λ run_too ran_too.
-    runs_say sets laws program hosts one other placed tree file file_too
-    (script_run Text file one placed said run was ran)
-    (script_run Text file_too other placed said_too run_too was_too ran_too)
-    verdict is_placed))
+    runs_say sets laws program hosts one other placed tree file file_too said said_too run run_too verdict is_placed
+    (record { was = was; followed = followed_says Text file code world said.events (given run) ran })
+    (record {
+      was = was_too;
+      followed = followed_says Text file_too code world_too said_too.events (given run_too) ran_too;
+    })))
 
 compare_says : AllLaws → PrivateLaws → (file file_too program hosts one other : List ℕ) (placed : PlacedSource)
     (verdict : VerdictShape) → PlacedSources program hosts (given placed) →
@@ -346,11 +366,9 @@ compare_says sets laws file file_too program hosts one other placed verdict acce
 
 -- ---- the command
 
-abbrev CompareKind : Kind
-CompareKind p h others status text = OnlyTwo (λ s t. IsPrivate p h s t status text) others
-
 compare_bytes : AllLaws → PrivateLaws → (program hosts one other : List ℕ) →
-    SaysOfBytes CompareKind (Compare program hosts one other)
+    SaysOfBytes (λ p h others status text. OnlyTwo (λ s t. IsPrivate p h s t status text) others)
+    (Compare program hosts one other)
 compare_bytes sets laws program hosts one other p h [] verdict ends = absurd ends
 compare_bytes sets laws program hosts one other p h (s ∷ []) verdict ends = absurd ends
 compare_bytes sets laws program hosts one other p h (s ∷ t ∷ []) verdict ends = ⊎_elim
@@ -358,11 +376,10 @@ compare_bytes sets laws program hosts one other p h (s ∷ t ∷ []) verdict end
     (λ no. placed_says (IsCompareText p h s t) p h verdict no) ends
 compare_bytes sets laws program hosts one other p h (s ∷ t ∷ x ∷ more) verdict ends = absurd ends
 
-pub compare_is_private : AllLaws → PrivateLaws → (words : List (List ℕ)) (files : FilesChange) (answer : Status)
-    (out err : SinkChange) (program hosts one other : List ℕ) → AnswersTo words files answer out err →
-    words ≡ words_of (Compare program hosts one other) → (answer ≡ Done) ⊎ (answer ≡ Differ) →
-    PutsPrivately program hosts one other answer files.held out.taken_before out.taken_after
-compare_is_private sets laws words files answer out err program hosts one other answers asked success =
-    answer_put CompareKind (Compare program hosts one other) program hosts (one ∷ other ∷ []) words files answer out err
-    tt refl (compare_bytes sets laws program hosts one other) answers asked
-    (⊎_elim (λ done. inl done) (λ differs. inr (inr differs)) success)
+pub compare_is_private : AllLaws → PrivateLaws → (program hosts one other : List ℕ)
+    (held : Option (List ℕ → Option (List ℕ))) (number : ℕ) (status : Status) (text : List ℕ) →
+    Due (words_of (Compare program hosts one other)) held number (Print status text) →
+    OfFourFiles (λ p h s t. IsPrivate p h s t status) program hosts one other held text
+compare_is_private sets laws program hosts one other held number status text due =
+    four_due IsPrivate (Compare program hosts one other) program hosts one other held tt refl
+    (compare_bytes sets laws program hosts one other) number status text due

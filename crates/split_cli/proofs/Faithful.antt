@@ -2,10 +2,9 @@
 use Rattle.std.proofs.Common.{◌≡◌, ◌≤◌, ◌+◌, ◌*◌, ◌∙◌, ℕ, suc, List, [], ◌∷◌, ◌++◌, map, length, Option, Some, Ok, refl}
 use Rattle.std.proofs.Common.{sym, ap}
 use Rattle.std.proofs.Common.{subst, length-append}
-use Rattle.std.proofs.Common.{⊎_elim, inl, inr, arith, take}
-use Rattle.std.specs.Prelude.{ℤ, ◌⊎◌, ◌≢◌, All, slice_index, replicate}
+use Rattle.std.proofs.Common.{⊎_elim, inl, inr, arith}
+use Rattle.std.specs.Prelude.{ℤ, ◌⊎◌, ◌≢◌, ⊤, All, codes, replicate}
 use Rattle.std.specs.List.{AllZip}
-use Rattle.std.proofs.lemmas.List.{take_all}
 use Rattle.std.proofs.lemmas.List.Elements.{All-map}
 use Rattle.js_base.specs.Sink.{Takes}
 use Rattle.js_base.specs.declared.ids.HostId.{HostId}
@@ -24,12 +23,12 @@ use Rattle.event_text.specs.OwnTokens.{IsOwnEvent}
 use Rattle.event_text.specs.Lines.{said_lines}
 use Rattle.event_text.specs.Misbehaving.{past_bad}
 use Rattle.event_text.specs.Script.{ScriptShape, script_of}
-use Rattle.event_text.specs.Start.{start_of}
-use Rattle.event_text.specs.Settings.{form_of, settings_in_front, starting_rows, after_settings}
+use Rattle.event_text.specs.Start.{start_of, program_form}
+use Rattle.event_text.specs.Settings.{FieldForm, form_of, settings_in_front, starting_rows, after_settings}
 use Rattle.host_code.specs.Code.{CodeShape}
 use Rattle.host_code.specs.Sound.{IsSoundCode}
 use Rattle.host_core.specs.Host.{HostShape}
-use Rattle.integrity.specs.Altering.{FollowsAltered}
+use Rattle.integrity.specs.Altering as altering
 use Rattle.integrity.specs.Exposed.{exposure_of}
 use Rattle.label_lattice.specs.declared.label.Label.{Label}
 use Rattle.need_labels.specs.Labelled as needs
@@ -47,11 +46,13 @@ use Rattle.token_laws.specs.Numbers.{CodeHasNumbers, RowsHaveNumbers, EventHasNu
 use Rattle.token_laws.specs.Reached.{IsReached}
 use Rattle.split_cli.specs.Commands.{CommandShape, Replay, Drive, IsCommand, words_of, files_of}
 use Rattle.front_end.specs.StepCounts.{IsStepCount}
+use Rattle.front_end.specs.Refusals as refusals
+use Rattle.front_end.specs.Refusals.{RefusalShape, refusal_status}
 use Rattle.front_end.specs.Verdicts.{VerdictShape, Refuse, Print}
 use Rattle.front_end.specs.Loads.{FilesChange, Told}
 use Rattle.front_end.specs.Stages.{Outcome, given, stopped}
 use Rattle.front_end.specs.PlacedSources.{PlacedSource, PlacedSources}
-use Rattle.split_cli.specs.Drive.{first_world, IsDriveReport, DueForDrive}
+use Rattle.split_cli.specs.Drive.{first_world, drive_text, IsDriveReport, DueForDrive}
 use Rattle.front_end.specs.PlacedCode.{code_of, program_of}
 use Rattle.split_cli.specs.Driven.{DrivesTo, rested, spent}
 use Rattle.net_world.specs.Replay.{events_in}
@@ -61,11 +62,11 @@ use Rattle.front_end.specs.Starting.{StartingValues}
 use Rattle.front_end.specs.Starting as starting
 use Rattle.split_cli.specs.Due.{DueForBytes, DueForCommand, Due, no_words, for_command, IsDue}
 use Rattle.split_cli.specs.Due as due
-use Rattle.front_end.specs.Answers.{SinkChange, Puts, IsAnswered}
+use Rattle.front_end.specs.Answers as answers
+use Rattle.front_end.specs.Answers.{SinkChange}
 use Rattle.split_cli.specs.Answers.{AnswersTo}
-use Rattle.split_cli.specs.Faithful.{IsPlacedAs, IsObeyingRun, IsFaithfulRun, IsReplayed, IsFaithful, IsDrivenTo}
-use Rattle.split_cli.specs.Faithful.{IsFaithfulDrive}
-use Rattle.split_cli.specs.Faithful.{PutsText, Only, PutsFaithfully, PutsDriven}
+use Rattle.split_cli.specs.Headline.{IsPlacedAs, Played, IsFaithful, IsFaithfulDrive}
+use Rattle.split_cli.specs.Headline.{OfThreeFiles, OfFourFiles, Puts}
 use Rattle.split_cli.proofs.OneDrive.{driven_run}
 use Rattle.split_cli.proofs.OneVerdict.{fault_verdict, one_command}
 use Rattle.split_cli.proofs.CodeNumbers.{code_has}
@@ -75,21 +76,23 @@ use Rattle.split_cli.proofs.ScriptStarts.{script_starts}
 use Rattle.split_cli.proofs.ScriptNumbers.{events_have, starts_have}
 use Rattle.split_cli.proofs.SetSources.{ReadingLaws, PlanLaws, GrantedLaw, set_there, has_numbers}
 
--- ---- hosts that all obey
+-- ---- the laws of one program in its places
 
--- the laws of one program in its places
-pub record Laws (tree : Program) (code : CodeShape) (file : HostsShape) (store : List (List ℤ)) (events : List Event)
-    (world : WorldShape) : Type 0 where
-  pub follows : Follows tree code file.hosts store events
-  pub idle : NoneRuns world → NothingFlies world → has_halted code.root world
-  pub ignored : (host : HostId) (state : HostShape) → state_at world host ≡ Some state → state.ignored ≡ 0
-
-abbrev pub ObeyingLaws : Type 0
-ObeyingLaws = (tree : Program) (placed : PlacedProgram) (store : List (List ℤ)) (events : List Event)
+-- hosts that all obey follow the plain run
+abbrev pub ObeyingLaw : Type 0
+ObeyingLaw = (tree : Program) (placed : PlacedProgram) (store : List (List ℤ)) (events : List Event)
     (world : WorldShape) →
     IsSet tree placed →
     IsRun (split_code placed) (world_at_start (split_code placed) placed.hosts.hosts 0 store)
-    events world → Laws tree (split_code placed) placed.hosts store events world
+    events world → Follows tree (split_code placed) placed.hosts.hosts store events world
+
+-- where nothing goes on they have halted
+abbrev pub IdleLaw : Type 0
+IdleLaw = (tree : Program) (placed : PlacedProgram) (store : List (List ℤ)) (events : List Event)
+    (world : WorldShape) →
+    IsSet tree placed →
+    IsRun (split_code placed) (world_at_start (split_code placed) placed.hosts.hosts 0 store)
+    events world → NoneRuns world → NothingFlies world → has_halted (split_code placed).root world
 
 -- no list of events is longer than the plain run allows
 abbrev pub EndingLaw : Type 0
@@ -114,9 +117,7 @@ AlteredLaw = (tree : Program) (placed : PlacedProgram) (bad : ℕ) (store : List
     (world : WorldShape) →
     IsSet tree placed → CodeHasNumbers (split_code placed) → RowsHaveNumbers store →
     IsReached (split_code placed) placed.hosts.hosts bad store events world → All EventHasNumbers events →
-    FollowsAltered tree (exposure_of placed bad)
-    (split_code placed) placed.hosts.hosts bad store
-    events
+    altering.FollowsAltered tree (exposure_of placed bad) (split_code placed) placed.hosts.hosts bad store events world
 
 -- what emitted code and scripts are
 pub record ScriptLaws : Type 0 where
@@ -130,35 +131,18 @@ pub record AllLaws : Type 0 where
   pub reading : ReadingLaws
   pub plans : PlanLaws
   pub granted : GrantedLaw
-  pub obeying : ObeyingLaws
+  pub obeying : ObeyingLaw
+  pub idle : IdleLaw
   pub next : NextLaw
   pub ending : EndingLaw
   pub altered : AlteredLaw
   pub scripts : ScriptLaws
 
--- all events are taken
-runs_all : (code : CodeShape) (first last : WorldShape) (events : List Event) → IsRun code first events last →
-    IsRun code first (take (length events) events) last
-runs_all code first last events ran =
-    subst (λ (es : List Event). IsRun code first es last) (sym (take_all (length events) events (omega arith))) ran
-
-obeying_run : AllLaws → (program hosts : List ℕ) (placed : PlacedSource) (tree : Program) (start : List (List ℤ))
-    (events : List Event) (last : WorldShape) → IsPlacedAs program hosts placed tree →
-    IsRun (code_of placed) (first_world placed 0 start) events last → IsObeyingRun placed tree start events last
-obeying_run laws program hosts placed tree start events last is_placed ran =
-    let law = laws.obeying tree (program_of placed) start events
-    last
-    (set_there laws.reading laws.plans laws.granted program hosts placed is_placed.accepted tree is_placed.tree_is)
-    ran in
-    let ended = runs_all (code_of placed) (first_world placed 0 start) last events ran in
-    record {
-      follows = law.follows;
-      steps = slice_index law.follows.steps (length events);
-      fields = law.follows.fields (length events) last (omega arith) ended;
-      at_end = law.follows.halted (length events) last (omega arith) ended;
-      idle = law.idle;
-      none_ignored = law.ignored;
-    }
+-- what the laws ask for
+pub set_of : AllLaws → (program hosts : List ℕ) (placed : PlacedSource) (tree : Program) →
+    IsPlacedAs program hosts placed tree → IsSet tree (program_of placed)
+set_of laws program hosts placed tree is_placed =
+    set_there laws.reading laws.plans laws.granted program hosts placed is_placed.accepted tree is_placed.tree_is
 
 -- ---- starting values
 
@@ -206,11 +190,8 @@ reached_there laws program hosts script placed tree said last is_placed read ran
     let code = code_of placed in
     let rows = placed.source.file.hosts in
     let first = first_world placed said.bad said.start in
-    let set = set_there laws.reading laws.plans laws.granted program hosts placed is_placed.accepted tree
-    is_placed.tree_is in
     record {
-      sound = laws.scripts.sound (program_of placed)
-          set.splittable;
+      sound = laws.scripts.sound (program_of placed) (set_of laws program hosts placed tree is_placed).splittable;
       hosts = refl;
       own = All-map (HasOwnToken first) (λ (one : ℕ × Event). one.1) said.events
           (own_in_first laws.scripts.own_at_start code rows said.bad said.start said first said.events refl refl refl
@@ -219,46 +200,36 @@ reached_there laws program hosts script placed tree said last is_placed read ran
       ran = ran;
     }
 
-faithful_run : AllLaws → (program hosts script : List ℕ) (placed : PlacedSource) (tree : Program)
-    (said : ScriptShape) (last : WorldShape) → IsPlacedAs program hosts placed tree →
+-- a script that was read, and whose events happened
+unfoldable pub played : AllLaws → (program hosts script : List ℕ) (placed : PlacedSource) (tree : Program) (said : ScriptShape)
+    (last : WorldShape) → IsPlacedAs program hosts placed tree → length script ≤ SCRIPT_BYTES →
     script_of (code_of placed) script ≡ Ok said →
     IsRun (code_of placed) (first_world placed said.bad said.start) (events_in said.events) last →
-    IsFaithfulRun placed tree said.bad said.start (events_in said.events) last
-faithful_run laws program hosts script placed tree said last is_placed read ran =
-    let file = placed.source.file in
+    Played placed tree script
+played laws program hosts script placed tree said last is_placed short read ran =
     let code = code_of placed in
     let events = events_in said.events in
-    let follows = laws.altered tree (program_of placed) said.bad said.start events last
-    (set_there laws.reading laws.plans laws.granted program hosts placed is_placed.accepted tree is_placed.tree_is)
-    (code_has (program_of placed)
-    (has_numbers laws.reading laws.plans laws.granted program hosts placed is_placed.accepted))
-    (said_numbers laws program hosts script placed said is_placed.accepted read)
-    (reached_there laws program hosts script placed tree said last is_placed read ran)
-    (events_have code script said read) in
+    let set = set_of laws program hosts placed tree is_placed in
+    let settings = settings_in_front (map form_of code.fields) (past_bad code.hosts (said_lines script)) in
     record {
-      follows = follows;
-      reported = follows.stands (length events) last (omega arith)
-          (runs_all code (first_world placed said.bad said.start) last events ran);
-      obeying = λ nobody. obeying_run laws program hosts placed tree said.start events last is_placed
+      said = said;
+      last = last;
+      short = short;
+      read = read;
+      starts = script_starts code script said read
+          ∙ ap (λ (rows : List (List ℤ)). after_settings rows settings)
+          (values_of_text placed tree is_placed.tree_is);
+      altered = laws.altered tree (program_of placed) said.bad said.start events last set
+          (code_has (program_of placed)
+          (has_numbers laws.reading laws.plans laws.granted program hosts placed is_placed.accepted))
+          (said_numbers laws program hosts script placed said is_placed.accepted read)
+          (reached_there laws program hosts script placed tree said last is_placed read ran)
+          (events_have code script said read);
+      plain = λ nobody. laws.obeying tree (program_of placed) said.start events last set
           (subst (λ bad. IsRun code (first_world placed bad said.start) events last) nobody ran);
     }
 
--- ---- what is reported
-
-is_faithful : AllLaws → (program hosts script text : List ℕ) (replayed : IsReplayed program hosts script text) →
-    IsFaithful program hosts script text
-is_faithful laws program hosts script text replayed =
-    let code = code_of replayed.placed in
-    let behind = past_bad code.hosts (said_lines script) in
-    let settings = settings_in_front (map form_of code.fields) behind in
-    record {
-      replayed = replayed;
-      starts = script_starts code script replayed.said replayed.read
-          ∙ ap (λ (rows : List (List ℤ)). after_settings rows settings)
-          (values_of_text replayed.placed replayed.tree replayed.is_placed.tree_is);
-      faithful = faithful_run laws program hosts script replayed.placed replayed.tree replayed.said replayed.last
-          replayed.is_placed replayed.read replayed.runs;
-    }
+-- ---- drives
 
 ends_rested : (code : CodeShape) (world : WorldShape) (most : ℕ) (events : List Event) (last : WorldShape)
     (status : Status) → DrivesTo code world most events last status → status ≡ Done → NoneRuns last × NothingFlies last
@@ -297,28 +268,39 @@ ends_in_time code world most events last _ (spent event all driven more) bound e
     absurd (too_many bound most events event
     (ends (events ++ event ∷ []) step.0 (runs_on code world last step.0 events event run step.1)) all enough)
 
-is_faithful_drive : AllLaws → (program hosts start : List ℕ) (most : ℕ) (status : Status) (text : List ℕ)
-    (driven : IsDrivenTo program hosts start most status text) →
-    IsFaithfulDrive program hosts start most status text
-is_faithful_drive laws program hosts start most status text driven =
-    let code = code_of driven.placed in
-    let first = first_world driven.placed 0 driven.values in
-    let run = obeying_run laws program hosts driven.placed driven.tree driven.values driven.events driven.last
-    driven.is_placed (ends_run code first most driven.events driven.last status driven.ends) in
+-- hosts that are driven from starting values that were read
+is_faithful_drive : AllLaws → (program hosts start : List ℕ) (most : ℕ) (placed : PlacedSource) (tree : Program)
+    (values : List (List ℤ)) (events : List Event) (last : WorldShape) (status : Status) →
+    IsPlacedAs program hosts placed tree → length start ≤ SCRIPT_BYTES →
+    start_of (map program_form tree.fields.items) start ≡ Ok values →
+    DrivesTo (code_of placed) (first_world placed 0 values) most events last status →
+    IsFaithfulDrive program hosts start most status (drive_text (code_of placed) (length events) last)
+is_faithful_drive laws program hosts start most placed tree values events last status is_placed short read ends =
+    let code = code_of placed in
+    let first = first_world placed 0 values in
+    let set = set_of laws program hosts placed tree is_placed in
+    let ran = ends_run code first most events last status ends in
     record {
-      driven = driven;
-      faithful = run;
+      placed = placed;
+      tree = tree;
+      is_placed = is_placed;
+      values = values;
+      events = events;
+      last = last;
+      short = short;
+      read = read;
+      runs = ran;
+      ends = ends;
+      plain = laws.obeying tree (program_of placed) values events last set ran;
       rested = λ done.
-          let rest = ends_rested code first most driven.events driven.last status driven.ends done in
-          run.idle rest.0 rest.1;
-      in_time = λ steps ends enough.
-          let placed = program_of driven.placed in
-          let set = set_there laws.reading laws.plans laws.granted program hosts driven.placed
-          driven.is_placed.accepted driven.tree driven.is_placed.tree_is in
-          ends_in_time code first most driven.events driven.last status driven.ends (EVENTS * (steps + 1))
-          (λ more after ran. laws.ending driven.tree placed driven.values steps more after set ends ran)
-          (λ event ran comes. laws.next driven.tree placed driven.values driven.events driven.last event set ran comes)
+          let rest = ends_rested code first most events last status ends done in
+          laws.idle tree (program_of placed) values events last set ran rest.0 rest.1;
+      in_time = λ steps halts enough.
+          ends_in_time code first most events last status ends (EVENTS * (steps + 1))
+          (λ more after ran. laws.ending tree (program_of placed) values steps more after set halts ran)
+          (λ event ran comes. laws.next tree (program_of placed) values events last event set ran comes)
           enough;
+      text_is = refl;
     }
 
 -- ---- what a verdict says
@@ -336,14 +318,8 @@ fails status not_done not_spent not_differ success =
 program_fails : ¬ IsSuccess SourceRefused
 program_fails = fails SourceRefused (λ same. cc) (λ same. cc) (λ same. cc)
 
-pub input_fails : ¬ IsSuccess InputRefused
+input_fails : ¬ IsSuccess InputRefused
 input_fails = fails InputRefused (λ same. cc) (λ same. cc) (λ same. cc)
-
-fault_fails : ¬ IsSuccess FileFault
-fault_fails = fails FileFault (λ same. cc) (λ same. cc) (λ same. cc)
-
-usage_fails : ¬ IsSuccess Usage
-usage_fails = fails Usage (λ same. cc) (λ same. cc) (λ same. cc)
 
 output_fails : ¬ IsSuccess OutFault
 output_fails = fails OutFault (λ same. cc) (λ same. cc) (λ same. cc)
@@ -351,22 +327,46 @@ output_fails = fails OutFault (λ same. cc) (λ same. cc) (λ same. cc)
 memory_fails : ¬ IsSuccess NoMemory
 memory_fails = fails NoMemory (λ same. cc) (λ same. cc) (λ same. cc)
 
--- a refusal is no success, and a report is such a text with its status
+refusal_fails : (refusal : RefusalShape) → ¬ IsSuccess (refusal_status refusal)
+refusal_fails (refusals.Usage forms) = fails Usage (λ same. cc) (λ same. cc) (λ same. cc)
+refusal_fails (refusals.FileFault file) = fails FileFault (λ same. cc) (λ same. cc) (λ same. cc)
+refusal_fails (refusals.Lex why) = program_fails
+refusal_fails (refusals.Parse why) = program_fails
+refusal_fails (refusals.Resolve why) = program_fails
+refusal_fails (refusals.Labels why line words) = program_fails
+refusal_fails (refusals.Places why words) = program_fails
+refusal_fails (refusals.NoSuchFile file) = input_fails
+refusal_fails (refusals.Hosts why) = input_fails
+refusal_fails (refusals.TooLong file) = input_fails
+refusal_fails (refusals.AtLine file line why) = input_fails
+refusal_fails refusals.BadDiffer = input_fails
+refusal_fails (refusals.StartsDiffer field) = input_fails
+refusal_fails (refusals.BadCode file why) = input_fails
+refusal_fails (refusals.NoHost name) = input_fails
+refusal_fails (refusals.OtherHosts code hosts) = input_fails
+
+-- a report is such a text with its status; nothing is said of a refusal
 unfoldable pub Says : (Status → List ℕ → Type 0) → VerdictShape → Type 0
-Says IsText (Refuse status line) = ¬ IsSuccess status
+Says IsText (Refuse refusal) = ⊤
 Says IsText (Print status text) = IsText status text
+
+pub refused_says : (IsText : Status → List ℕ → Type 0) (refusal : RefusalShape) (verdict : VerdictShape) →
+    verdict ≡ Refuse refusal → Says IsText verdict
+unfolding Says
+refused_says IsText refusal verdict is = subst (Says IsText) (sym is) tt
 
 -- where a program and its hosts are refused
 pub placed_says : (IsText : Status → List ℕ → Type 0) (program hosts : List ℕ) (verdict : VerdictShape) →
     PlacedSources program hosts (stopped verdict) → Says IsText verdict
 unfolding Says
 placed_says IsText program hosts verdict stops =
-    placed_stops (Says IsText) (λ line. program_fails) (λ line. input_fails) program hosts verdict stops
+    placed_stops (Says IsText) (λ refusal of. tt) program hosts verdict stops
 
 -- ---- a replay
 
+-- a replay ends well
 abbrev IsReplayText : List ℕ → List ℕ → List ℕ → Status → List ℕ → Type 0
-IsReplayText program hosts script status text = IsFaithful program hosts script text
+IsReplayText program hosts script status text = (status ≡ Done) × IsFaithful program hosts script text
 
 -- a script that was read
 pub record IsRead (script : List ℕ) (placed : PlacedSource) (said : ScriptShape) : Type 0 where
@@ -381,8 +381,8 @@ ScriptSays Text script placed (stopped verdict) = Says Text verdict
 pub script_says : (Text : Status → List ℕ → Type 0) (file script : List ℕ) (placed : PlacedSource)
     (end : Outcome ScriptShape) → ScriptRead file script (code_of placed) end → ScriptSays Text script placed end
 unfolding Says
-script_says Text file script placed _ (replay.long more) = input_fails
-script_says Text file script placed _ (replay.bad_line line short is) = input_fails
+script_says Text file script placed _ (replay.long more) = tt
+script_says Text file script placed _ (replay.bad_line line short is) = tt
 script_says Text file script placed _ (replay.read said short is) = record { short = short; read = is }
 
 -- its events leave a world, or what is due is no success
@@ -395,28 +395,27 @@ events_say : (Text : Status → List ℕ → Type 0) (file : List ℕ) (code : C
     EventsSay Text code world said end
 unfolding Says
 events_say Text file code world said _ (replay.happened last ran) = ran
-events_say Text file code world said _ (replay.refused at not_bad stops) = input_fails
-events_say Text file code world said _ (replay.refused at not_there stops) = input_fails
-events_say Text file code world said _ (replay.refused at host_busy stops) = input_fails
-events_say Text file code world said _ (replay.refused at (no_such_token count) stops) = input_fails
+events_say Text file code world said _ (replay.refused at not_bad stops) = tt
+events_say Text file code world said _ (replay.refused at not_there stops) = tt
+events_say Text file code world said _ (replay.refused at host_busy stops) = tt
+events_say Text file code world said _ (replay.refused at (no_such_token count) stops) = tt
 
 report_says : AllLaws → (program hosts script : List ℕ) (placed : PlacedSource) (tree : Program) (said : ScriptShape)
     (last : WorldShape) (verdict : VerdictShape) → IsPlacedAs program hosts placed tree → IsRead script placed said →
     IsRun (code_of placed) (first_world placed said.bad said.start) (events_in said.events) last →
     verdict ≡ Print Done (replay_text (code_of placed) last) → Says (IsReplayText program hosts script) verdict
-unfolding Says
+unfolding Says played
 report_says laws program hosts script placed tree said last verdict is_placed was ran is =
-    subst (Says (IsReplayText program hosts script)) (sym is) (is_faithful laws program hosts script _ (record {
-      placed = placed;
-      tree = tree;
-      is_placed = is_placed;
-      said = said;
-      last = last;
-      short = was.short;
-      read = was.read;
-      runs = ran;
-      text_is = refl;
-    }))
+    subst (Says (IsReplayText program hosts script)) (sym is) (
+      refl,
+      record {
+        placed = placed;
+        tree = tree;
+        is_placed = is_placed;
+        played = played laws program hosts script placed tree said last is_placed was.short was.read ran;
+        text_is = refl;
+      },
+    )
 
 replay_says : AllLaws → (file program hosts script : List ℕ) (placed : PlacedSource) (verdict : VerdictShape) →
     PlacedSources program hosts (given placed) → DueForReplay file script placed verdict →
@@ -443,54 +442,43 @@ abbrev IsDriveText : ℕ → List ℕ → List ℕ → List ℕ → Status → L
 IsDriveText most program hosts start status text = IsFaithfulDrive program hosts start most status text
 
 -- what is known of starting values that a file gives
-record AreRead (start : List ℕ) (fields : List Field) (values : List (List ℤ)) : Type 0 where
+record AreRead (start : List ℕ) (fields : List FieldForm) (values : List (List ℤ)) : Type 0 where
   short : length start ≤ SCRIPT_BYTES
   read : start_of fields start ≡ Ok values
 
 -- a file of starting values gives some, or what is due for it is no success
-abbrev StartSays : (Status → List ℕ → Type 0) → List ℕ → List Field → Outcome (List (List ℤ)) → Type 0
+abbrev StartSays : (Status → List ℕ → Type 0) → List ℕ → List FieldForm → Outcome (List (List ℤ)) → Type 0
 StartSays Text start fields (given values) = AreRead start fields values
 StartSays Text start fields (stopped verdict) = Says Text verdict
 
-start_says : (Text : Status → List ℕ → Type 0) (file start : List ℕ) (fields : List Field)
+start_says : (Text : Status → List ℕ → Type 0) (file start : List ℕ) (fields : List FieldForm)
     (end : Outcome (List (List ℤ))) → StartingValues file start fields end → StartSays Text start fields end
 unfolding Says
-start_says Text file start fields _ (starting.long more) = input_fails
-start_says Text file start fields _ (starting.bad_line line short is) = input_fails
+start_says Text file start fields _ (starting.long more) = tt
+start_says Text file start fields _ (starting.bad_line line short is) = tt
 start_says Text file start fields _ (starting.read values short is) = record { short = short; read = is }
 
-hosts_say : AllLaws → (file program hosts start : List ℕ) (most : ℕ) (placed : PlacedSource) (tree : Program)
+hosts_say : AllLaws → (program hosts start : List ℕ) (most : ℕ) (placed : PlacedSource) (tree : Program)
     (values : List (List ℤ)) (verdict : VerdictShape) → IsPlacedAs program hosts placed tree →
-    StartingValues file start tree.fields.items (given values) → IsDriveReport placed values most verdict →
+    AreRead start (map program_form tree.fields.items) values → IsDriveReport placed values most verdict →
     Says (IsDriveText most program hosts start) verdict
 unfolding Says
-hosts_say laws file program hosts start most placed tree values verdict is_placed gives report =
-    let read =
-    start_says (IsDriveText most program hosts start) file start tree.fields.items (given values) gives in
+hosts_say laws program hosts start most placed tree values verdict is_placed was report =
     subst (Says (IsDriveText most program hosts start)) (sym report.verdict_is)
-    (is_faithful_drive laws program hosts start most report.status _ (record {
-      placed = placed;
-      tree = tree;
-      is_placed = is_placed;
-      values = values;
-      events = report.events;
-      last = report.last;
-      short = read.short;
-      read = read.read;
-      ends = report.ends;
-      text_is = refl;
-    }))
+    (is_faithful_drive laws program hosts start most placed tree values report.events report.last report.status
+    is_placed was.short was.read report.ends)
 
 drive_says : AllLaws → (file program hosts start : List ℕ) (most : ℕ) (placed : PlacedSource)
     (verdict : VerdictShape) → PlacedSources program hosts (given placed) →
     DueForDrive file start most placed verdict → Says (IsDriveText most program hosts start) verdict
-unfolding Says
 drive_says laws file program hosts start most placed verdict accepted ends =
     let tree = ends.0 in
+    let fields = map program_form tree.fields.items in
+    let Text = IsDriveText most program hosts start in
     ⊎_elim
-    (λ read. hosts_say laws file program hosts start most placed tree read.0 verdict
-    (record { accepted = accepted; tree_is = ends.1 }) read.1 read.2)
-    (λ stops. start_says (IsDriveText most program hosts start) file start tree.fields.items (stopped verdict) stops)
+    (λ read. hosts_say laws program hosts start most placed tree read.0 verdict
+    (record { accepted = accepted; tree_is = ends.1 }) (start_says Text file start fields (given read.0) read.1) read.2)
+    (λ stops. start_says Text file start fields (stopped verdict) stops)
     ends.2
 
 -- ---- a command of a program, a host file and others
@@ -515,10 +503,10 @@ record IsPrinted (Text : Kind) (program hosts : List ℕ) (others : List (List �
   others_told : AllZip (λ file content. Told held file (Some content)) others others_bytes
   is : Text program_bytes hosts_bytes others_bytes status text
 
--- for the names: a refusal is no success, and a report is one of their files
+-- for the names: a report is one of their files
 SaysOfFiles : (Text : Kind) (program hosts : List ℕ) (others : List (List ℕ)) → Option (List ℕ → Option (List ℕ)) →
     VerdictShape → Type 0
-SaysOfFiles Text program hosts others held (Refuse status line) = ¬ IsSuccess status
+SaysOfFiles Text program hosts others held (Refuse refusal) = ⊤
 SaysOfFiles Text program hosts others held (Print status text) = IsPrinted Text program hosts others held status text
 
 printed_says : (Text : Kind) (program hosts : List ℕ) (others : List (List ℕ)) (held : Option (List ℕ →
@@ -528,7 +516,7 @@ printed_says : (Text : Kind) (program hosts : List ℕ) (others : List (List ℕ
     AllZip (λ file content. Told held file (Some content)) others t → Says (Text p h t) verdict →
     SaysOfFiles Text program hosts others held verdict
 unfolding Says SaysOfFiles
-printed_says Text program hosts others held p h t (Refuse status line) told_p told_h told_t says = says
+printed_says Text program hosts others held p h t (Refuse refusal) told_p told_h told_t says = tt
 printed_says Text program hosts others held p h t (Print status text) told_p told_h told_t says = record {
   program_bytes = p;
   hosts_bytes = h;
@@ -554,7 +542,7 @@ command_says : (Text : Kind) (command : CommandShape) (program hosts : List ℕ)
     SaysOfBytes Text command → (number : ℕ) (verdict : VerdictShape) → DueForCommand held command number verdict →
     SaysOfFiles Text program hosts others held verdict
 unfolding SaysOfFiles
-command_says Text command program hosts others held files says _ _ (due.absent place file first) = input_fails
+command_says Text command program hosts others held files says _ _ (due.absent place file first) = tt
 command_says Text command program hosts others held files says _ verdict (due.loaded _ ends) =
     files_say Text command program hosts others held says ends.bytes verdict
     (subst (λ (names : List (List ℕ)). AllZip (λ file content. Told held file (Some content)) names ends.bytes) files
@@ -567,81 +555,93 @@ words_say : (Text : Kind) (command : CommandShape) (program hosts : List ℕ) (o
     SaysOfBytes Text command → (number : ℕ) (verdict : VerdictShape) → words ≡ words_of command →
     Due words held number verdict → SaysOfFiles Text program hosts others held verdict
 unfolding SaysOfFiles
-words_say Text command program hosts others words held is files says _ _ asked (no_words none) = usage_fails
+words_say Text command program hosts others words held is files says _ _ asked (no_words none) = tt
 words_say Text command program hosts others words held is files says number verdict asked
     (for_command other _ _ is_too also ends) =
     command_says Text command program hosts others held files says number verdict
     (subst (λ (c : CommandShape). DueForCommand held c number verdict)
     (one_command other command is_too is (sym also ∙ asked)) ends)
 
-due_says : (Text : Kind) (command : CommandShape) (program hosts : List ℕ) (others : List (List ℕ))
-    (words : List (List ℕ))
-    (files : FilesChange) (verdict : VerdictShape) → IsCommand command →
-    files_of command ≡ program ∷ hosts ∷ others → SaysOfBytes Text command → words ≡ words_of command →
-    IsDue words files verdict → SaysOfFiles Text program hosts others files.held verdict
+-- ---- three files, or four
+
+abbrev pub Only : (List ℕ → Type 0) → List (List ℕ) → Type 0
+Only Holds (bytes ∷ []) = Holds bytes
+Only Holds files = ⊥
+
+abbrev pub OnlyTwo : (List ℕ → List ℕ → Type 0) → List (List ℕ) → Type 0
+OnlyTwo Hold (one ∷ other ∷ []) = Hold one other
+OnlyTwo Hold files = ⊥
+
+three_told : (Is : (program hosts third text : List ℕ) → Type 0) (program hosts third : List ℕ)
+    (held : Option (List ℕ → Option (List ℕ))) (text p h : List ℕ) (others : List (List ℕ)) →
+    Told held program (Some p) → Told held hosts (Some h) →
+    AllZip (λ file content. Told held file (Some content)) (third ∷ []) others → Only (λ t. Is p h t text) others →
+    OfThreeFiles Is program hosts third held text
+three_told Is program hosts third held text p h [] told_p told_h told is = absurd is
+three_told Is program hosts third held text p h (t ∷ []) told_p told_h told is = record {
+  program_bytes = p;
+  hosts_bytes = h;
+  third_bytes = t;
+  program_told = told_p;
+  hosts_told = told_h;
+  third_told = told.0;
+  is = is;
+}
+three_told Is program hosts third held text p h (t ∷ x ∷ more) told_p told_h told is = absurd is
+
+four_told : (Is : (program hosts one other text : List ℕ) → Type 0) (program hosts one other : List ℕ)
+    (held : Option (List ℕ → Option (List ℕ))) (text p h : List ℕ) (others : List (List ℕ)) →
+    Told held program (Some p) → Told held hosts (Some h) →
+    AllZip (λ file content. Told held file (Some content)) (one ∷ other ∷ []) others →
+    OnlyTwo (λ s t. Is p h s t text) others → OfFourFiles Is program hosts one other held text
+four_told Is program hosts one other held text p h [] told_p told_h told is = absurd is
+four_told Is program hosts one other held text p h (s ∷ []) told_p told_h told is = absurd is
+four_told Is program hosts one other held text p h (s ∷ t ∷ []) told_p told_h told is = record {
+  program_bytes = p;
+  hosts_bytes = h;
+  one_bytes = s;
+  other_bytes = t;
+  program_told = told_p;
+  hosts_told = told_h;
+  one_told = told.0;
+  other_told = told.1.0;
+  is = is;
+}
+four_told Is program hosts one other held text p h (s ∷ t ∷ x ∷ more) told_p told_h told is = absurd is
+
+-- the report of a command that is due for three files
+pub three_due : (Is : (program hosts third : List ℕ) → Status → List ℕ → Type 0) (command : CommandShape)
+    (program hosts third : List ℕ) (held : Option (List ℕ → Option (List ℕ))) → IsCommand command →
+    files_of command ≡ program ∷ hosts ∷ third ∷ [] →
+    SaysOfBytes (λ p h others status text. Only (λ t. Is p h t status text) others) command → (number : ℕ)
+    (status : Status) (text : List ℕ) → Due (words_of command) held number (Print status text) →
+    OfThreeFiles (λ p h t text. Is p h t status text) program hosts third held text
 unfolding SaysOfFiles
-due_says Text command program hosts others words files verdict is names says asked ends =
-    ⊎_elim
-    (λ whole. words_say Text command program hosts others words files.held is names says whole.0 verdict asked whole.1)
-    (λ fault. subst (SaysOfFiles Text program hosts others files.held)
-    (sym (fault_verdict fault.0 files verdict fault.3))
-    fault_fails)
-    ends
+three_due Is command program hosts third held is files says number status text due =
+    let printed = words_say (λ p h others status text. Only (λ t. Is p h t status text) others) command program hosts
+    (third ∷ []) (words_of command) held is files says number (Print status text) refl due in
+    three_told (λ p h t text. Is p h t status text) program hosts third held text printed.program_bytes
+    printed.hosts_bytes printed.others_bytes printed.program_told printed.hosts_told printed.others_told printed.is
 
--- ---- the answer
-
--- an answer that went well puts the text
-puts_text : (text : List ℕ) (status answer : Status) (sink : SinkChange) → IsSuccess answer →
-    Puts text status answer sink → (answer ≡ status) × Takes text sink.taken_before sink.taken_after
-puts_text text status answer sink success puts =
-    ⊎_elim (λ put. (put.0, put.1))
-    (λ fault. absurd (output_fails (subst IsSuccess fault.0 success)))
-    puts
-
-verdict_put : (Text : Kind) (program hosts : List ℕ) (others : List (List ℕ)) (held : Option (List ℕ → Option (List ℕ)))
-    (answer : Status) (out err : SinkChange) (verdict : VerdictShape) → IsSuccess answer →
-    SaysOfFiles Text program hosts others held verdict → IsAnswered verdict answer out err →
-    PutsText (λ p h t text. Text p h t answer text) program hosts others held out.taken_before out.taken_after
+-- and for four
+pub four_due : (Is : (program hosts one other : List ℕ) → Status → List ℕ → Type 0) (command : CommandShape)
+    (program hosts one other : List ℕ) (held : Option (List ℕ → Option (List ℕ))) → IsCommand command →
+    files_of command ≡ program ∷ hosts ∷ one ∷ other ∷ [] →
+    SaysOfBytes (λ p h others status text. OnlyTwo (λ s t. Is p h s t status text) others) command → (number : ℕ)
+    (status : Status) (text : List ℕ) → Due (words_of command) held number (Print status text) →
+    OfFourFiles (λ p h s t text. Is p h s t status text) program hosts one other held text
 unfolding SaysOfFiles
-verdict_put Text program hosts others held answer out err (Refuse status line) success says answered =
-    absurd (says (subst IsSuccess (puts_text line status answer err success answered.1).0 success))
-verdict_put Text program hosts others held answer out err (Print status text) success says answered =
-    let put = puts_text text status answer out success answered.1 in
-    record {
-      program_bytes = says.program_bytes;
-      hosts_bytes = says.hosts_bytes;
-      others_bytes = says.others_bytes;
-      program_told = says.program_told;
-      hosts_told = says.hosts_told;
-      others_told = says.others_told;
-      text = text;
-      is = subst (λ (s : Status). Text says.program_bytes says.hosts_bytes says.others_bytes s text)
-          (sym put.0) says.is;
-      put = put.1;
-    }
+four_due Is command program hosts one other held is files says number status text due =
+    let printed = words_say (λ p h others status text. OnlyTwo (λ s t. Is p h s t status text) others) command program
+    hosts (one ∷ other ∷ []) (words_of command) held is files says number (Print status text) refl due in
+    four_told (λ p h s t text. Is p h s t status text) program hosts one other held text printed.program_bytes
+    printed.hosts_bytes printed.others_bytes printed.program_told printed.hosts_told printed.others_told printed.is
 
-pub answer_put : (Text : Kind) (command : CommandShape) (program hosts : List ℕ) (others : List (List ℕ))
-    (words : List (List ℕ))
-    (files : FilesChange) (answer : Status) (out err : SinkChange) → IsCommand command →
-    files_of command ≡ program ∷ hosts ∷ others → SaysOfBytes Text command →
-    AnswersTo words files answer out err → words ≡ words_of command → IsSuccess answer →
-    PutsText (λ p h t text. Text p h t answer text) program hosts others files.held out.taken_before out.taken_after
-answer_put Text command program hosts others words files answer out err is names says answers asked success =
-    ⊎_elim
-    (λ memory. absurd (memory_fails (subst IsSuccess memory.0 success)))
-    (λ whole. verdict_put Text program hosts others files.held answer out err whole.0 success
-    (due_says Text command program hosts others words files whole.0 is names says asked whole.1) whole.2)
-    answers
+-- ---- replays and drives
 
--- ---- the headline, from the answer
-
-abbrev ReplayKind : Kind
-ReplayKind p h others status text = Only (λ e. IsFaithful p h e text) others
-
-abbrev DriveKind : ℕ → Kind
-DriveKind most p h others status text = Only (λ s. IsFaithfulDrive p h s most status text) others
-
-replay_bytes : AllLaws → (program hosts events : List ℕ) → SaysOfBytes ReplayKind (Replay program hosts events)
+replay_bytes : AllLaws → (program hosts events : List ℕ) →
+    SaysOfBytes (λ p h others status text. Only (λ e. IsReplayText p h e status text) others)
+    (Replay program hosts events)
 replay_bytes laws program hosts events p h [] verdict ends = absurd ends
 replay_bytes laws program hosts events p h (e ∷ []) verdict ends = ⊎_elim
     (λ both. replay_says laws events p h e both.0 verdict both.1 both.2)
@@ -649,26 +649,88 @@ replay_bytes laws program hosts events p h (e ∷ []) verdict ends = ⊎_elim
 replay_bytes laws program hosts events p h (e ∷ x ∷ more) verdict ends = absurd ends
 
 drive_bytes : AllLaws → (program hosts start : List ℕ) (most : ℕ) →
-    SaysOfBytes (DriveKind most) (Drive program hosts start most)
+    SaysOfBytes (λ p h others status text. Only (λ s. IsDriveText most p h s status text) others)
+    (Drive program hosts start most)
 drive_bytes laws program hosts start most p h [] verdict ends = absurd ends
 drive_bytes laws program hosts start most p h (s ∷ []) verdict ends = ⊎_elim
     (λ both. drive_says laws start p h s most both.0 verdict both.1 both.2)
     (λ no. placed_says (IsDriveText most p h s) p h verdict no) ends
 drive_bytes laws program hosts start most p h (s ∷ x ∷ more) verdict ends = absurd ends
 
-pub replay_is_faithful : AllLaws → (words : List (List ℕ)) (files : FilesChange) (answer : Status)
-    (out err : SinkChange) (program hosts events : List ℕ) → AnswersTo words files answer out err →
-    words ≡ words_of (Replay program hosts events) → answer ≡ Done →
-    PutsFaithfully program hosts events files.held out.taken_before out.taken_after
-replay_is_faithful laws words files answer out err program hosts events answers asked done =
-    answer_put ReplayKind (Replay program hosts events) program hosts (events ∷ []) words files answer out err tt refl
-    (replay_bytes laws program hosts events) answers asked (inl done)
+-- what is due for a replay ends well
+well_replayed : (program hosts events : List ℕ) (held : Option (List ℕ → Option (List ℕ))) (status : Status)
+    (text : List ℕ) →
+    OfThreeFiles (λ p h e text. IsReplayText p h e status text) program hosts events held text →
+    (status ≡ Done) × OfThreeFiles IsFaithful program hosts events held text
+well_replayed program hosts events held status text it = (
+  it.is.0,
+  record {
+    program_bytes = it.program_bytes;
+    hosts_bytes = it.hosts_bytes;
+    third_bytes = it.third_bytes;
+    program_told = it.program_told;
+    hosts_told = it.hosts_told;
+    third_told = it.third_told;
+    is = it.is.1;
+  },
+)
 
-pub drive_is_faithful : AllLaws → (words : List (List ℕ)) (files : FilesChange) (answer : Status)
-    (out err : SinkChange) (program hosts start : List ℕ) (most : ℕ) → AnswersTo words files answer out err →
-    IsStepCount most → words ≡ words_of (Drive program hosts start most) → (answer ≡ Done) ⊎ (answer ≡ Spent) →
-    PutsDriven program hosts start most answer files.held out.taken_before out.taken_after
-drive_is_faithful laws words files answer out err program hosts start most answers few asked success =
-    answer_put (DriveKind most) (Drive program hosts start most) program hosts (start ∷ []) words files answer out err
-    few refl (drive_bytes laws program hosts start most) answers asked
-    (⊎_elim (λ done. inl done) (λ spent. inr (inl spent)) success)
+pub replay_is_faithful : AllLaws → (program hosts events : List ℕ) (held : Option (List ℕ → Option (List ℕ)))
+    (number : ℕ) (status : Status) (text : List ℕ) →
+    Due (words_of (Replay program hosts events)) held number (Print status text) →
+    (status ≡ Done) × OfThreeFiles IsFaithful program hosts events held text
+replay_is_faithful laws program hosts events held number status text due =
+    well_replayed program hosts events held status text
+    (three_due IsReplayText (Replay program hosts events) program hosts events held tt refl
+    (replay_bytes laws program hosts events) number status text due)
+
+pub drive_is_faithful : AllLaws → (program hosts start : List ℕ) (most : ℕ)
+    (held : Option (List ℕ → Option (List ℕ))) (number : ℕ) (status : Status) (text : List ℕ) → IsStepCount most →
+    Due (words_of (Drive program hosts start most)) held number (Print status text) →
+    OfThreeFiles (λ p h s. IsFaithfulDrive p h s most status) program hosts start held text
+drive_is_faithful laws program hosts start most held number status text few due =
+    three_due (IsDriveText most) (Drive program hosts start most) program hosts start held few refl
+    (drive_bytes laws program hosts start most) number status text due
+
+-- ---- the answer
+
+-- an answer that went well puts the text
+puts_text : (text : List ℕ) (status answer : Status) (sink : SinkChange) → IsSuccess answer →
+    answers.Puts text status answer sink → (answer ≡ status) × Takes text sink.taken_before sink.taken_after
+puts_text text status answer sink success puts =
+    ⊎_elim (λ put. (put.0, put.1))
+    (λ fault. absurd (output_fails (subst IsSuccess fault.0 success)))
+    puts
+
+verdict_put : (P : Status → List ℕ → Type 0) (answer : Status) (out err : SinkChange) (verdict : VerdictShape) →
+    IsSuccess answer → Says P verdict → answers.IsAnswered (codes "jifsplit") verdict answer out err →
+    Puts (P answer) out.taken_before out.taken_after
+unfolding Says
+verdict_put P answer out err (Refuse refusal) success says answered =
+    absurd (refusal_fails refusal
+    (subst IsSuccess (puts_text _ (refusal_status refusal) answer err success answered.1).0 success))
+verdict_put P answer out err (Print status text) success says answered =
+    let put = puts_text text status answer out success answered.1 in
+    (text, subst (λ (s : Status). P s text) (sym put.0) says, put.1)
+
+of_due : (P : Status → List ℕ → Type 0) (words : List (List ℕ)) (held : Option (List ℕ → Option (List ℕ))) →
+    ((number : ℕ) (status : Status) (text : List ℕ) → Due words held number (Print status text) → P status text) →
+    (number : ℕ) (verdict : VerdictShape) → Due words held number verdict → Says P verdict
+unfolding Says
+of_due P words held law number (Refuse refusal) due = tt
+of_due P words held law number (Print status text) due = law number status text due
+
+-- what holds of each report that is due holds of what was put, where the answer is that of a report
+pub put_due : (P : Status → List ℕ → Type 0) (words : List (List ℕ)) (files : FilesChange) (answer : Status)
+    (out err : SinkChange) →
+    ((number : ℕ) (status : Status) (text : List ℕ) → Due words files.held number (Print status text) →
+    P status text) → AnswersTo words files answer out err → IsSuccess answer →
+    Puts (P answer) out.taken_before out.taken_after
+put_due P words files answer out err law answers success =
+    ⊎_elim
+    (λ memory. absurd (memory_fails (subst IsSuccess memory.0 success)))
+    (λ whole. verdict_put P answer out err whole.0 success
+    (⊎_elim (λ by_files. of_due P words files.held law by_files.0 whole.0 by_files.1)
+    (λ fault. refused_says P (refusals.FileFault files.failed) whole.0 (fault_verdict fault.0 files whole.0 fault.3))
+    whole.1) whole.2)
+    answers

@@ -28,6 +28,7 @@ pub mod PromptRuns
 pub mod ReleaseParts
 pub mod ReplayDue
 pub mod ReportLines
+pub mod RestingDrives
 pub mod RunDue
 pub mod RunReport
 pub mod SameMessages

@@ -5,7 +5,7 @@ use Rattle.std.proofs.lemmas.List.Elements.{All-nil, All-cons, All-head, All-tai
 use Rattle.event_text.specs.declared.event.Event.{Event}
 use Rattle.host_code.specs.Code.{CodeShape}
 use Rattle.net_world.specs.Secret.{IsSecret, IsQuiet, IsSeenRun, IsPrompt}
-use Rattle.net_world.specs.World.{WorldShape}
+use Rattle.net_world.specs.World.{WorldShape, IsRun}
 use Rattle.split_cli.specs.Followed.{Followed, IsKept, hidden, prompt, untimely, IsFollowed}
 use Rattle.net_world.specs.Replay.{events_in}
 use Rattle.split_cli.proofs.OneDrive.{OneStep}
@@ -34,24 +34,33 @@ followed_seen code world [] run is =
 followed_seen code world (one ∷ said) run (next, rest, step, follows, kept) =
     (next, step, seen_from code world next one said rest run kept (followed_seen code next said rest follows))
 
--- what holds of all events holds of those that are seen
-seen_kept : (P : Event → Type 0) (code : CodeShape) (world : WorldShape) (one : ℕ × Event) (rest run : Followed) →
-    IsKept code world one rest run → P one.1 → All P (events_in rest.seen) → All P (events_in run.seen)
-seen_kept P code world one rest _ (hidden is) here others = others
-seen_kept P code world one rest _ (prompt not quiet) here others =
-    All-cons P one.1 (events_in rest.seen) here others
-seen_kept P code world one rest _ (untimely not loud) here others =
-    All-cons P one.1 (events_in rest.seen) here others
+kept_last : (code : CodeShape) (world : WorldShape) (one : ℕ × Event) (rest run : Followed) →
+    IsKept code world one rest run → rest.last ≡ run.last
+kept_last code world one rest _ (hidden is) = refl
+kept_last code world one rest _ (prompt not quiet) = refl
+kept_last code world one rest _ (untimely not loud) = refl
 
-pub all_seen : (P : Event → Type 0) (code : CodeShape) (world : WorldShape) (said : List (ℕ × Event))
-    (run : Followed) → IsFollowed code world said run → All (λ (one : ℕ × Event). P one.1) said →
-    All P (events_in run.seen)
-all_seen P code world [] run is all =
-    subst (λ (r : Followed). All P (events_in r.seen)) (sym is) (All-nil P)
-all_seen P code world (one ∷ said) run (next, rest, step, follows, kept) all =
-    let Q : ℕ × Event → Type 0 = λ it. P it.1 in
-    seen_kept P code world one rest run kept (All-head Q one said all)
-    (all_seen P code next said rest follows (All-tail Q one said all))
+-- all events happen
+pub followed_runs : (code : CodeShape) (world : WorldShape) (said : List (ℕ × Event)) (run : Followed) →
+    IsFollowed code world said run → IsRun code world (events_in said) run.last
+followed_runs code world [] run is = ap (λ (r : Followed). r.last) (sym is)
+followed_runs code world (one ∷ said) run (next, rest, step, follows, kept) = (
+  next,
+  step,
+  subst (λ (w : WorldShape). IsRun code next (events_in said) w) (kept_last code world one rest run kept)
+      (followed_runs code next said rest follows),
+)
+
+-- what holds of all events holds of those that are seen
+pub all_seen : (P : Event → Type 0) (code : CodeShape) (events seen : List Event) (world last : WorldShape) →
+    IsSeenRun code world events seen last → All P events → All P seen
+all_seen P code [] seen world last ran all = subst (All P) (sym ran.0) (All-nil P)
+all_seen P code (event ∷ events) seen world last (next, step, inl hides) all =
+    all_seen P code events seen next last hides.1 (All-tail P event events all)
+all_seen P code (event ∷ events) seen world last (next, step, inr shows) all =
+    subst (All P) (sym shows.1.1)
+    (All-cons P event shows.1.0 (All-head P event events all)
+    (all_seen P code events shows.1.0 next last shows.1.2 (All-tail P event events all)))
 
 -- ---- whether it was quiet
 

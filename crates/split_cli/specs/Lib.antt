@@ -4,11 +4,10 @@ pub mod Check
 pub mod CodeLines
 pub mod Commands
 pub mod Compare
-pub mod Compared
 pub mod Drive
 pub mod Driven
 pub mod Due
-pub mod Faithful
+pub mod Headline
 pub mod Followed
 pub mod FollowedRuns
 pub mod MadePrograms

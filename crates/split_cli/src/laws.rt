@@ -1,17 +1,28 @@
 //! The laws of what is due.
 
-ghost use Rattle.std.specs.Prelude.{◌≡◌, ◌<◌, ◌↔◌, ℕ, List, [], ◌∷◌, ◌++◌, Option, Some, None, codes};
+ghost use Rattle.std.specs.Prelude.{◌≡◌, ◌<◌, ◌≤◌, ◌+◌, ◌*◌, ◌↔◌, ℕ, ℤ, List, [], ◌∷◌, ◌++◌, Option, Some, None, codes};
+ghost use Rattle.std.specs.Prelude.{Ok, length, map};
 ghost use Rattle.js_base.specs.Counts.{last_count};
+ghost use Rattle.js_base.specs.declared.limits.TheConstants.{SCRIPT_BYTES};
+ghost use Rattle.js_base.specs.declared.status.Status.{Status};
 ghost use Rattle.event_text.specs.declared.event.Event.{Event};
+ghost use Rattle.event_text.specs.Start.{program_form, start_of};
 ghost use Rattle.host_code.specs.Code.{CodeShape};
 ghost use Rattle.net_world.specs.World.{WorldShape, IsRun};
+ghost use Rattle.jif_tree.specs.declared.program.Program.{Program};
+ghost use Rattle.jif_tree.specs.SourceRun.{HasLength};
 ghost use Rattle.jif_tree.specs.Trees.{ProgramTree};
 ghost use Rattle.simulation.specs.Driven.{IsDriven};
+ghost use Rattle.simulation.specs.Ending.{EVENTS};
 ghost use Rattle.split_shades.specs.Sites.{ReleasesNothing};
-ghost use Rattle.front_end.specs.Verdicts.{VerdictShape, usage, no_such_file};
+ghost use Rattle.front_end.specs.PlacedSources.{PlacedSource};
+ghost use Rattle.front_end.specs.StepCounts.{IsStepCount};
+ghost use Rattle.front_end.specs.Verdicts.{Print, VerdictShape, usage, no_such_file};
 ghost use Rattle.front_end.specs.Loads.{FilesChange};
-ghost use Rattle.split_cli.specs.Commands.{forms};
+ghost use Rattle.split_cli.specs.Commands.{Compare, Drive, Replay, forms, words_of};
 ghost use Rattle.split_cli.specs.Due.{Due, IsDue};
+ghost use Rattle.split_cli.specs.Headline.{IsFaithful, IsFaithfulDrive, IsPlacedAs, IsPrivate};
+ghost use Rattle.split_cli.specs.Headline.{OfFourFiles, OfThreeFiles};
 ghost use Rattle.split_cli.specs.MadePrograms.{made_head, made_program};
 ghost use Rattle.split_cli.specs.Releases.{program_releases};
 ghost use Rattle.front_end.specs.Text.{lines_text};
@@ -19,13 +30,16 @@ ghost use Rattle.front_end.specs.Text.{lines_text};
 use event_text::script_laws;
 use front_end::source_laws;
 use host_decl::host_file_laws;
+use integrity::integrity_laws;
 use jif_lex::token_laws;
-use jif_parse::named_laws;
-use jif_resolve::{limit_laws, program_laws};
+use jif_parse::{named_laws, number_laws};
+use jif_resolve::{labelling_laws, limit_laws, program_laws, result_laws};
+use need_labels::need_laws;
 use net_world::laws::{fits_laws, secret_laws, step_laws};
 use placement::placement_laws;
+use simulation::{ending_laws, obeying_laws};
 use source_run::run_laws;
-use split_rules::split_laws;
+use split_rules::{asking_laws, split_laws};
 
 /// Laws of what is due, for who reasons about answers. The call does nothing.
 pub fn due_laws()
@@ -75,4 +89,53 @@ pub fn due_laws()
     fits_laws();
     secret_laws();
     step_laws();
+}
+
+/// The headline, for each report that is due: whoever misbehaves and whatever they send, the hosts and one run of the
+/// program go on together. The call does nothing.
+pub fn headline_laws()
+    // A replay has no report but one that is faithful, and it ends well.
+    ensures replayed { (program hosts events : List ℕ) (held : Option (List ℕ → Option (List ℕ))) (number : ℕ)
+        (status : Status) (text : List ℕ) →
+        Due (words_of (Replay program hosts events)) held number (Print status text) →
+        (status ≡ Status.Done) × OfThreeFiles IsFaithful program hosts events held text }
+    // So it is of a drive.
+    ensures driven { (program hosts start : List ℕ) (events : ℕ) (held : Option (List ℕ → Option (List ℕ)))
+        (number : ℕ) (status : Status) (text : List ℕ) → IsStepCount events →
+        Due (words_of (Drive program hosts start events)) held number (Print status text) →
+        OfThreeFiles (λ p h s. IsFaithfulDrive p h s events status) program hosts start held text }
+    // So it is of each script of two that are compared, and what they tell is no secret.
+    ensures compared { (program hosts one other : List ℕ) (held : Option (List ℕ → Option (List ℕ))) (number : ℕ)
+        (status : Status) (text : List ℕ) →
+        Due (words_of (Compare program hosts one other)) held number (Print status text) →
+        OfFourFiles (λ p h s t. IsPrivate p h s t status) program hosts one other held text }
+    // Where the plain run ends after so many steps, a drive of 4096 events for each of them, and for one more, has the
+    // report of hosts that came to rest.
+    ensures comes_to_rest { (program hosts start p h s : List ℕ) (events steps : ℕ)
+        (holds : List ℕ → Option (List ℕ)) (placed : PlacedSource) (tree : Program) (values : List (List ℤ)) →
+        IsStepCount events → holds program ≡ Some p → holds hosts ≡ Some h → holds start ≡ Some s →
+        IsPlacedAs p h placed tree → length s ≤ SCRIPT_BYTES →
+        start_of (map program_form tree.fields.items) s ≡ Ok values → HasLength tree values steps →
+        EVENTS * (steps + 1) ≤ events →
+        (text : List ℕ) × Due (words_of (Drive program hosts start events)) (Some holds) 3 (Print Status.Done text) }
+{
+    host_file_laws();
+    token_laws();
+    named_laws();
+    number_laws();
+    limit_laws();
+    program_laws();
+    labelling_laws();
+    result_laws();
+    need_laws();
+    placement_laws();
+    split_laws();
+    asking_laws();
+    script_laws();
+    fits_laws();
+    step_laws();
+    agreement::run_laws();
+    obeying_laws();
+    ending_laws();
+    integrity_laws();
 }

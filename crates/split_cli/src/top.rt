@@ -1,15 +1,21 @@
 //! The top call, from words and files to a status and what is put out.
 
-ghost use Rattle.std.specs.Prelude.{◌≡◌, ◌<◌, ◌≤◌, ◌+◌, ◌⊎◌, ℕ, List, length, map, string_bytes, IfOk};
-ghost use Rattle.std.specs.Prelude.{Option, Some};
+ghost use Rattle.std.specs.Prelude.{◌≡◌, ◌<◌, ◌≤◌, ◌+◌, ◌*◌, ◌⊎◌, ℕ, ℤ, List, length, map, string_bytes, IfOk};
+ghost use Rattle.std.specs.Prelude.{Ok, Option, Some};
 ghost use Rattle.js_base.specs.Counts.{last_count};
+ghost use Rattle.js_base.specs.declared.limits.TheConstants.{SCRIPT_BYTES};
 ghost use Rattle.js_base.specs.declared.status.Status.{Status};
+ghost use Rattle.jif_tree.specs.declared.program.Program.{Program};
+ghost use Rattle.jif_tree.specs.SourceRun.{HasLength};
+ghost use Rattle.event_text.specs.Start.{program_form, start_of};
+ghost use Rattle.simulation.specs.Ending.{EVENTS};
+ghost use Rattle.front_end.specs.PlacedSources.{PlacedSource};
 ghost use Rattle.split_cli.specs.Answers.{AnswersTo};
 ghost use Rattle.split_cli.specs.Commands as command;
 ghost use Rattle.split_cli.specs.Asked.{command_shape};
-ghost use Rattle.split_cli.specs.Compared.{PutsPrivately};
 ghost use Rattle.split_cli.specs.Due.{Due, IsDue, IsDueForCommand, MaySave, OfCommand};
-ghost use Rattle.split_cli.specs.Faithful.{PutsDriven, PutsFaithfully};
+ghost use Rattle.split_cli.specs.Headline.{IsFaithful, IsFaithfulDrive, IsPlacedAs, IsPrivate};
+ghost use Rattle.split_cli.specs.Headline.{OfFourFiles, OfThreeFiles, Puts};
 ghost use Rattle.front_end.specs.Answers.{sink_change};
 ghost use Rattle.front_end.specs.Loading.{EndsIn};
 ghost use Rattle.front_end.specs.Loads.{files_change};
@@ -23,22 +29,10 @@ use crate::commands::make::due_for_make;
 use crate::commands::replay::due_for_replay;
 use crate::commands::run::due_for_run;
 use crate::commands::split::due_for_split;
-use crate::laws::due_laws;
+use crate::laws::{due_laws, headline_laws};
 use crate::words::{Command, command_of};
-use agreement::run_laws;
-use event_text::script_laws;
 use front_end::{Stop, Verdict, answer};
-use host_decl::host_file_laws;
-use integrity::integrity_laws;
-use jif_lex::token_laws;
-use jif_parse::{named_laws, number_laws};
-use jif_resolve::{labelling_laws, limit_laws, program_laws, result_laws};
 use js_base::{Files, OutOfMemory, Sink, Status};
-use need_labels::need_laws;
-use net_world::laws::{fits_laws, step_laws};
-use placement::placement_laws;
-use simulation::{ending_laws, obeying_laws};
-use split_rules::{asking_laws, split_laws};
 use std::alloc::Global;
 
 /// The program's name, which stands in front of its lines on the error output.
@@ -82,25 +76,39 @@ pub fn jifsplit<F: Files, S: Sink, E: Sink>(
         result
         (sink_change S.Sink out.old out.new)
         (sink_change E.Sink err.old err.new) }
-    // Where a replay went well, what was put is the report of hosts whose fields follow the program, whichever hosts
-    // the script says misbehave and whatever it has them do: at every moment each field on an obeying host that they
-    // may not affect has its value in one run of the program, altered only in what they may affect, and it has its
-    // value at the end of that run once an obeying root has halted. Where nobody misbehaves this is the plain run.
+    // Whoever misbehaves and whatever they send: every field they may not affect, on every obeying host, at every
+    // moment, has a value of one run of the program in which only what they may affect was changed or left out. So a
+    // replay that went well has put the report of such hosts.
     ensures headline { (program hosts events : List ℕ) →
         map string_bytes words.now ≡ command.words_of (command.Replay program hosts events) → result ≡ Status.Done →
-        PutsFaithfully program hosts events (F.held files.old) (S.taken out.old) (S.taken out.new) }
-    // So it is where hosts were driven, to their rest or by all their events. At rest the program has halted, and 4096
-    // events for each step of the plain run, and for one more, are enough to come to rest.
+        Puts (OfThreeFiles IsFaithful program hosts events (F.held files.old)) (S.taken out.old) (S.taken out.new) }
+    // Where nobody misbehaves that run is the plain one, in a drive to the hosts' rest or by all its events. At rest the
+    // program has halted, and 4096 events for each step of the plain run, and for one more, are enough to come to rest.
     ensures driven { (program hosts start : List ℕ) (events : ℕ) → IsStepCount events →
         map string_bytes words.now ≡ command.words_of (command.Drive program hosts start events) →
         (result ≡ Status.Done) ⊎ (result ≡ Status.Spent) →
-        PutsDriven program hosts start events result (F.held files.old) (S.taken out.old) (S.taken out.new) }
-    // Where two scripts were compared, what was put tells whether misbehaving hosts were sent the same in both runs.
-    // Without `declassify` they were, as far as both runs go, and it never says that they differ.
+        Puts (OfThreeFiles (λ p h s. IsFaithfulDrive p h s events result) program hosts start (F.held files.old))
+        (S.taken out.old) (S.taken out.new) }
+    // Where two scripts were compared, each was played so, and what was put tells whether misbehaving hosts were sent
+    // the same in both runs. Without `declassify` they were, as far as both runs go, and it never says that they differ.
     ensures compared { (program hosts one other : List ℕ) →
         map string_bytes words.now ≡ command.words_of (command.Compare program hosts one other) →
         (result ≡ Status.Done) ⊎ (result ≡ Status.Differ) →
-        PutsPrivately program hosts one other result (F.held files.old) (S.taken out.old) (S.taken out.new) }
+        Puts (OfFourFiles (λ p h s t. IsPrivate p h s t result) program hosts one other (F.held files.old))
+        (S.taken out.old) (S.taken out.new) }
+    // Where the plain run ends after so many steps, and so many events were asked for, a drive comes to rest, or memory
+    // ran out, where neither the files nor the output count a fault.
+    ensures comes_to_rest { (program hosts start p h s : List ℕ) (events steps : ℕ)
+        (holds : List ℕ → Option (List ℕ)) (placed : PlacedSource) (tree : Program) (values : List (List ℤ)) →
+        IsStepCount events →
+        map string_bytes words.now ≡ command.words_of (command.Drive program hosts start events) →
+        F.held files.old ≡ Some holds → holds program ≡ Some p → holds hosts ≡ Some h → holds start ≡ Some s →
+        IsPlacedAs p h placed tree → length s ≤ SCRIPT_BYTES →
+        start_of (map program_form tree.fields.items) s ≡ Ok values → HasLength tree values steps →
+        EVENTS * (steps + 1) ≤ events →
+        F.faults files.new ≡ F.faults files.old → F.faults files.old < last_count →
+        S.faults out.new ≡ S.faults out.old → S.faults out.old < last_count →
+        (result ≡ Status.Done) ⊎ (result ≡ Status.NoMemory) }
     // Where a report is due for what the files hold, and neither they nor the output count a fault, the answer is the
     // status of the report, or memory ran out.
     ensures complete { (holds : List ℕ → Option (List ℕ)) (number : ℕ) (status : Status) (text : List ℕ) →
@@ -117,26 +125,8 @@ pub fn jifsplit<F: Files, S: Sink, E: Sink>(
     ensures saves { OfCommand (λ asked. MaySave asked (files_change F.Files files.old files.new))
         (map string_bytes words.now) (files_change F.Files files.old files.new) }
 {
-    host_file_laws();
-    token_laws();
-    named_laws();
-    number_laws();
-    limit_laws();
-    program_laws();
-    labelling_laws();
-    result_laws();
-    need_laws();
-    placement_laws();
-    split_laws();
-    asking_laws();
-    script_laws();
-    fits_laws();
-    step_laws();
-    run_laws();
-    obeying_laws();
-    ending_laws();
-    integrity_laws();
     due_laws();
+    headline_laws();
     let found = due(alloc, words, files);
     answer(alloc, PROGRAM, NO_MEMORY, found, out, err)
 }

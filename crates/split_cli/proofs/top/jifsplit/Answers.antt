@@ -1,54 +1,12 @@
+use Rattle.std.proofs.Common.{subst, sym, inl, inr, ⊎_elim, ℕ, List, Option, Some}
+use Rattle.js_base.specs.declared.status.Status.{Status}
 use Rattle.front_end.proofs.Answering.{answers_to}
-use Rattle.split_cli.proofs.Compared.{PrivateLaws, compare_is_private}
+use Rattle.front_end.specs.Verdicts.{Print}
+use Rattle.split_cli.specs.Due.{Due}
+use Rattle.split_cli.specs.Headline.{IsFaithful, IsFaithfulDrive, IsPrivate, OfThreeFiles, OfFourFiles}
 use Rattle.split_cli.proofs.Completeness.{complete}
-use Rattle.split_cli.proofs.Faithful.{AllLaws, replay_is_faithful, drive_is_faithful}
+use Rattle.split_cli.proofs.Faithful.{put_due}
 use Rattle.split_cli.proofs.top.jifsplit.Goals as goal
-
-all_laws : (g : _) (c : goal.After-answer g) → AllLaws
-all_laws g c = record {
-  reading = record {
-    hosts = c.host_file_laws.ensures.sound;
-    short = c.host_file_laws.ensures.short_names;
-    named = c.named_laws.ensures.of_text;
-    kept = c.limit_laws.ensures.kept;
-    returned = c.limit_laws.ensures.returns;
-    within = c.limit_laws.ensures.within;
-    statements = c.program_laws.ensures.statements;
-    sites = c.program_laws.ensures.sites;
-    numbered = c.program_laws.ensures.well_numbered;
-    labelled = c.labelling_laws.ensures.labelled;
-    values = c.labelling_laws.ensures.values;
-    results = c.labelling_laws.ensures.results;
-    given_back = c.result_laws.ensures.given;
-    unread = c.result_laws.ensures.unread;
-    in_order = c.program_laws.ensures.parameters;
-    tokens = c.token_laws.ensures;
-    numbers = c.number_laws.ensures.numbers;
-  };
-  plans = record {
-    lengths = c.need_laws.ensures.lengths;
-    allowed = c.placement_laws.ensures.allowed;
-    hosts = c.placement_laws.ensures.hosts;
-  };
-  granted = c.asking_laws.ensures.granted;
-  obeying = λ tree placed store events world set ran. record {
-    follows = c.obeying_laws.ensures.follows tree placed store events world set ran;
-    idle = c.obeying_laws.ensures.idle tree placed store events world set ran;
-    ignored = λ host state is.
-        c.obeying_laws.ensures.ignored tree placed store events world host state set ran is;
-  };
-  next = c.obeying_laws.ensures.next;
-  ending = c.ending_laws.ensures.ends;
-  altered = c.integrity_laws.ensures.follows;
-  scripts = record {
-    sound = c.split_laws.ensures.sound;
-    said_own = c.script_laws.ensures.own;
-    own_at_start = c.fits_laws.ensures.own_at_start;
-  };
-}
-
-private_laws : (g : _) (c : goal.After-answer g) → PrivateLaws
-private_laws g c = record { told_alike = c.run_laws.ensures.split; one_step = c.step_laws.ensures.one }
 
 pub returns-clause-answer : goal.returns-clause-answer
 returns-clause-answer g c =
@@ -57,19 +15,42 @@ returns-clause-answer g c =
 
 pub returns-clause-headline : goal.returns-clause-headline
 returns-clause-headline g c = λ program hosts events asked done.
-    replay_is_faithful (all_laws g c) _ _ _ _ _ program hosts events (returns-clause-answer g c) asked done
+    let held = g.F.Files.held c.args.files.now in
+    put_due (λ status text. OfThreeFiles IsFaithful program hosts events held text) _ _ _ _ _
+    (λ number status text due. (c.headline_laws.ensures.replayed program hosts events held number status text
+    (subst (λ (words : List (List ℕ)). Due words held number (Print status text)) asked due)).1)
+    (returns-clause-answer g c) (inl done)
 
 pub returns-clause-driven : goal.returns-clause-driven
 returns-clause-driven g c = λ program hosts start events few asked success.
-    drive_is_faithful (all_laws g c) _ _ _ _ _ program hosts start events (returns-clause-answer g c) few asked success
+    let held = g.F.Files.held c.args.files.now in
+    put_due (λ status text. OfThreeFiles (λ p h s. IsFaithfulDrive p h s events status) program hosts start held text)
+    _ _ _ _ _
+    (λ number status text due. c.headline_laws.ensures.driven program hosts start events held number status text few
+    (subst (λ (words : List (List ℕ)). Due words held number (Print status text)) asked due))
+    (returns-clause-answer g c) (⊎_elim (λ done. inl done) (λ spent. inr (inl spent)) success)
 
 pub returns-clause-compared : goal.returns-clause-compared
 returns-clause-compared g c = λ program hosts one other asked success.
-    compare_is_private (all_laws g c) (private_laws g c) _ _ _ _ _ program hosts one other (returns-clause-answer g c)
-    asked success
+    let held = g.F.Files.held c.args.files.now in
+    put_due (λ status text. OfFourFiles (λ p h s t. IsPrivate p h s t status) program hosts one other held text)
+    _ _ _ _ _
+    (λ number status text due. c.headline_laws.ensures.compared program hosts one other held number status text
+    (subst (λ (words : List (List ℕ)). Due words held number (Print status text)) asked due))
+    (returns-clause-answer g c) (⊎_elim (λ done. inl done) (λ differs. inr (inr differs)) success)
 
 pub returns-clause-complete : goal.returns-clause-complete
 returns-clause-complete g c = λ holds number status text tells due calm below quiet under.
     complete c.due_laws.ensures.one_verdict _ _ _ _ _ holds number status text
     (returns-clause-answer g c) tells due calm
     below quiet under
+
+pub returns-clause-comes_to_rest : goal.returns-clause-comes_to_rest
+returns-clause-comes_to_rest g c =
+    λ program hosts start p h s events steps holds placed tree values few asked tells told_p told_h told_s is_placed
+    short read ends enough calm below quiet under.
+    let due = c.headline_laws.ensures.comes_to_rest program hosts start p h s events steps holds placed tree values few
+    told_p told_h told_s is_placed short read ends enough in
+    returns-clause-complete g c holds 3 _ due.0 tells
+    (subst (λ (words : List (List ℕ)). Due words (Some holds) 3 (Print _ due.0)) (sym asked) due.1) calm below quiet
+    under

@@ -1,0 +1,58 @@
+use Rattle.split_cli.proofs.Compared.{PrivateLaws, compare_is_private}
+use Rattle.split_cli.proofs.Faithful.{AllLaws, replay_is_faithful, drive_is_faithful}
+use Rattle.split_cli.proofs.RestingDrives.{comes_to_rest}
+use Rattle.split_cli.proofs.laws.headline_laws.Goals as goal
+
+all_laws : (c : goal.After-integrity_laws) → AllLaws
+all_laws c = record {
+  reading = record {
+    hosts = c.host_file_laws.ensures.sound;
+    short = c.host_file_laws.ensures.short_names;
+    named = c.named_laws.ensures.of_text;
+    kept = c.limit_laws.ensures.kept;
+    returned = c.limit_laws.ensures.returns;
+    within = c.limit_laws.ensures.within;
+    statements = c.program_laws.ensures.statements;
+    sites = c.program_laws.ensures.sites;
+    numbered = c.program_laws.ensures.well_numbered;
+    labelled = c.labelling_laws.ensures.labelled;
+    values = c.labelling_laws.ensures.values;
+    results = c.labelling_laws.ensures.results;
+    given_back = c.result_laws.ensures.given;
+    unread = c.result_laws.ensures.unread;
+    in_order = c.program_laws.ensures.parameters;
+    tokens = c.token_laws.ensures;
+    numbers = c.number_laws.ensures.numbers;
+  };
+  plans = record {
+    lengths = c.need_laws.ensures.lengths;
+    allowed = c.placement_laws.ensures.allowed;
+    hosts = c.placement_laws.ensures.hosts;
+  };
+  granted = c.asking_laws.ensures.granted;
+  obeying = c.obeying_laws.ensures.follows;
+  idle = c.obeying_laws.ensures.idle;
+  next = c.obeying_laws.ensures.next;
+  ending = c.ending_laws.ensures.ends;
+  altered = c.integrity_laws.ensures.follows;
+  scripts = record {
+    sound = c.split_laws.ensures.sound;
+    said_own = c.script_laws.ensures.own;
+    own_at_start = c.fits_laws.ensures.own_at_start;
+  };
+}
+
+private_laws : (c : goal.After-integrity_laws) → PrivateLaws
+private_laws c = record { told_alike = c.run_laws.ensures.split; one_step = c.step_laws.ensures.one }
+
+pub returns-clause-replayed : goal.returns-clause-replayed
+returns-clause-replayed c = replay_is_faithful (all_laws c)
+
+pub returns-clause-driven : goal.returns-clause-driven
+returns-clause-driven c = drive_is_faithful (all_laws c)
+
+pub returns-clause-compared : goal.returns-clause-compared
+returns-clause-compared c = compare_is_private (all_laws c) (private_laws c)
+
+pub returns-clause-comes_to_rest : goal.returns-clause-comes_to_rest
+returns-clause-comes_to_rest c = comes_to_rest (all_laws c) c.ending_laws.ensures.halts
