@@ -6,7 +6,7 @@ use Rattle.js_base.specs.Counts.{counted, Rose}
 use Rattle.js_base.specs.Files.{ChangesOnly}
 use Rattle.js_base.specs.declared.status.Status.TheVariants.{Done}
 use Rattle.split_cli.specs.Commands.{Split}
-use Rattle.split_cli.specs.Due.{DueForCommand, loaded, SavesFor, IsDueForCommand}
+use Rattle.split_cli.specs.Due.{DueForCommand, loaded, SavesFor, MaySave, IsDueForCommand}
 use Rattle.front_end.specs.Loading.{StopsWith, EndsIn}
 use Rattle.front_end.specs.Loads.{FilesChange, AreKept, counted_by}
 use Rattle.split_cli.specs.Saves.{SavesUnder, IsSaved}
@@ -73,8 +73,8 @@ no_split program hosts out files p h why two loads faults kept stops =
         due = inr was;
       }),
       record { loads = loads; no_fault = faults },
-      subst (λ (due : VerdictShape). SavesFor (Split program hosts out) due files) (sym refusal.2)
-          (saves_refused (Split program hosts out) refusal.0 refusal.1 files kept),
+      subst (λ (due : VerdictShape). SavesFor (Split program hosts out) due files) (sym refusal.1)
+          (saves_refused (Split program hosts out) refusal.0 files kept),
     )) stops
 
 -- the report of a split is due
@@ -88,6 +88,21 @@ report_due program hosts out files p h split two was =
       told = (two.program_told, (two.hosts_told, tt));
       due = inl (split, was, refl);
     })
+
+-- its save is one that a split may ask for
+pub split_saves : (program hosts out : List ℕ) (first second : FilesChange) (p h : Loaded) (split : SplitShape) →
+    (two : TwoFiles first.held program hosts p h) → first.loads_after ≡ counted_by 2 first.loads_before →
+    AreKept first → SplitSources two.program_bytes two.hosts_bytes (given split) → Follows first second →
+    second.loads_after ≡ second.loads_before → SavesUnder out second →
+    MaySave (Split program hosts out) (joined first second)
+split_saves program hosts out first second p h split two loads kept was follows no_load under =
+    inr (
+      2,
+      split.text,
+      report_due program hosts out first p h split two was,
+      no_load ∙ follows.loads ∙ loads,
+      under_joined first second out follows kept under,
+    )
 
 -- a split that was loaded, and what its save did
 pub split_due : (program hosts out : List ℕ) (first second : FilesChange) (p h : Loaded) (split : SplitShape)

@@ -5,7 +5,7 @@ use Rattle.js_base.specs.declared.status.Status.TheVariants.{Done}
 use Rattle.split_cli.specs.Commands.{CommandShape, Check, Run, Replay, Drive, Compare, Split, Make}
 use Rattle.split_cli.specs.Commands.{IsCommand, words_of, files_of, forms, HaveNoForm}
 use Rattle.front_end.specs.Verdicts.{VerdictShape, Print, usage, no_such_file}
-use Rattle.front_end.specs.Loads.{FilesChange, Told, AreKept, LoadsWell, IsFirstAbsent, IsFileFault}
+use Rattle.front_end.specs.Loads.{FilesChange, Told, AreKept, LoadsWell, IsFirstAbsent, IsFileFault, counted_by}
 use Rattle.split_cli.specs.Saves.{SavesUnder, IsSaved, IsSaveFault}
 use Rattle.front_end.specs.Stages.{given, DueThen}
 use Rattle.front_end.specs.Sources.{Sources}
@@ -81,9 +81,15 @@ IsDueForCommand command files verdict =
     × SavesFor command verdict files)
     ⊎ IsFault command files verdict
 
--- what a command may do beside its loads, whatever comes of it: nothing, or for a split one save under its last name
+-- the report of a split is due, all loads before it were made, and then it asked for one save under its last name
+abbrev pub SavesWhenDue : (program hosts out : List ℕ) → FilesChange → Type 0
+SavesWhenDue program hosts out files =
+    (number : ℕ) × (text : List ℕ) × DueForCommand files.held (Split program hosts out) number (Print Done text)
+    × (files.loads_after ≡ counted_by number files.loads_before) × SavesUnder out files
+
+-- what a command may do beside its loads, whatever comes of it: nothing, or for a split one save where its report is due
 abbrev pub MaySave : CommandShape → FilesChange → Type 0
-MaySave (Split program hosts out) files = AreKept files ⊎ SavesUnder out files
+MaySave (Split program hosts out) files = AreKept files ⊎ SavesWhenDue program hosts out files
 MaySave command files = AreKept files
 
 -- What is due for the words where no load fails, and the number of loads that come before it.

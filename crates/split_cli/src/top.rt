@@ -117,7 +117,7 @@ pub fn jifsplit<F: Files, S: Sink, E: Sink>(
         S.faults out.new ≡ S.faults out.old → S.faults out.old < last_count →
         (result ≡ status) ⊎ (result ≡ Status.NoMemory) }
     // Whatever it answers, it asks for no more loads than its words name files, saves nothing, and leaves what is held,
-    // but for one save of a split, under its last word alone.
+    // but for one save of a split whose report is due, after its loads, under its last word alone.
     ensures loads { (asked : command.CommandShape) → command.IsCommand asked →
         map string_bytes words.now ≡ command.words_of asked →
         F.loads files.new ≤ F.loads files.old + length (command.files_of asked) }
