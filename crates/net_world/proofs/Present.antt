@@ -9,6 +9,7 @@ use Rattle.std.proofs.lemmas.Option.{slice_get-map}
 use Rattle.js_base.specs.declared.ids.HostId.{HostId}
 use Rattle.host_decl.specs.Hosts as declared_hosts
 use Rattle.host_code.specs.Code.{CodeShape}
+use Rattle.host_core.specs.Calls.{CountsCall}
 use Rattle.host_core.specs.Host.{HostModel, HostShape, state_of}
 use Rattle.net_world.specs.World.{given, present, host_before, hosts_before}
 use Rattle.net_world.specs.Fits.{states_of}
@@ -151,16 +152,15 @@ at_set (first ∷ xs) zero x y there = refl
 at_set (first ∷ xs) (suc i) x y there = at_set xs i x y there
 
 pub counted_set : (hosts : List (Option HostModel)) (host : HostId) (before after : HostModel) →
-    slice_get hosts host.0 ≡ Some (Some before) →
-    (after.calls ≡ before.calls + 1) × (after.stopped ≡ before.stopped) →
+    slice_get hosts host.0 ≡ Some (Some before) → CountsCall before after →
     HasCounted host hosts (slice_set hosts host.0 (Some after))
 counted_set hosts host before after there counted = record {
   before = before;
   after = after;
   was = ap given there;
   is = ap given (at_set hosts host.0 (Some after) (Some before) there);
-  calls = counted.0;
-  stopped = counted.1;
+  calls = counted.calls;
+  stopped = counted.stopped;
 }
 
 -- where one host has answered one more call, and no other has changed, each has made at most one more step

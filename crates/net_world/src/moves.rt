@@ -1,7 +1,8 @@
 //! The step of one host among all.
 
-ghost use Rattle.std.specs.Prelude.{◌≡◌, ◌+◌, None, Some, OnOk, OnErr, IfSome, IsSomeAnd};
+ghost use Rattle.std.specs.Prelude.{◌≡◌, None, Some, OnOk, OnErr, IfSome, IsSomeAnd};
 ghost use Rattle.host_code.specs.Sound.{IsLabel};
+ghost use Rattle.host_core.specs.Calls.{CountsCall};
 ghost use Rattle.host_core.specs.Fits.{SentFits};
 ghost use Rattle.host_core.specs.Host.{state_of, IsStopped};
 ghost use Rattle.host_core.specs.Turn.{label_of_turn};
@@ -47,8 +48,7 @@ fn move_of(
         (record { state = state_of host.new; sent = sent.new })) }
     ensures err { OnErr result (state_of host.new ≡ state_of host.old) }
     ensures stopped { OnErr result (IsStopped host.new) }
-    ensures counted { OnOk result
-        ((host.new.calls ≡ host.old.calls + 1) × (host.new.stopped ≡ host.old.stopped)) }
+    ensures counted { OnOk result (CountsCall host.old host.new) }
     ensures fits { PresentFits code.now me host.new }
     ensures sent { OnOk result (SentFits code.now me sent.new) }
 {
