@@ -43,5 +43,5 @@ returns-clause-err g c =
     in (
       step_parts c.args.code.now c.args.me (take_line c.args.code.now c.args.from c.args.message.now) some.0,
       (some.0, some.1, refl),
-      rw c.in-Err-OutOfMemory.ensures.err (step_fails _ _ _ _),
+      rw c.in-Err-OutOfMemory.ensures.keeps.err (step_fails _ _ _ _),
     )

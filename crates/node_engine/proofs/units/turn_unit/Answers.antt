@@ -32,5 +32,5 @@ returns-in-Err-OutOfMemory-clause-err g c =
     let some = c.step_laws.ensures.some_turn c.args.code.now (state_of c.args.host.now) in (
       step_parts c.args.code.now c.args.me turn_line some.0,
       (some.0, some.1, refl),
-      rw c.in-Err-OutOfMemory.ensures.err (step_fails _ _ _ _),
+      rw c.in-Err-OutOfMemory.ensures.keeps.err (step_fails _ _ _ _),
     )
