@@ -80,6 +80,7 @@ fn only_the_top_is_taken_and_only_once(rt: HostRuntime) -> Result<(), Fail> {
 
 /// The token takes nothing off, and is told the token of the top entry.
 fn is_refused(rt: &impl Abort, stack: &mut IcsStack, token: Token, top: Option<Token>) {
+    assert_eq!(rt; stack.top(), top);
     assert_eq!(rt; kept_with(stack, token), Err(NotTop { top }), "{token:?}");
 }
 

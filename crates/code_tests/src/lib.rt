@@ -25,4 +25,6 @@ mod stores;
 #[cfg(test)]
 mod tables;
 #[cfg(test)]
+mod told_host;
+#[cfg(test)]
 mod whole_file;
