@@ -1,8 +1,8 @@
-//! Events are printed as scripts say them.
+//! Events and settings are printed as scripts say them.
 
 use crate::read_code::read_code;
-use event_text::{Script, event_line, read_events};
-use host_code::Code;
+use event_text::{Script, event_line, read_events, read_values, setting_line};
+use host_code::{Code, CodeField};
 use std::alloc::Global;
 use std::test::Fail;
 
@@ -43,5 +43,44 @@ fn events_are_printed_as_they_are_said(rt: HostRuntime) -> Result<(), Fail> {
         let said = line_text(alloc, &code, &script)?;
         assert_eq!(rt; said.as_str(), line);
     }
+    Ok(())
+}
+
+/// Settings of two elements of the array `s` and of the field `n`.
+const SETTINGS: &str = "\
+    set s 0 -9223372036854775808\n\
+    set s 2 5\n\
+    set n 0\n";
+
+/// Adds a line for each element that is not what the elements of its field start with.
+fn add_settings(
+    alloc: Global,
+    lines: &mut String,
+    field: &CodeField,
+    elements: &[i64],
+) -> Result<(), Fail> {
+    for (index, value) in elements.iter().enumerate() {
+        if *value != field.first() {
+            let Ok(index) = u32::try_from(index) else {
+                return Err(Fail::from("a long row"));
+            };
+            let line = setting_line(alloc, field, index, *value)?;
+            lines.push_str(line.as_str())?;
+            lines.push_str("\n")?;
+        }
+    }
+    Ok(())
+}
+
+#[test]
+fn settings_are_printed_as_they_are_set(rt: HostRuntime) -> Result<(), Fail> {
+    let alloc = rt.alloc();
+    let code = read_code(&rt, alloc)?;
+    let start = read_values(alloc, code.fields(), SETTINGS.as_bytes())?;
+    let mut lines = String::new(alloc);
+    for (field, row) in code.fields().iter().zip(start.rows()) {
+        add_settings(alloc, &mut lines, field, row.elements())?;
+    }
+    assert_eq!(rt; lines.as_str(), SETTINGS);
     Ok(())
 }
