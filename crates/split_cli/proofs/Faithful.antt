@@ -159,7 +159,7 @@ rows_of_trees : (fields : List Field) →
 rows_of_trees [] = refl
 rows_of_trees (field ∷ fields) = ap (λ rows. replicate field.size field.first ∷ rows) (rows_of_trees fields)
 
-values_of_text : (placed : PlacedSource) (tree : Program) → program_tree tree ≡ placed.source.tree →
+pub values_of_text : (placed : PlacedSource) (tree : Program) → program_tree tree ≡ placed.source.tree →
     starting_rows (map form_of (code_of placed).fields) ≡ starting_values tree
 values_of_text placed tree is =
     rows_placed (code_of placed).labels placed.plan 0 placed.source.tree.fields
@@ -167,7 +167,7 @@ values_of_text placed tree is =
     ∙ rows_of_trees tree.fields.items
 
 -- the fields of a script start with numbers
-said_numbers : AllLaws → (program hosts script : List ℕ) (placed : PlacedSource) (said : ScriptShape) →
+pub said_numbers : AllLaws → (program hosts script : List ℕ) (placed : PlacedSource) (said : ScriptShape) →
     PlacedSources program hosts (given placed) → script_of (code_of placed) script ≡ Ok said →
     RowsHaveNumbers said.start
 said_numbers laws program hosts script placed said accepted read =
@@ -181,7 +181,7 @@ said_numbers laws program hosts script placed said accepted read =
 -- ---- hosts of which some misbehave
 
 -- the events of a script lead to its last world
-reached_there : AllLaws → (program hosts script : List ℕ) (placed : PlacedSource) (tree : Program)
+pub reached_there : AllLaws → (program hosts script : List ℕ) (placed : PlacedSource) (tree : Program)
     (said : ScriptShape) (last : WorldShape) → IsPlacedAs program hosts placed tree →
     script_of (code_of placed) script ≡ Ok said →
     IsRun (code_of placed) (first_world placed said.bad said.start) (events_in said.events) last →

@@ -1,4 +1,4 @@
-use Rattle.std.proofs.Common.{subst, sym, inl, inr, ⊎_elim, ℕ, List, Option, Some}
+use Rattle.std.proofs.Common.{subst, sym, inl, inr, ⊎_elim, codes, ℕ, List, Option, Some}
 use Rattle.js_base.specs.declared.status.Status.{Status}
 use Rattle.front_end.proofs.Answering.{answers_to}
 use Rattle.front_end.specs.Verdicts.{Print}
@@ -10,7 +10,7 @@ use Rattle.split_cli.proofs.top.jifsplit.Goals as goal
 
 pub returns-clause-answer : goal.returns-clause-answer
 returns-clause-answer g c =
-    answers_to _ _ _ c.due-found.result _ _ _ c.due-found.ensures.saves c.due-found.ensures.due c.answer.ensures.due
+    answers_to (codes "jifsplit") _ _ c.due-found.result _ _ _ c.due-found.ensures.saves c.due-found.ensures.due c.answer.ensures.due
     c.answer.ensures.undue
 
 pub returns-clause-headline : goal.returns-clause-headline
