@@ -1,5 +1,5 @@
 -- Where a report is due and nothing outside fails, it is answered, or memory ran out.
-use Rattle.std.proofs.Common.{◌≡◌, ◌⊎◌, ℕ, ◌<◌, List, Option, Some, subst, ⊎_elim}
+use Rattle.std.proofs.Common.{◌≡◌, ◌⊎◌, ℕ, ◌<◌, List, Option, Some, codes, subst, ⊎_elim}
 use Rattle.js_base.specs.Counts.{last_count}
 use Rattle.js_base.specs.declared.status.Status.{Status}
 use Rattle.js_base.specs.declared.status.Status.TheVariants.{NoMemory}
@@ -36,6 +36,6 @@ pub complete : OneVerdict → (words : List (List ℕ)) (files : FilesChange) (a
     files.faults_before < last_count → out.faults_after ≡ out.faults_before → out.faults_before < last_count →
     (answer ≡ status) ⊎ (answer ≡ NoMemory)
 complete one words files answer out err holds number status text answers tells due calm below quiet under =
-    report_answered _ _ _ answer out err status text answers
+    report_answered (codes "jifsplit") _ _ answer out err status text answers
     (λ verdict is. due_by_content one words files holds number (Print status text) verdict tells due calm below is)
     quiet under

@@ -35,6 +35,7 @@ pub mod SameMessages
 pub mod ScriptNumbers
 pub mod ScriptStarts
 pub mod SetSources
+pub mod SilentComparisons
 pub mod SilentPrograms
 pub mod SomeCompare
 pub mod SomeDrive

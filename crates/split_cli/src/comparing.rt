@@ -140,9 +140,7 @@ pub fn is_prompt(alloc: Global, name: &str, seen: &Seen<'_>) -> Result<(), Stop>
 {
     match seen.late {
         None => Ok(()),
-        Some(line) => {
-            Err(stopped(Verdict::at_line(alloc, name, line, LineCause::NotPrompt)))
-        },
+        Some(line) => { Err(stopped(Verdict::at_line(alloc, name, line, LineCause::NotPrompt))) },
     }
 }
 

@@ -15,7 +15,8 @@ ghost use Rattle.jif_tree.specs.Trees.{ProgramTree};
 ghost use Rattle.simulation.specs.Driven.{IsDriven};
 ghost use Rattle.simulation.specs.Ending.{EVENTS};
 ghost use Rattle.split_shades.specs.Sites.{ReleasesNothing};
-ghost use Rattle.front_end.specs.PlacedSources.{PlacedSource};
+ghost use Rattle.front_end.specs.PlacedSources.{PlacedSource, PlacedSources};
+ghost use Rattle.front_end.specs.Stages.{given};
 ghost use Rattle.front_end.specs.StepCounts.{IsStepCount};
 ghost use Rattle.front_end.specs.Verdicts.{Print, VerdictShape, usage, no_such_file};
 ghost use Rattle.front_end.specs.Loads.{FilesChange};
@@ -109,6 +110,11 @@ pub fn headline_laws()
         (status : Status) (text : List ℕ) →
         Due (words_of (Compare program hosts one other)) held number (Print status text) →
         OfFourFiles (λ p h s t. IsPrivate p h s t status) program hosts one other held text }
+    // Where the program releases nothing, no comparison has a report that says that the runs differ.
+    ensures never_differs { (program hosts one other p h : List ℕ) (holds : List ℕ → Option (List ℕ)) (number : ℕ)
+        (text : List ℕ) (placed : PlacedSource) → holds program ≡ Some p → holds hosts ≡ Some h →
+        PlacedSources p h (given placed) → ReleasesNothing placed.source.tree →
+        ¬ Due (words_of (Compare program hosts one other)) (Some holds) number (Print Status.Differ text) }
     // Where the plain run ends after so many steps, a drive of 4096 events for each of them, and for one more, has the
     // report of hosts that came to rest.
     ensures comes_to_rest { (program hosts start p h s : List ℕ) (events steps : ℕ)
@@ -127,6 +133,7 @@ pub fn headline_laws()
     program_laws();
     labelling_laws();
     result_laws();
+    source_laws();
     need_laws();
     placement_laws();
     split_laws();

@@ -1,6 +1,6 @@
 //! The top call, from words and files to a status and what is put out.
 
-ghost use Rattle.std.specs.Prelude.{◌≡◌, ◌<◌, ◌≤◌, ◌+◌, ◌*◌, ◌⊎◌, ℕ, ℤ, List, length, map, string_bytes, IfOk};
+ghost use Rattle.std.specs.Prelude.{◌≡◌, ◌≢◌, ◌<◌, ◌≤◌, ◌+◌, ◌*◌, ◌⊎◌, ℕ, ℤ, List, length, map, string_bytes, IfOk};
 ghost use Rattle.std.specs.Prelude.{Ok, Option, Some};
 ghost use Rattle.js_base.specs.Counts.{last_count};
 ghost use Rattle.js_base.specs.declared.limits.TheConstants.{SCRIPT_BYTES};
@@ -9,7 +9,9 @@ ghost use Rattle.jif_tree.specs.declared.program.Program.{Program};
 ghost use Rattle.jif_tree.specs.SourceRun.{HasLength};
 ghost use Rattle.event_text.specs.Start.{program_form, start_of};
 ghost use Rattle.simulation.specs.Ending.{EVENTS};
-ghost use Rattle.front_end.specs.PlacedSources.{PlacedSource};
+ghost use Rattle.split_shades.specs.Sites.{ReleasesNothing};
+ghost use Rattle.front_end.specs.PlacedSources.{PlacedSource, PlacedSources};
+ghost use Rattle.front_end.specs.Stages.{given};
 ghost use Rattle.split_cli.specs.Answers.{AnswersTo};
 ghost use Rattle.split_cli.specs.Commands as command;
 ghost use Rattle.split_cli.specs.Asked.{command_shape};
@@ -96,6 +98,12 @@ pub fn jifsplit<F: Files, S: Sink, E: Sink>(
         (result ≡ Status.Done) ⊎ (result ≡ Status.Differ) →
         Puts (OfFourFiles (λ p h s t. IsPrivate p h s t result) program hosts one other (F.held files.old))
         (S.taken out.old) (S.taken out.new) }
+    // So `Differ` is never answered for a program that releases nothing.
+    ensures never_differs { (program hosts one other p h : List ℕ) (holds : List ℕ → Option (List ℕ))
+        (placed : PlacedSource) →
+        map string_bytes words.now ≡ command.words_of (command.Compare program hosts one other) →
+        F.held files.old ≡ Some holds → holds program ≡ Some p → holds hosts ≡ Some h →
+        PlacedSources p h (given placed) → ReleasesNothing placed.source.tree → result ≢ Status.Differ }
     // Where the plain run ends after so many steps, and so many events were asked for, a drive comes to rest, or memory
     // ran out, where neither the files nor the output count a fault.
     ensures comes_to_rest { (program hosts start p h s : List ℕ) (events steps : ℕ)

@@ -1,6 +1,7 @@
 use Rattle.split_cli.proofs.Compared.{PrivateLaws, compare_is_private}
 use Rattle.split_cli.proofs.Faithful.{AllLaws, replay_is_faithful, drive_is_faithful}
 use Rattle.split_cli.proofs.RestingDrives.{comes_to_rest}
+use Rattle.split_cli.proofs.SilentComparisons.{never_differs}
 use Rattle.split_cli.proofs.laws.headline_laws.Goals as goal
 
 all_laws : (c : goal.After-integrity_laws) → AllLaws
@@ -56,3 +57,6 @@ returns-clause-compared c = compare_is_private (all_laws c) (private_laws c)
 
 pub returns-clause-comes_to_rest : goal.returns-clause-comes_to_rest
 returns-clause-comes_to_rest c = comes_to_rest (all_laws c) c.ending_laws.ensures.halts
+
+pub returns-clause-never_differs : goal.returns-clause-never_differs
+returns-clause-never_differs c = never_differs (all_laws c) (private_laws c) c.source_laws.ensures.one_plan

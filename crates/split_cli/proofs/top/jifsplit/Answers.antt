@@ -1,7 +1,9 @@
-use Rattle.std.proofs.Common.{subst, sym, inl, inr, ⊎_elim, codes, ℕ, List, Option, Some}
+use Rattle.std.proofs.Common.{◌≡◌, subst, sym, inl, inr, ⊎_elim, codes, ℕ, List, Option, Some}
 use Rattle.js_base.specs.declared.status.Status.{Status}
+use Rattle.js_base.specs.declared.status.Status.TheVariants.{Done, Differ}
 use Rattle.front_end.proofs.Answering.{answers_to}
 use Rattle.front_end.specs.Verdicts.{Print}
+use Rattle.split_cli.specs.Commands.{Compare, words_of}
 use Rattle.split_cli.specs.Due.{Due}
 use Rattle.split_cli.specs.Headline.{IsFaithful, IsFaithfulDrive, IsPrivate, OfThreeFiles, OfFourFiles}
 use Rattle.split_cli.proofs.Completeness.{complete}
@@ -51,6 +53,19 @@ returns-clause-comes_to_rest g c =
     short read ends enough calm below quiet under.
     let due = c.headline_laws.ensures.comes_to_rest program hosts start p h s events steps holds placed tree values few
     told_p told_h told_s is_placed short read ends enough in
-    returns-clause-complete g c holds 3 _ due.0 tells
-    (subst (λ (words : List (List ℕ)). Due words (Some holds) 3 (Print _ due.0)) (sym asked) due.1) calm below quiet
+    returns-clause-complete g c holds 3 Done due.0 tells
+    (subst (λ (words : List (List ℕ)). Due words (Some holds) 3 (Print Done due.0)) (sym asked) due.1) calm below quiet
     under
+
+pub returns-clause-never_differs : goal.returns-clause-never_differs
+returns-clause-never_differs g c =
+    λ program hosts one other p h holds placed asked tells told_p told_h accepted silent differs.
+    (put_due (λ status text. ¬ (status ≡ Differ)) _ _ _ _ _
+    (λ number status text due is. c.headline_laws.ensures.never_differs program hosts one other p h holds number text
+    placed told_p told_h accepted silent
+    (subst (λ (s : Status). Due (words_of (Compare program hosts one other)) (Some holds) number (Print s text)) is
+    (subst (λ (held : Option (List ℕ → Option (List ℕ))).
+    Due (words_of (Compare program hosts one other)) held number (Print status text)) tells
+    (subst (λ (words : List (List ℕ)). Due words (g.F.Files.held c.args.files.now) number (Print status text)) asked
+    due))))
+    (returns-clause-answer g c) (inr (inr differs))).1 differs

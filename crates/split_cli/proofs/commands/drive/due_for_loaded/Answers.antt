@@ -55,8 +55,12 @@ returns c = λ names others p h s loaded_p loaded_h loaded_s.
         c.source.inside.checked.program,
         ap (λ (source : SourceModel). program_tree source.checked.program) c.source.view_is
             ∙ ap (λ (placed : PlacedModel). program_tree placed.source.checked.program) c.placed.view_is,
-        inl (c.in_ok-store.store, subst (λ (fields : List Field).
-            StartingValues c.args.name.now s (map program_form fields) (given c.in_ok-store.store)) c.deref.ensures.value
-            (c.in_ok-store.ensures s loaded_s), c.in_ok-driven.ensures),
+        inl (
+          c.in_ok-store.store,
+          subst (λ (fields : List Field).
+              StartingValues c.args.name.now s (map program_form fields) (given c.in_ok-store.store)) c.deref.ensures.value
+              (c.in_ok-store.ensures s loaded_s),
+          c.in_ok-driven.ensures,
+        ),
       ),
     )

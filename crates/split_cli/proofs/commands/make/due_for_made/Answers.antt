@@ -58,8 +58,8 @@ returns c =
         inl (
           c.in_ok-store.store,
           subst (λ (fields : List Field).
-            StartingValues [] [] (map program_form fields) (given c.in_ok-store.store)) c.deref.ensures.value
-            (c.in_ok-store.ensures [] (rw c.new.ensures.bytes at c.as_loaded-start.ensures)),
+              StartingValues [] [] (map program_form fields) (given c.in_ok-store.store)) c.deref.ensures.value
+              (c.in_ok-store.ensures [] (rw c.new.ensures.bytes at c.as_loaded-start.ensures)),
           c.in_ok-driven.ensures,
         ),
       ),
