@@ -1,16 +1,14 @@
 -- Where the root obeys, the hosts follow an altered run, whatever misbehaving hosts are told and sent.
-use Rattle.std.proofs.Common.{◌≡◌, ◌⊎◌, inl, inr, ℕ, suc, ℤ, List, [], ◌∷◌, ◌++◌, take, Some, refl}
-use Rattle.std.proofs.Common.{sym, ap, subst, arith}
-use Rattle.std.specs.Prelude.{slice_get, slice_index, All, IsSomeAnd}
+use Rattle.std.proofs.Common.{◌≡◌, ◌⊎◌, inl, inr, ℕ, ℤ, List, [], ◌∷◌, ◌++◌, Some, refl}
+use Rattle.std.proofs.Common.{sym, ap, subst}
+use Rattle.std.specs.Prelude.{All, IsSomeAnd}
 use Rattle.std.proofs.lemmas.List.Elements.{All-push, All-nil}
 use Rattle.js_base.specs.declared.ids.HostId.{HostId}
 use Rattle.host_decl.specs.Hosts as declared_hosts
-use Rattle.jif_tree.specs.declared.program.Program.{Program}
 use Rattle.jif_tree.specs.Altered as altering
-use Rattle.jif_tree.specs.Altered.{Exposure, MayStep}
+use Rattle.jif_tree.specs.Altered.{MayStep}
 use Rattle.jif_tree.specs.SourceRun.{Configuration, IsAtEnd, configuration_at_start}
 use Rattle.host_code.specs.Thread.{WaitingShape}
-use Rattle.host_code.specs.Code.{CodeShape}
 use Rattle.host_core.specs.Host.{HostShape}
 use Rattle.event_text.specs.declared.event.Event.{Event}
 use Rattle.event_text.specs.declared.event.Event.TheVariants.{Take, Turn, Act}
@@ -20,7 +18,7 @@ use Rattle.split_rules.specs.Held.{IsHeld}
 use Rattle.split_rules.specs.Allowed.{IsAllowed}
 use Rattle.split_rules.specs.Splittable.{IsSplittable}
 use Rattle.net_world.specs.Fits.{HasOwnToken}
-use Rattle.net_world.specs.World.{WorldShape, IsStep, IsRun, IsTurnStep, IsActStep, state_at, tokens_sent}
+use Rattle.net_world.specs.World.{WorldShape, IsStep, IsTurnStep, IsActStep, state_at, tokens_sent}
 use Rattle.net_world.specs.World.{world_at_start}
 use Rattle.net_world.proofs.GoingOn.{IsKept, along}
 use Rattle.token_laws.specs.Numbers.{CodeHasNumbers, RowsHaveNumbers, EventHasNumbers, MessageHasNumbers}
@@ -42,7 +40,6 @@ use Rattle.integrity.proofs.LooseTurns.{holder_goes}
 use Rattle.integrity.proofs.TakeLaws.{holder_taken}
 use Rattle.integrity.proofs.OwnEvents.{decide_take, decide_turn, decide_act, no_act}
 use Rattle.integrity.proofs.TightKept.{IsLawful}
-use Rattle.integrity.proofs.OpenSteps.{some_each}
 use Rattle.integrity.proofs.OutsideLaws.{AreLaws}
 use Rattle.integrity.proofs.StandsAtStart.{stands_at_start}
 use Rattle.integrity.proofs.StandsOn.{stands_kept}

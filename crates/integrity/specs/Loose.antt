@@ -1,6 +1,6 @@
 -- A world where misbehaving hosts may have been handed the token of the first entry of the chain. Until that is given
 -- back nothing that goes on is the program's.
-use Rattle.std.specs.Prelude.{◌≡◌, ⊤, List, [], ◌∷◌, IsSomeAnd}
+use Rattle.std.specs.Prelude.{⊤, List, [], ◌∷◌, IsSomeAnd}
 use Rattle.std.specs.List.{AllByRecursion}
 use Rattle.jif_tree.specs.Altered.{Altered}
 use Rattle.jif_tree.specs.SourceRun.{Configuration}

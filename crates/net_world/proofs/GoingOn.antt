@@ -1,5 +1,5 @@
 -- What each event keeps is kept along events, and hosts and program go on together.
-use Rattle.std.proofs.Common.{◌≡◌, List, [], ◌∷◌, subst}
+use Rattle.std.proofs.Common.{List, [], ◌∷◌, subst}
 use Rattle.std.specs.Prelude.{All}
 use Rattle.std.proofs.lemmas.List.Elements.{All-head, All-tail}
 use Rattle.jif_tree.specs.SourceRun.{Configuration}

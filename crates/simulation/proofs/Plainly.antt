@@ -1,13 +1,11 @@
 -- Where nobody misbehaves, what hosts follow is the plain run, since an altered run is that.
-use Rattle.std.proofs.Common.{◌≡◌, ◌∙◌, ℕ, zero, suc, ◌+◌, ◌⊎◌, inl, inr, List, [], ◌∷◌, ◌++◌, length, Some, refl, ap}
-use Rattle.std.proofs.Common.{sym}
+use Rattle.std.proofs.Common.{◌≡◌, ℕ, suc, ◌+◌, ◌⊎◌, inl, inr, List, [], ◌∷◌, length, refl}
 use Rattle.std.proofs.Common.{subst}
-use Rattle.std.specs.Prelude.{ℤ, slice_get}
+use Rattle.std.specs.Prelude.{ℤ}
 use Rattle.event_text.specs.declared.event.Event.{Event}
 use Rattle.jif_tree.specs.declared.program.Program.{Program}
 use Rattle.jif_tree.specs.Altered.{Exposure, MayStep, steps, Altered}
-use Rattle.jif_tree.specs.SourceRun.{Item, run, keep, Configuration, IsAtEnd, after_item, after_steps, step, prefix, operands}
-use Rattle.jif_tree.specs.SourceRun.{variable}
+use Rattle.jif_tree.specs.SourceRun.{Configuration, IsAtEnd, after_steps, prefix}
 use Rattle.jif_tree.proofs.PlainRuns.{no_field}
 use Rattle.net_world.specs.Fits.{ShapeFits}
 use Rattle.net_world.specs.World.{WorldShape, IsStep}
@@ -15,8 +13,6 @@ use Rattle.typed_steps.specs.Requests.{Does}
 use Rattle.typed_steps.specs.Variables.{HaveFields}
 use Rattle.typed_steps.specs.Views.{Split}
 use Rattle.typed_steps.specs.Weights.{STEP}
-use Rattle.typed_steps.proofs.Calls.{get_last, long_last}
-use Rattle.typed_steps.proofs.TreeValues.{plainly_may}
 use Rattle.simulation.specs.Obeying.{FieldsAre}
 use Rattle.simulation.proofs.Simulates.{Falls, Simulates}
 use Rattle.simulation.proofs.Events.{event_kept}

@@ -3,14 +3,13 @@ use Rattle.std.proofs.Common.{◌≡◌, ℕ, List, [], ◌∷◌, ◌++◌, Ok,
 use Rattle.std.specs.Prelude.{ℤ, ⊤, Option, All}
 use Rattle.std.proofs.lemmas.List.Elements.{All-map}
 use Rattle.js_base.specs.declared.status.Status.{Status}
-use Rattle.js_base.specs.declared.status.Status.TheVariants.{Done, Differ}
+use Rattle.js_base.specs.declared.status.Status.TheVariants.{Done}
 use Rattle.jif_tree.specs.declared.program.Program.{Program}
 use Rattle.event_text.specs.declared.event.Event.{Event}
 use Rattle.event_text.specs.OwnTokens.{IsOwnEvent}
 use Rattle.event_text.specs.Script.{ScriptShape, script_of}
 use Rattle.host_code.specs.Code.{CodeShape}
 use Rattle.host_code.specs.Sound.{IsSoundCode}
-use Rattle.need_labels.specs.Labelled as needs
 use Rattle.net_world.specs.Fits.{HasOwnToken}
 use Rattle.net_world.specs.Secret.{IsSeenRun, IsPrompt}
 use Rattle.net_world.specs.Told.{SentMessage}

@@ -2,17 +2,15 @@
 use Rattle.std.proofs.Common.{◌≡◌, ◌≤◌, ◌+◌, ◌*◌, ◌∙◌, ℕ, suc, List, [], ◌∷◌, ◌++◌, map, length, Option, Some, Ok, refl}
 use Rattle.std.proofs.Common.{sym, ap}
 use Rattle.std.proofs.Common.{subst, length-append}
-use Rattle.std.proofs.Common.{⊎_elim, inl, inr, arith}
+use Rattle.std.proofs.Common.{⊎_elim, arith}
 use Rattle.std.specs.Prelude.{ℤ, ◌⊎◌, ◌≢◌, ⊤, All, codes, replicate}
 use Rattle.std.specs.List.{AllZip}
 use Rattle.std.proofs.lemmas.List.Elements.{All-map}
 use Rattle.js_base.specs.Sink.{Takes}
-use Rattle.js_base.specs.declared.ids.HostId.{HostId}
 use Rattle.js_base.specs.declared.limits.TheConstants.{SCRIPT_BYTES}
 use Rattle.js_base.specs.declared.status.Status.{Status}
 use Rattle.js_base.specs.declared.status.Status.TheVariants.{Done, Spent, Differ, Usage, SourceRefused, InputRefused}
 use Rattle.js_base.specs.declared.status.Status.TheVariants.{FileFault, OutFault, NoMemory}
-use Rattle.host_decl.specs.Hosts.{HostsShape}
 use Rattle.jif_tree.specs.declared.program.Field.{Field}
 use Rattle.jif_tree.specs.declared.program.Program.{Program}
 use Rattle.jif_tree.specs.SourceRun.{HasLength}
@@ -27,14 +25,12 @@ use Rattle.event_text.specs.Start.{start_of, program_form}
 use Rattle.event_text.specs.Settings.{FieldForm, form_of, settings_in_front, starting_rows, after_settings}
 use Rattle.host_code.specs.Code.{CodeShape}
 use Rattle.host_code.specs.Sound.{IsSoundCode}
-use Rattle.host_core.specs.Host.{HostShape}
 use Rattle.integrity.specs.Altering as altering
 use Rattle.integrity.specs.Exposed.{exposure_of}
 use Rattle.label_lattice.specs.declared.label.Label.{Label}
-use Rattle.need_labels.specs.Labelled as needs
 use Rattle.need_labels.specs.Plan.{PlanShape}
 use Rattle.net_world.specs.Choice.{NoneRuns, NothingFlies, IsNextEvent}
-use Rattle.net_world.specs.World.{WorldShape, IsStep, IsRun, world_at_start, state_at, has_halted}
+use Rattle.net_world.specs.World.{WorldShape, IsStep, IsRun, world_at_start, has_halted}
 use Rattle.net_world.specs.World.{not_bad, not_there, host_busy, no_such_token}
 use Rattle.net_world.specs.Fits.{HasOwnToken}
 use Rattle.split_rules.specs.Placed.{PlacedProgram}
@@ -60,7 +56,7 @@ use Rattle.split_cli.specs.Replay.{replay_text, ScriptRead, EventsHappen, DueFor
 use Rattle.split_cli.specs.Replay as replay
 use Rattle.front_end.specs.Starting.{StartingValues}
 use Rattle.front_end.specs.Starting as starting
-use Rattle.split_cli.specs.Due.{DueForBytes, DueForCommand, Due, no_words, for_command, IsDue}
+use Rattle.split_cli.specs.Due.{DueForBytes, DueForCommand, Due, no_words, for_command}
 use Rattle.split_cli.specs.Due as due
 use Rattle.front_end.specs.Answers as answers
 use Rattle.front_end.specs.Answers.{SinkChange}
