@@ -1,2 +1,3 @@
+pub mod Journals
 pub mod Links
 pub mod MemLinks

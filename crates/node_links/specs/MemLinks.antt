@@ -3,9 +3,10 @@ use Rattle.std.specs.Prelude.{ℕ, List, [], ◌∷◌, ◌++◌, drop, Contains
 use Rattle.js_base.specs.Counts.{counted}
 use Rattle.js_base.specs.declared.ids.HostId.{HostId}
 
--- the frames that are left and those that were sent, the numbers of the calls that are to fail, and the calls and the
--- faults so far
+-- the hosts as which they began, each with the paths of all hosts; the frames that are left and those that were sent;
+-- the numbers of the calls that are to fail; and the calls and the faults so far
 pub record LinksInMemory : Type 0 where
+  pub begun : List (HostId × List (List ℕ))
   pub left : List (List ℕ)
   pub sent : List (HostId × List ℕ)
   pub failing : List ℕ
@@ -23,6 +24,10 @@ after_call state = record state { calls = counted state.calls }
 -- with one more fault
 abbrev pub after_fault : LinksInMemory → LinksInMemory
 after_fault state = record state { faults = counted state.faults }
+
+-- with a host as which they began behind the others
+abbrev pub after_begin : HostId → List (List ℕ) → LinksInMemory → LinksInMemory
+after_begin me paths state = record state { begun = state.begun ++ (me, paths) ∷ [] }
 
 -- without the next frame
 abbrev pub after_next : LinksInMemory → LinksInMemory

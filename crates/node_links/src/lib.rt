@@ -2,14 +2,17 @@
 //! over the system.
 #![tactic(auto)]
 
+mod copies;
 mod journal;
 mod links;
+mod mem_journal;
 mod mem_links;
 mod real_journal;
 mod unix_links;
 
 pub use journal::Journal;
 pub use links::{Arrived, LinkError, Links};
+pub use mem_journal::MemJournal;
 pub use mem_links::MemLinks;
 pub use real_journal::RealJournal;
 pub use unix_links::UnixLinks;

@@ -1,9 +1,9 @@
 //! The links between nodes, as a trait.
 
-ghost use Rattle.std.specs.Prelude.{◌≡◌, ◌≤◌, ◌⊎◌, ℕ, List, Option, IfOk, OnOk, OnErr, IsErrOf};
+ghost use Rattle.std.specs.Prelude.{◌≡◌, ◌≤◌, ◌⊎◌, ℕ, List, Option, IfOk, OnOk, OnErr, IsErrOf, map, string_bytes};
 ghost use Rattle.js_base.specs.Counts.{Rose};
 ghost use Rattle.js_base.specs.declared.ids.HostId.{HostId};
-ghost use Rattle.node_links.specs.Links.{Gave, Took};
+ghost use Rattle.node_links.specs.Links.{Began, Gave, Took};
 
 use js_base::HostId;
 use std::alloc::{AllocError, Global};
@@ -25,11 +25,14 @@ pub struct Arrived {
     pub bytes: Vec<u8>,
 }
 
-/// The links of a node to the other nodes. What they have left to give and what they took is told by links in memory,
-/// and not by those of the system.
+/// The links of a node to the other nodes. With what they began, what they have left to give and what they took is told
+/// by links in memory, and not by those of the system.
 pub trait Links {
     /// How many faults the links counted. It never falls.
     ghost faults: { Self → ℕ };
+
+    /// The hosts as which they began, each with the paths of all hosts, in order, where the links tell.
+    ghost begun: { Self → Option (List (HostId × List (List ℕ))) };
 
     /// The frames that have not been given yet, the next one first, where the links tell.
     ghost left: { Self → Option (List (List ℕ)) };
@@ -38,8 +41,11 @@ pub trait Links {
     ghost sent: { Self → Option (List (HostId × List ℕ)) };
 
     /// Says which host the node is, and the paths of all hosts by their numbers. It is called once, before any other
-    /// call.
+    /// call. After an error they began or they did not.
     fn begin(&mut self, alloc: Global, me: HostId, paths: &[String]) -> Result<(), LinkError>
+        ensures ok { OnOk result (Began me (map string_bytes paths.now) (begun self.old) (begun self.new)) }
+        ensures err { OnErr result ((begun self.new ≡ begun self.old)
+            ⊎ Began me (map string_bytes paths.now) (begun self.old) (begun self.new)) }
         ensures left { left self.new ≡ left self.old }
         ensures sent { sent self.new ≡ sent self.old }
         ensures faults { faults self.old ≤ faults self.new }
@@ -50,6 +56,7 @@ pub trait Links {
     fn next(&mut self, alloc: Global) -> Result<Arrived, LinkError>
         ensures ok { IfOk result (λ arrived. Gave arrived.bytes.items (left self.old) (left self.new)) }
         ensures err { OnErr result (left self.new ≡ left self.old) }
+        ensures begun { begun self.new ≡ begun self.old }
         ensures sent { sent self.new ≡ sent self.old }
         ensures faults { faults self.old ≤ faults self.new }
         ensures no_fault { IsErrOf result LinkError.Failed ⊎ (faults self.new ≡ faults self.old) }
@@ -60,6 +67,7 @@ pub trait Links {
         ensures ok { OnOk result (Took to bytes.now (sent self.old) (sent self.new)) }
         ensures err { OnErr result
             ((sent self.new ≡ sent self.old) ⊎ Took to bytes.now (sent self.old) (sent self.new)) }
+        ensures begun { begun self.new ≡ begun self.old }
         ensures left { left self.new ≡ left self.old }
         ensures faults { faults self.old ≤ faults self.new }
         ensures no_fault { IsErrOf result LinkError.Failed ⊎ (faults self.new ≡ faults self.old) }

@@ -86,6 +86,8 @@ impl<R: rt::Files + AllocGlobal + Drop> Sink for RealJournal<R> {
 }
 
 impl<R: rt::Files + AllocGlobal + Drop> Journal for RealJournal<R> {
+    ghost named = { λ _. None };
+
     fn begin(&mut self, alloc: Global, name: &str) -> Result<(), PutError> {
         match self.make(alloc, name) {
             Ok(()) => Ok(()),

@@ -3,6 +3,7 @@
 ghost use Rattle.std.specs.Prelude.{◌≡◌, ◌≤◌, ◌⊎◌, None};
 ghost use Rattle.js_base.specs.Counts.{Rose};
 
+use crate::copies::copies;
 use crate::links::{Arrived, LinkError, Links};
 use js_base::HostId;
 use std::alloc::Global;
@@ -56,10 +57,7 @@ impl<R: rt::Files + Net + AllocGlobal + Drop> UnixLinks<R> {
     fn listen(&mut self, alloc: Global, me: HostId, paths: &[String]) -> io::Result<()>
         ensures { self.new ≡ self.old }
     {
-        let mut kept = Vec::new(alloc);
-        for path in paths {
-            kept.push(path.clone()?)?;
-        }
+        let kept = copies(alloc, paths)?;
         let Some(own) = paths.get(me.0 as usize) else {
             return Err(io::Error::from(ErrorKind::InvalidInput));
         };
@@ -129,6 +127,8 @@ fn connected(net: &impl Net, path: &str) -> io::Result<UnixStream> {
 
 impl<R: rt::Files + Net + AllocGlobal + Drop> Links for UnixLinks<R> {
     ghost faults = { λ faults. faults };
+
+    ghost begun = { λ _. None };
 
     ghost left = { λ _. None };
 
