@@ -2,18 +2,26 @@
 #![tactic(auto)]
 
 use command_words::words;
-use js_base::{RealFiles, Status};
-use node_engine::jifhost;
+use js_base::{RealFiles, RealSink, Status};
+use node_engine::{NodeEnd, run_jifhost, say_end};
 use node_links::{RealJournal, UnixLinks};
 use std::process::ExitCode;
 
 fn main(rt: HostRuntime) -> ExitCode {
-    let Ok(words) = words(&rt) else {
-        return ExitCode::from(Status::NoMemory.code());
+    let end = match words(&rt) {
+        Ok(words) => {
+            let mut files = RealFiles::new(&rt);
+            let mut links = UnixLinks::new(&rt);
+            let mut journal = RealJournal::new(&rt);
+            run_jifhost(rt.alloc(), &words, &mut files, &mut links, &mut journal)
+        }
+        Err(_) => NodeEnd {
+            status: Status::NoMemory,
+            refusal: None,
+        },
     };
-    let mut files = RealFiles::new(&rt);
-    let mut links = UnixLinks::new(&rt);
-    let mut journal = RealJournal::new(&rt);
-    let status = jifhost(rt.alloc(), &words, &mut files, &mut links, &mut journal);
-    ExitCode::from(status.code())
+    let mut err = RealSink::new(rt.stderr());
+    // The status is the answer, whether it can be said or not.
+    let _said = say_end(rt.alloc(), &end, &mut err);
+    ExitCode::from(end.status.code())
 }

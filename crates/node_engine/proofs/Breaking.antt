@@ -1,4 +1,4 @@
--- What is left of a node's world where a part breaks.
+-- What is left of a node's world where parts are done and where one breaks.
 use Rattle.std.proofs.Common.{◌≡◌, ◌⊎◌, inl, inr, ℕ, List, [], ◌∷◌, Option, Some, None, take, drop, refl, ◌∙◌, Result}
 use Rattle.std.proofs.Common.{Ok, Err, sym, subst}
 use Rattle.std.specs.Prelude.{IfErr, IsErr}
@@ -8,64 +8,111 @@ use Rattle.std.proofs.lemmas.Option.{none-some}
 use Rattle.js_base.specs.Sink.{TakesFront}
 use Rattle.js_base.specs.Sink as sink
 use Rattle.js_base.specs.declared.ids.HostId.{HostId}
+use Rattle.js_base.specs.declared.status.Status.{Status}
+use Rattle.js_base.specs.declared.status.Status.TheVariants as status
 use Rattle.host_core.specs.Host.{HostShape}
 use Rattle.node_links.specs.Links.{Gave, Took}
 use Rattle.node_engine.specs.declared.node_error.NodeError.{NodeError}
 use Rattle.node_engine.specs.declared.node_error.NodeError.TheVariants as node_error
 use Rattle.node_engine.specs.NodeWorlds.{NodeWorld, Part, Taking, Step, Line, Sending, do_part, Breaks}
-use Rattle.node_engine.specs.Told.{LinksTold, Outside, Told, TellsOf, Takes, Does, Stops, Works, Fails}
+use Rattle.node_engine.specs.Statuses.{status_of}
+use Rattle.node_engine.specs.Told.{LinksTold, JournalTold, Outside, Seen, Told, TellsOf, Takes, Does, Stops}
+use Rattle.node_engine.specs.Told.{Faults, Leaves, Rises}
+
+-- ---- what is left beside the world
+
+pub leaves_all : (there : Outside) → Leaves status.Done there there
+leaves_all there = record { faults = (refl, refl); begun = refl }
+
+pub leaves_without_memory : (there : Outside) → Leaves status.NoMemory there there
+leaves_without_memory there = record { faults = (refl, refl); begun = refl }
+
+pub faults_later : (answer : Status) (old mid new : Outside) → Faults status.Done old mid → Faults answer mid new →
+    Faults answer old new
+faults_later status.LinkFault old mid new one two =
+    (subst (λ n. Rises n new.links.faults) one.0 two.0, two.1 ∙ one.1)
+faults_later status.OutFault old mid new one two =
+    (two.0 ∙ one.0, subst (λ n. Rises n new.journal.faults) one.1 two.1)
+faults_later status.Done old mid new one two = (two.0 ∙ one.0, two.1 ∙ one.1)
+faults_later status.Usage old mid new one two = (two.0 ∙ one.0, two.1 ∙ one.1)
+faults_later status.SourceRefused old mid new one two = (two.0 ∙ one.0, two.1 ∙ one.1)
+faults_later status.InputRefused old mid new one two = (two.0 ∙ one.0, two.1 ∙ one.1)
+faults_later status.Differ old mid new one two = (two.0 ∙ one.0, two.1 ∙ one.1)
+faults_later status.FileFault old mid new one two = (two.0 ∙ one.0, two.1 ∙ one.1)
+faults_later status.NoMemory old mid new one two = (two.0 ∙ one.0, two.1 ∙ one.1)
+faults_later status.Spent old mid new one two = (two.0 ∙ one.0, two.1 ∙ one.1)
+faults_later status.ChildFault old mid new one two = (two.0 ∙ one.0, two.1 ∙ one.1)
+faults_later status.ChildEnded old mid new one two = (two.0 ∙ one.0, two.1 ∙ one.1)
+
+pub leaves_later : (answer : Status) (old mid new : Outside) → Leaves status.Done old mid → Leaves answer mid new →
+    Leaves answer old new
+leaves_later answer old mid new one two = record {
+  faults = faults_later answer old mid new one.faults two.faults;
+  begun = two.begun ∙ one.begun;
+}
+
+-- where one of two cannot be, the other is so
+pub the_other : {P S : Type 0} → P ⊎ S → ¬ P → S
+the_other (inl is) not = absurd (not is)
+the_other (inr is) not = is
 
 -- ---- one part
 
-pub line_done : (bytes : List ℕ) (there : LinksTold) (old new : Option (List ℕ)) → sink.Takes bytes old new →
-    Does (Line bytes ∷ []) (record { links = there; journal = old }) (record { links = there; journal = new })
-line_done bytes there old new takes = record {
-  after = λ world host told.
+line_leaves : (answer : Status) (links : LinksTold) (old new : JournalTold) →
+    Faults answer (record { links = links; journal = old }) (record { links = links; journal = new }) →
+    Leaves answer (record { links = links; journal = old }) (record { links = links; journal = new })
+line_leaves answer links old new faults = record { faults = faults; begun = refl }
+
+pub line_done : (bytes : List ℕ) (host : HostShape) (there : LinksTold) (old new : JournalTold) →
+    sink.Takes bytes old.taken new.taken → new.faults ≡ old.faults →
+    Does (Line bytes ∷ []) (record { host = host; outside = record { links = there; journal = old } })
+    (record { host = host; outside = record { links = there; journal = new } })
+line_done bytes host there old new takes still = record {
+  after = λ world told.
       let put = rw told.journal_is at takes in
       record { host_is = told.host_is; left_is = told.left_is; sent_is = told.sent_is; journal_is = put };
+  leaves = line_leaves status.Done there old new (refl, still);
 }
 
 -- a front of a line was put
-line_front : (bytes : List ℕ) (there : LinksTold) (old new : Option (List ℕ)) → TakesFront bytes old new →
-    (world : NodeWorld) (host : HostShape) → Told world host (record { links = there; journal = old }) →
-    TellsOf (λ after. (n : ℕ) × (after ≡ do_part (Line (take n bytes)) world)) host (record {
-      links = there;
-      journal =
-          new;
-    })
-line_front bytes there old new front world host told =
+line_front : (bytes : List ℕ) (host : HostShape) (there : LinksTold) (old new : JournalTold) →
+    TakesFront bytes old.taken new.taken → (world : NodeWorld) →
+    Told world (record { host = host; outside = record { links = there; journal = old } }) →
+    TellsOf (λ after. (n : ℕ) × (after ≡ do_part (Line (take n bytes)) world))
+    (record { host = host; outside = record { links = there; journal = new } })
+line_front bytes host there old new front world told =
     let put = rw told.journal_is at front.1 in (
       do_part (Line (take front.0 bytes)) world,
       record { host_is = told.host_is; left_is = told.left_is; sent_is = told.sent_is; journal_is = put },
       (front.0, refl),
     )
 
-pub line_breaks : (bytes : List ℕ) (there : LinksTold) (old new : Option (List ℕ)) → TakesFront bytes old new →
-    Stops node_error.OutFault (Line bytes ∷ []) (record { links = there; journal = old }) (record {
-      links =
-          there;
-      journal = new;
-    })
-line_breaks bytes there old new front = record {
-  after = λ world host told.
-      let end = line_front bytes there old new front world host told in (end.0, end.1, inl end.2);
+pub line_breaks : (bytes : List ℕ) (host : HostShape) (there : LinksTold) (old new : JournalTold) →
+    TakesFront bytes old.taken new.taken → Rises old.faults new.faults →
+    Stops node_error.OutFault (Line bytes ∷ [])
+    (record { host = host; outside = record { links = there; journal = old } })
+    (record { host = host; outside = record { links = there; journal = new } })
+line_breaks bytes host there old new front rises = record {
+  after = λ world told.
+      let end = line_front bytes host there old new front world told in (end.0, end.1, inl end.2);
+  leaves = line_leaves status.OutFault there old new (refl, rises);
 }
 
-pub line_without_memory : (bytes : List ℕ) (there : LinksTold) (old new : Option (List ℕ)) → TakesFront bytes old new →
-    Stops node_error.OutOfMemory (Line bytes ∷ []) (record { links = there; journal = old }) (record {
-      links =
-          there;
-      journal = new;
-    })
-line_without_memory bytes there old new front = record {
-  after = λ world host told.
-      let end = line_front bytes there old new front world host told in (end.0, end.1, inl end.2);
+pub line_without_memory : (bytes : List ℕ) (host : HostShape) (there : LinksTold) (old new : JournalTold) →
+    TakesFront bytes old.taken new.taken → new.faults ≡ old.faults →
+    Stops node_error.OutOfMemory (Line bytes ∷ [])
+    (record { host = host; outside = record { links = there; journal = old } })
+    (record { host = host; outside = record { links = there; journal = new } })
+line_without_memory bytes host there old new front still = record {
+  after = λ world told.
+      let end = line_front bytes host there old new front world told in (end.0, end.1, inl end.2);
+  leaves = line_leaves status.NoMemory there old new (refl, still);
 }
 
 -- nothing of a line was put
-pub line_unput : (bytes : List ℕ) (there : Outside) → Stops node_error.OutOfMemory (Line bytes ∷ []) there there
+pub line_unput : (bytes : List ℕ) (there : Seen) → Stops node_error.OutOfMemory (Line bytes ∷ []) there there
 line_unput bytes there = record {
-  after = λ world host told. (
+  after = λ world told. (
     do_part (Line (take 0 bytes)) world,
     record {
       host_is = told.host_is;
@@ -75,58 +122,89 @@ line_unput bytes there = record {
     },
     inl (0, refl),
   );
+  leaves = leaves_without_memory there.outside;
 }
 
-pub frame_sent : (to : HostId) (bytes : List ℕ) (old new : Outside) → Took to bytes old.links.sent new.links.sent →
-    new.links.left ≡ old.links.left → new.journal ≡ old.journal → Does (Sending to bytes ∷ []) old new
-frame_sent to bytes old new took stays kept = record {
-  after = λ world host told.
-      let sent = rw told.sent_is at took in
-      record {
-        host_is = told.host_is;
-        left_is = stays ∙ told.left_is;
-        sent_is = sent;
-        journal_is = kept ∙ told.journal_is;
-      };
+-- what a call of links leaves that keeps what it is to give
+pub record Sends (answer : Status) (old new : LinksTold) : Type 0 where
+  pub faults : (journal : JournalTold) →
+      Faults answer (record { links = old; journal = journal }) (record { links = new; journal = journal })
+  pub begun : new.begun ≡ old.begun
+  pub left : new.left ≡ old.left
+
+frame_sent : (to : HostId) (bytes : List ℕ) (old new : LinksTold) (host : HostShape) (journal : JournalTold) →
+    Took to bytes old.sent new.sent → new.left ≡ old.left → (world : NodeWorld) →
+    Told world (record { host = host; outside = record { links = old; journal = journal } }) →
+    Told (do_part (Sending to bytes) world)
+    (record { host = host; outside = record { links = new; journal = journal } })
+frame_sent to bytes old new host journal took stays world told =
+    let sent = rw told.sent_is at took in
+    record {
+      host_is = told.host_is;
+      left_is = stays ∙ told.left_is;
+      sent_is = sent;
+      journal_is = told.journal_is;
+    }
+
+pub send_done : (to : HostId) (bytes : List ℕ) (old new : LinksTold) (host : HostShape) (journal : JournalTold) →
+    Took to bytes old.sent new.sent → Sends status.Done old new →
+    Does (Sending to bytes ∷ []) (record { host = host; outside = record { links = old; journal = journal } })
+    (record { host = host; outside = record { links = new; journal = journal } })
+send_done to bytes old new host journal took sends = record {
+  after = λ world told. frame_sent to bytes old new host journal took sends.left world told;
+  leaves = record { faults = sends.faults journal; begun = sends.begun };
 }
 
 -- a frame was sent or not
-abbrev SentOrNot : HostId → List ℕ → Outside → Outside → Type 0
-SentOrNot to bytes old new = (new.links.sent ≡ old.links.sent) ⊎ Took to bytes old.links.sent new.links.sent
-
-sent_or_not : (to : HostId) (bytes : List ℕ) (old new : Outside) → SentOrNot to bytes old new →
-    new.links.left ≡ old.links.left → new.journal ≡ old.journal → (world : NodeWorld) (host : HostShape) →
-    Told world host old →
-    TellsOf (λ after. (after ≡ world) ⊎ (after ≡ do_part (Sending to bytes) world)) host new
-sent_or_not to bytes old new (inl same) stays kept world host told = (
+sent_or_not : (to : HostId) (bytes : List ℕ) (old new : LinksTold) (host : HostShape) (journal : JournalTold) →
+    ((new.sent ≡ old.sent) ⊎ Took to bytes old.sent new.sent) → new.left ≡ old.left → (world : NodeWorld) →
+    Told world (record { host = host; outside = record { links = old; journal = journal } }) →
+    TellsOf (λ after. (after ≡ world) ⊎ (after ≡ do_part (Sending to bytes) world))
+    (record { host = host; outside = record { links = new; journal = journal } })
+sent_or_not to bytes old new host journal (inl same) stays world told = (
   world,
   record {
     host_is = told.host_is;
     left_is = stays ∙ told.left_is;
     sent_is = same ∙ told.sent_is;
-    journal_is = kept ∙ told.journal_is;
+    journal_is = told.journal_is;
   },
   inl refl,
 )
-sent_or_not to bytes old new (inr took) stays kept world host told =
-    (do_part (Sending to bytes) world, (frame_sent to bytes old new took stays kept).after world host told, inr refl)
+sent_or_not to bytes old new host journal (inr took) stays world told =
+    (do_part (Sending to bytes) world, frame_sent to bytes old new host journal took stays world told, inr refl)
 
-pub send_breaks : (to : HostId) (bytes : List ℕ) (old new : Outside) →
-    ((new.links.sent ≡ old.links.sent) ⊎ Took to bytes old.links.sent new.links.sent) →
-    new.links.left ≡ old.links.left → new.journal ≡ old.journal →
-    Stops node_error.LinkFault (Sending to bytes ∷ []) old new
-send_breaks to bytes old new sent stays kept = record {
-  after = λ world host told.
-      let end = sent_or_not to bytes old new sent stays kept world host told in (end.0, end.1, inl end.2);
+pub send_breaks : (to : HostId) (bytes : List ℕ) (old new : LinksTold) (host : HostShape) (journal : JournalTold) →
+    ((new.sent ≡ old.sent) ⊎ Took to bytes old.sent new.sent) → Sends status.LinkFault old new →
+    Stops node_error.LinkFault (Sending to bytes ∷ [])
+    (record { host = host; outside = record { links = old; journal = journal } })
+    (record { host = host; outside = record { links = new; journal = journal } })
+send_breaks to bytes old new host journal sent sends = record {
+  after = λ world told.
+      let end = sent_or_not to bytes old new host journal sent sends.left world told in
+      (end.0, end.1, inl end.2);
+  leaves = record { faults = sends.faults journal; begun = sends.begun };
 }
 
-pub send_without_memory : (to : HostId) (bytes : List ℕ) (old new : Outside) →
-    ((new.links.sent ≡ old.links.sent) ⊎ Took to bytes old.links.sent new.links.sent) →
-    new.links.left ≡ old.links.left → new.journal ≡ old.journal →
-    Stops node_error.OutOfMemory (Sending to bytes ∷ []) old new
-send_without_memory to bytes old new sent stays kept = record {
-  after = λ world host told.
-      let end = sent_or_not to bytes old new sent stays kept world host told in (end.0, end.1, inl end.2);
+pub send_without_memory : (to : HostId) (bytes : List ℕ) (old new : LinksTold) (host : HostShape)
+    (journal : JournalTold) → ((new.sent ≡ old.sent) ⊎ Took to bytes old.sent new.sent) →
+    Sends status.NoMemory old new →
+    Stops node_error.OutOfMemory (Sending to bytes ∷ [])
+    (record { host = host; outside = record { links = old; journal = journal } })
+    (record { host = host; outside = record { links = new; journal = journal } })
+send_without_memory to bytes old new host journal sent sends = record {
+  after = λ world told.
+      let end = sent_or_not to bytes old new host journal sent sends.left world told in
+      (end.0, end.1, inl end.2);
+  leaves = record { faults = sends.faults journal; begun = sends.begun };
+}
+
+-- its bytes were not made
+pub send_unmade : (to : HostId) (bytes : List ℕ) (there : Seen) →
+    Stops node_error.OutOfMemory (Sending to bytes ∷ []) there there
+send_unmade to bytes there = record {
+  after = λ world told. (world, told, inl (inl refl));
+  leaves = leaves_without_memory there.outside;
 }
 
 -- the frame that is taken is the next one
@@ -136,106 +214,130 @@ next_frame bytes left None gave = absurd (none-some left (sym gave))
 next_frame bytes left (Some rest) gave =
     let same : left ≡ bytes ∷ rest = cc in (rw same refl, (rest, same))
 
-pub frame_taken : (bytes : List ℕ) (old new : Outside) → Gave bytes old.links.left new.links.left →
-    new.links.sent ≡ old.links.sent →
-    new.journal ≡ old.journal → Takes bytes old new
-frame_taken bytes old new gave same kept = record {
-  after = λ world host told.
-      let next = next_frame bytes world.left new.links.left (rw told.left_is at gave) in (
+pub frame_taken : (bytes : List ℕ) (old new : LinksTold) (host : HostShape) (journal : JournalTold) →
+    Gave bytes old.left new.left → new.sent ≡ old.sent → new.begun ≡ old.begun → new.faults ≡ old.faults →
+    Takes bytes (record { host = host; outside = record { links = old; journal = journal } })
+    (record { host = host; outside = record { links = new; journal = journal } })
+frame_taken bytes old new host journal gave same stays still = record {
+  after = λ world told.
+      let next = next_frame bytes world.left new.left (rw told.left_is at gave) in (
         record {
           host_is = told.host_is;
           left_is = next.0;
           sent_is = same ∙ told.sent_is;
-          journal_is = kept ∙ told.journal_is;
+          journal_is = told.journal_is;
         },
         next.1,
       );
+  leaves = record { faults = (still, refl); begun = stays };
 }
 
 -- nothing was taken
-taking_stops : (error : NodeError) → ((world : NodeWorld) → Breaks error Taking world world) → (old new : Outside) →
-    new.links.left ≡ old.links.left → new.links.sent ≡ old.links.sent → new.journal ≡ old.journal →
-    Stops error (Taking ∷ []) old new
-taking_stops error breaks old new stays same kept = record {
-  after = λ world host told. (
+taking_stops : (error : NodeError) → ((world : NodeWorld) → Breaks error Taking world world) →
+    (old new : LinksTold) (host : HostShape) (journal : JournalTold) → new.sent ≡ old.sent →
+    Sends (status_of error) old new →
+    Stops error (Taking ∷ []) (record { host = host; outside = record { links = old; journal = journal } })
+    (record { host = host; outside = record { links = new; journal = journal } })
+taking_stops error breaks old new host journal same sends = record {
+  after = λ world told. (
     world,
     record {
       host_is = told.host_is;
-      left_is = stays ∙ told.left_is;
+      left_is = sends.left ∙ told.left_is;
       sent_is = same ∙ told.sent_is;
-      journal_is = kept ∙ told.journal_is;
+      journal_is = told.journal_is;
     },
     inl (breaks world),
   );
+  leaves = record { faults = sends.faults journal; begun = sends.begun };
 }
 
-pub taking_breaks : (old new : Outside) → new.links.left ≡ old.links.left → new.links.sent ≡ old.links.sent →
-    new.journal ≡ old.journal →
-    Stops node_error.LinkFault (Taking ∷ []) old new
+pub taking_breaks : (old new : LinksTold) (host : HostShape) (journal : JournalTold) → new.sent ≡ old.sent →
+    Sends status.LinkFault old new →
+    Stops node_error.LinkFault (Taking ∷ [])
+    (record { host = host; outside = record { links = old; journal = journal } })
+    (record { host = host; outside = record { links = new; journal = journal } })
 taking_breaks = taking_stops node_error.LinkFault (λ world. refl)
 
-pub taking_without_memory : (old new : Outside) → new.links.left ≡ old.links.left → new.links.sent ≡ old.links.sent →
-    new.journal ≡ old.journal → Stops node_error.OutOfMemory (Taking ∷ []) old new
+pub taking_without_memory : (old new : LinksTold) (host : HostShape) (journal : JournalTold) → new.sent ≡ old.sent →
+    Sends status.NoMemory old new →
+    Stops node_error.OutOfMemory (Taking ∷ [])
+    (record { host = host; outside = record { links = old; journal = journal } })
+    (record { host = host; outside = record { links = new; journal = journal } })
 taking_without_memory = taking_stops node_error.OutOfMemory (λ world. refl)
 
 -- ---- parts in a row
 
+-- no part is done
+pub does_nothing : (there : Seen) → Does [] there there
+does_nothing there = record { after = λ world told. told; leaves = leaves_all there.outside }
+
 -- it breaks as the first of several
-pub breaks_first : (error : NodeError) (part : Part) (parts : List Part) (old new : Outside) →
+pub breaks_first : (error : NodeError) (part : Part) (parts : List Part) (old new : Seen) →
     Stops error (part ∷ []) old new → Stops error (part ∷ parts) old new
 breaks_first error part parts old new stops = record {
-  after = λ world host told.
-      let end = stops.after world host told in
+  after = λ world told.
+      let end = stops.after world told in
       (end.0, end.1, elim end.2 [ inl broken ↦ inl broken | inr none ↦ absurd none ]);
+  leaves = stops.leaves;
 }
 
--- or later
-pub breaks_later : (error : NodeError) (part : Part) (parts : List Part) (old mid new : Outside) →
+pub breaks_later : (error : NodeError) (part : Part) (parts : List Part) (old mid new : Seen) →
     Does (part ∷ []) old mid → Stops error parts mid new → Stops error (part ∷ parts) old new
 breaks_later error part parts old mid new does stops = record {
-  after = λ world host told.
-      let end = stops.after (do_part part world) host (does.after world host told) in (end.0, end.1, inr end.2);
+  after = λ world told.
+      let end = stops.after (do_part part world) (does.after world told) in (end.0, end.1, inr end.2);
+  leaves = leaves_later (status_of error) old.outside mid.outside new.outside does.leaves stops.leaves;
 }
 
-pub done_later : (part : Part) (parts : List Part) (old mid new : Outside) →
+pub done_later : (part : Part) (parts : List Part) (old mid new : Seen) →
     Does (part ∷ []) old mid → Does parts mid new → Does (part ∷ parts) old new
 done_later part parts old mid new first others = record {
-  after = λ world host told. others.after (do_part part world) host (first.after world host told);
+  after = λ world told. others.after (do_part part world) (first.after world told);
+  leaves = leaves_later status.Done old.outside mid.outside new.outside first.leaves others.leaves;
 }
 
 -- ---- a step of the host
 
-pub step_works : (parts : List Part) (before later : HostShape) (old new : Outside) → Does parts old new →
-    Works (Step later ∷ parts) before later old new
-step_works parts before later old new does = record {
+-- it is made, and leaves what is outside
+step_made : (before later : HostShape) (there : Outside) →
+    Does (Step later ∷ []) (record { host = before; outside = there }) (record { host = later; outside = there })
+step_made before later there = record {
   after = λ world told.
-      does.after (do_part (Step later) world) later
-      (record { host_is = refl; left_is = told.left_is; sent_is = told.sent_is; journal_is = told.journal_is });
+      record { host_is = refl; left_is = told.left_is; sent_is = told.sent_is; journal_is = told.journal_is };
+  leaves = leaves_all there;
 }
 
--- it is made, and a part behind it breaks
-pub step_then_fails : (error : NodeError) (parts : List Part) (before later : HostShape) (old new : Outside) →
-    Stops error parts old new → Fails error (Step later ∷ parts) before later old new
-step_then_fails error parts before later old new stops = record {
-  after = λ world told.
-      let end = stops.after (do_part (Step later) world) later
-      (record { host_is = refl; left_is = told.left_is; sent_is = told.sent_is; journal_is = told.journal_is }) in
-      (end.0, end.1, inr end.2);
-}
+pub step_does : (parts : List Part) (before later : HostShape) (there : Outside) (new : Seen) →
+    Does parts (record { host = later; outside = there }) new →
+    Does (Step later ∷ parts) (record { host = before; outside = there }) new
+step_does parts before later there new does =
+    done_later (Step later) parts _ _ new (step_made before later there) does
+
+-- a part behind it breaks
+pub step_then_stops : (error : NodeError) (parts : List Part) (before later : HostShape) (there : Outside)
+    (new : Seen) → Stops error parts (record { host = later; outside = there }) new →
+    Stops error (Step later ∷ parts) (record { host = before; outside = there }) new
+step_then_stops error parts before later there new stops =
+    breaks_later error (Step later) parts _ _ new (step_made before later there) stops
 
 -- it is not made
-pub step_fails : (parts : List Part) (before later : HostShape) (there : Outside) →
-    Fails node_error.OutOfMemory (Step later ∷ parts) before before there there
-step_fails parts before later there = record { after = λ world told. (world, told, inl refl) }
-
--- parts in which the host takes no part
-pub works_alike : (parts : List Part) (host : HostShape) (old new : Outside) → Does parts old new →
-    Works parts host host old new
-works_alike parts host old new does = record { after = λ world told. does.after world host told }
-
-pub fails_alike : (error : NodeError) (parts : List Part) (host : HostShape) (old new : Outside) →
-    Stops error parts old new → Fails error parts host host old new
-fails_alike error parts host old new stops = record { after = λ world told. stops.after world host told }
+pub step_stops : (parts : List Part) (before later outcome : HostShape) (there : Outside) → later ≡ before →
+    Stops node_error.OutOfMemory (Step outcome ∷ parts) (record { host = before; outside = there })
+    (record { host = later; outside = there })
+step_stops parts before later outcome there same = record {
+  after = λ world told. (
+    world,
+    record {
+      host_is = same ∙ told.host_is;
+      left_is = told.left_is;
+      sent_is = told.sent_is;
+      journal_is = told.journal_is;
+    },
+    inl refl,
+  );
+  leaves = leaves_without_memory there;
+}
 
 -- ---- an error that is handed on
 

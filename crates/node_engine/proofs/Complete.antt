@@ -8,11 +8,12 @@ use Rattle.front_end.specs.Loads.{FilesChange, Told as TellsFile}
 use Rattle.front_end.specs.Stages.{Outcome, given, stopped}
 use Rattle.front_end.specs.Verdicts.{VerdictShape}
 use Rattle.node_engine.specs.NodeSources.{NodeStart}
-use Rattle.node_engine.specs.Nodes.{HoldsNode, IsEnded, IsNodeDue, LoadedNode, NodeAnswer, OptionsAnswer, files_of}
-use Rattle.node_engine.specs.Nodes.{name_of}
-use Rattle.node_engine.specs.Options.{Asked, IsAsked}
-use Rattle.node_engine.specs.Serving.{IsServed}
-use Rattle.node_engine.specs.Told.{Outside}
+use Rattle.node_engine.specs.Nodes.{End, HoldsNode, IsComplete, IsNodeDue, LoadedNode, NodeAnswer, OptionsAnswer}
+use Rattle.node_engine.specs.Nodes.{files_of}
+use Rattle.node_engine.specs.Options.{Asked, IsAsked, name_of}
+use Rattle.node_engine.specs.Statuses.{IsEnded, IsServed}
+use Rattle.node_engine.specs.Told.{Faults, Names, NodeChange, Outside}
+use Rattle.node_engine.proofs.Ends.{node_served}
 
 served_ended : (answer : Status) → IsServed answer → (answer ≡ status.LinkFault → ⊥) → (answer ≡ status.OutFault → ⊥) →
     IsEnded answer
@@ -26,9 +27,11 @@ served_ended status.SourceRefused served linked put = absurd served
 served_ended status.InputRefused served linked put = absurd served
 served_ended status.Differ served linked put = absurd served
 served_ended status.FileFault served linked put = absurd served
+served_ended status.ChildFault served linked put = absurd served
+served_ended status.ChildEnded served linked put = absurd served
 
 -- no count rose that stands
-pub not_risen : (before after : ℕ) → after ≡ before → before < last_count → Rose before after → ⊥
+not_risen : (before after : ℕ) → after ≡ before → before < last_count → Rose before after → ⊥
 not_risen before after stays below (inl lt) = omega arith
 not_risen before after stays below (inr last) = omega arith
 
@@ -90,27 +93,51 @@ not_stopped one asked files holds node verdict there is stays below (inr loaded)
     let never : ⊥ = cc in never
 
 options_complete : OneLoaded → (asked : Asked) (files : FilesChange) (holds : List ℕ → Option (List ℕ))
-    (node : NodeStart) (answer : Status) (old new : Outside) → HoldsNode asked holds node →
+    (node : NodeStart) (end : End) (change : NodeChange) (reaches : Names → Type 0) → HoldsNode asked holds node →
     files.held ≡ Some holds → files.faults_after ≡ files.faults_before → files.faults_before < last_count →
-    (answer ≡ status.LinkFault → ⊥) → (answer ≡ status.OutFault → ⊥) → OptionsAnswer asked files answer old new →
-    IsEnded answer
-options_complete one asked files holds node answer old new there is stays below linked put (inl ((inl memory), same)) =
-    subst IsEnded (sym memory) tt
-options_complete one asked files holds node answer old new there is stays below linked put (inl ((inr due), same)) =
-    absurd (not_stopped one asked files holds node due.0 there is stays below due.1)
-options_complete one asked files holds node answer old new there is stays below linked put (inr runs) =
-    served_ended answer runs.2.served linked put
+    (end.status ≡ status.LinkFault → ⊥) → (end.status ≡ status.OutFault → ⊥) →
+    OptionsAnswer asked files end change reaches → IsEnded end.status
+options_complete one asked files holds node end change reaches there is stays below linked put
+    (inl ((inl memory), nothing)) = subst (λ (it : End). IsEnded it.status) (sym memory) tt
+options_complete one asked files holds node end change reaches there is stays below linked put
+    (inl ((inr due), nothing)) = absurd (not_stopped one asked files holds node due.0 there is stays below due.1)
+options_complete one asked files holds node end change reaches there is stays below linked put (inr runs) =
+    served_ended end.status (node_served asked.turns runs.0 end.status change reaches runs.2) linked put
 
-pub complete : OneLoaded → OneAsked → (words : List (List ℕ)) (files : FilesChange) (answer : Status)
-    (old new : Outside) (asked : Asked) (node : NodeStart) (holds : List ℕ → Option (List ℕ)) →
-    NodeAnswer words files answer old new → IsAsked words asked → files.held ≡ Some holds →
-    HoldsNode asked holds node → files.faults_after ≡ files.faults_before → files.faults_before < last_count →
-    (answer ≡ status.LinkFault → ⊥) → (answer ≡ status.OutFault → ⊥) → IsEnded answer
-complete one once words files answer old new asked node holds (inl memory) asks is there stays below linked put =
-    subst IsEnded (sym memory.0) tt
-complete one once words files answer old new asked node holds (inr (inl usage)) asks is there stays below linked put =
-    absurd (usage.1 asked asks)
-complete one once words files answer old new asked node holds (inr (inr some)) asks is there stays below linked put =
+answer_complete : OneLoaded → OneAsked → (words : List (List ℕ)) (files : FilesChange) (end : End)
+    (change : NodeChange) (reaches : Names → Type 0) (asked : Asked) (node : NodeStart)
+    (holds : List ℕ → Option (List ℕ)) → NodeAnswer words files end change reaches → IsAsked words asked →
+    files.held ≡ Some holds → HoldsNode asked holds node → files.faults_after ≡ files.faults_before →
+    files.faults_before < last_count → (end.status ≡ status.LinkFault → ⊥) → (end.status ≡ status.OutFault → ⊥) →
+    IsEnded end.status
+answer_complete one once words files end change reaches asked node holds (inl memory) asks is there stays below
+    linked put = subst (λ (it : End). IsEnded it.status) (sym memory.0) tt
+answer_complete one once words files end change reaches asked node holds (inr (inl usage)) asks is there stays below
+    linked put = absurd (usage.1 asked asks)
+answer_complete one once words files end change reaches asked node holds (inr (inr some)) asks is there stays below
+    linked put =
     let same : some.0 ≡ asked = once words some.0 asked some.1 asks in
-    options_complete one asked files holds node answer old new there is stays below linked put
-    (subst (λ (it : Asked). OptionsAnswer it files answer old new) same some.2)
+    options_complete one asked files holds node end change reaches there is stays below linked put
+    (subst (λ (it : Asked). OptionsAnswer it files end change reaches) same some.2)
+
+-- faults of an answer that blames links or journal were counted
+links_blamed : (answer : Status) (old new : Outside) → Faults answer old new → answer ≡ status.LinkFault →
+    Rose old.links.faults new.links.faults
+links_blamed answer old new faults is =
+    let counted : Faults status.LinkFault old new = subst (λ (it : Status). Faults it old new) is faults in
+    counted.0.rose
+
+journal_blamed : (answer : Status) (old new : Outside) → Faults answer old new → answer ≡ status.OutFault →
+    Rose old.journal.faults new.journal.faults
+journal_blamed answer old new faults is =
+    let counted : Faults status.OutFault old new = subst (λ (it : Status). Faults it old new) is faults in
+    counted.1.rose
+
+pub complete : OneLoaded → OneAsked → (words : List (List ℕ)) (files : FilesChange) (end : End)
+    (change : NodeChange) (reaches : Names → Type 0) → NodeAnswer words files end change reaches →
+    Faults end.status change.old change.new → IsComplete words files end.status change.old change.new
+complete one once words files end change reaches answer faults asked node holds asks is there stays below still under
+    quiet less =
+    answer_complete one once words files end change reaches asked node holds answer asks is there stays below
+    (λ linked. not_risen _ _ still under (links_blamed end.status change.old change.new faults linked))
+    (λ put. not_risen _ _ quiet less (journal_blamed end.status change.old change.new faults put))

@@ -1,7 +1,7 @@
 -- A node has one beginning, or is refused with one status.
-use Rattle.std.proofs.Common.{◌≡◌, ◌≢◌, ◌⊎◌, inl, inr, ℕ, ◌<◌, ◌≤◌, ℤ, List, length, map, take, get_or, Option, Some}
+use Rattle.std.proofs.Common.{◌≡◌, ◌≢◌, ◌⊎◌, inl, inr, ℕ, ◌<◌, ◌≤◌, List, length, map, take, get_or, Option, Some}
 use Rattle.std.proofs.Common.{sym, ap, ap₂, ◌∙◌}
-use Rattle.std.proofs.Common.{subst, arith, Err, ⊎_elim}
+use Rattle.std.proofs.Common.{subst, arith, Err}
 use Rattle.std.specs.Prelude.{All, slice_get}
 use Rattle.std.proofs.lemmas.List.{get_or-take, length-take}
 use Rattle.std.proofs.lemmas.Bool.{cases_eq, cases_lt}
@@ -11,88 +11,70 @@ use Rattle.js_base.specs.declared.limits.TheConstants.{SPLIT_FILE_BYTES}
 use Rattle.js_base.proofs.Options.{some_same}
 use Rattle.host_code.specs.Code.{CodeShape}
 use Rattle.host_decl.specs.Hosts.{HostsShape, HostShape}
-use Rattle.jif_tree.specs.declared.program.Field.{Field}
-use Rattle.event_text.specs.Lines.{said_lines}
-use Rattle.event_text.specs.Settings.{FieldForm}
-use Rattle.event_text.specs.Start.{program_form, start_of_lines}
+use Rattle.event_text.specs.Settings.{form_of}
 use Rattle.split_file.specs.declared.error.SplitError.{SplitError}
 use Rattle.split_file.specs.File.{file_code}
 use Rattle.front_end.specs.PlacedCode.{code_of}
-use Rattle.front_end.specs.PlacedSources.{PlacedSource, PlacedSources}
+use Rattle.front_end.specs.PlacedSources.{PlacedSources}
 use Rattle.front_end.specs.Loads.{FilesChange, Told}
 use Rattle.front_end.specs.Sources.{HostsRead}
 use Rattle.front_end.specs.Stages.{Outcome, given, stopped, Then}
-use Rattle.front_end.specs.Starting.{StartingValues, long, bad_line, read}
-use Rattle.front_end.specs.Verdicts.{VerdictShape}
-use Rattle.front_end.proofs.OneStart.{start_moved, start_once}
+use Rattle.front_end.specs.Starting.{StartingValues}
+use Rattle.front_end.specs.Verdicts.{VerdictShape, too_long}
+use Rattle.front_end.proofs.OneStart.{start_once}
 use Rattle.front_end.proofs.Stages.{IsOne, give, one_then, stop_with}
-use Rattle.node_engine.specs.NodeSources.{AreHostsOf, CodeNode, CodeRead, IsNamed, NodeSource}
+use Rattle.node_engine.specs.NodeSources.{AreHostsOf, CodeRead, IsNamed, NodeSource, bad_code, no_host, other_hosts}
 use Rattle.node_engine.specs.NodeSources.{NodeSources, NodeStart, NodeStarts, OfHost, PlacedNode, Valued}
-use Rattle.node_engine.specs.Nodes.{LoadedNode, name_of}
-use Rattle.node_engine.specs.Options.{Asked, SourceName, Program as from_program, Code as from_code}
+use Rattle.node_engine.specs.Nodes.{LoadedNode}
+use Rattle.node_engine.specs.Options.{Asked, SourceName, Program as from_program, Code as from_code, name_of}
 
 -- what is known of programs and host files
 pub record OneSources : Type 0 where
   pub plans : (program hosts : List ℕ) → IsOne (PlacedSources program hosts)
   pub hosts : (bytes : List ℕ) → IsOne (HostsRead bytes)
 
--- ---- starting values
-
-valued_once : (file start : List ℕ) (fields : List Field) (code : CodeShape) (hosts : HostsShape) →
-    IsOne (Valued file start fields code hosts)
-valued_once file start fields code hosts =
-    one_then (StartingValues file start fields)
+valued_once : (file start : List ℕ) (code : CodeShape) (hosts : HostsShape) → IsOne (Valued file start code hosts)
+valued_once file start code hosts =
+    one_then (StartingValues file start (map form_of code.fields))
     (λ values end. end ≡ given (record { code = code; hosts = hosts; values = values }))
-    (start_once file start fields) (λ values was first second one two. one ∙ sym two)
-
--- where values of others are those of these fields
-valued_moved : (file start : List ℕ) (fields others : List Field) (code : CodeShape) (hosts : HostsShape)
-    (end : Outcome NodeSource) →
-    ((values : Outcome (List (List ℤ))) → StartingValues file start others values →
-    StartingValues file start fields values) →
-    Valued file start others code hosts end → Valued file start fields code hosts end
-valued_moved file start fields others code hosts end moved valued =
-    ⊎_elim (λ left. inl (left.0, moved (given left.0) left.1, left.2))
-    (λ right. inr (right.0, moved (stopped right.0) right.1, right.2)) valued
-
-placed_once : (file start : List ℕ) (placed : PlacedSource) → IsOne (PlacedNode file start placed)
-placed_once file start placed first second one two =
-    valued_once file start one.0.fields.items (code_of placed) placed.source.file first second one.2
-    (valued_moved file start one.0.fields.items two.0.fields.items (code_of placed) placed.source.file second
-    (λ values was. start_moved file start one.0 two.0 values (one.1 ∙ sym two.1) was) two.2)
-
--- fields of the same forms start alike
-same_forms : (file start : List ℕ) (fields others : List Field) (values : Outcome (List (List ℤ))) →
-    map program_form fields ≡ map program_form others → StartingValues file start others values →
-    StartingValues file start fields values
-same_forms file start fields others _ same (long more) = long more
-same_forms file start fields others _ same (bad_line line short is) =
-    bad_line line short (ap (λ (forms : List FieldForm). start_of_lines forms (said_lines start)) same ∙ is)
-same_forms file start fields others _ same (read values short is) =
-    read values short (ap (λ (forms : List FieldForm). start_of_lines forms (said_lines start)) same ∙ is)
-
-code_node_once : (file start : List ℕ) (code : CodeShape) (hosts : HostsShape) → IsOne (CodeNode file start code hosts)
-code_node_once file start code hosts first second one two =
-    valued_once file start one.0 code hosts first second one.2
-    (valued_moved file start one.0 two.0 code hosts second
-    (λ values was. same_forms file start one.0 two.0 values (one.1 ∙ sym two.1) was) two.2)
+    (start_once file start (map form_of code.fields)) (λ values was first second one two. one ∙ sym two)
 
 -- ---- the code of a split file
 
--- bytes that are the file of a code are not refused
-read_or_not : (bytes : List ℕ) (code : CodeShape) → CodeRead bytes (given code) →
-    ((SPLIT_FILE_BYTES < length bytes)
-    ⊎ ((length bytes ≤ SPLIT_FILE_BYTES) × (why : SplitError) × (file_code bytes ≡ Err why))) → ⊥
-read_or_not bytes code one (inl more) = omega (arith, one.0)
-read_or_not bytes code one (inr refused) = let no = sym one.1 ∙ refused.2 in cc
+abbrev Refused : (name bytes : List ℕ) → VerdictShape → Type 0
+Refused name bytes verdict =
+    ((SPLIT_FILE_BYTES < length bytes) × (verdict ≡ too_long name))
+    ⊎ ((why : SplitError) × (length bytes ≤ SPLIT_FILE_BYTES) × (file_code bytes ≡ Err why)
+    × (verdict ≡ bad_code name why))
 
-code_read_once : (bytes : List ℕ) → IsOne (CodeRead bytes)
-code_read_once bytes (given first) (given second) one two =
+-- bytes that are the file of a code are not refused
+read_or_not : (name bytes : List ℕ) (code : CodeShape) (verdict : VerdictShape) → CodeRead name bytes (given code) →
+    Refused name bytes verdict → ⊥
+read_or_not name bytes code verdict one (inl more) = let many = more.0 in omega (arith, one.0)
+read_or_not name bytes code verdict one (inr refused) = let no = sym one.1 ∙ refused.2 in cc
+
+-- and they are for one cause
+refused_once : (name bytes : List ℕ) (first second : VerdictShape) → Refused name bytes first →
+    Refused name bytes second → first ≡ second
+refused_once name bytes first second (inl one) (inl two) = one.1 ∙ sym two.1
+refused_once name bytes first second (inl one) (inr two) =
+    let many = one.0 in let few = two.1 in absurd (let never : ⊥ = omega arith in never)
+refused_once name bytes first second (inr one) (inl two) =
+    let many = two.0 in let few = one.1 in absurd (let never : ⊥ = omega arith in never)
+refused_once name bytes first second (inr one) (inr two) =
+    let both = sym one.2 ∙ two.2 in
+    let same : one.0 ≡ two.0 = cc in one.3 ∙ ap (bad_code name) same ∙ sym two.3
+
+code_read_once : (name bytes : List ℕ) → IsOne (CodeRead name bytes)
+code_read_once name bytes (given first) (given second) one two =
     let both = sym one.1 ∙ two.1 in
     let same : first ≡ second = cc in ap (give {X = CodeShape}) same
-code_read_once bytes (given first) (stopped verdict) one two = absurd (read_or_not bytes first one two.0)
-code_read_once bytes (stopped verdict) (given second) one two = absurd (read_or_not bytes second two one.0)
-code_read_once bytes (stopped verdict) (stopped other) one two = ap (stop_with {X = CodeShape}) (one.1 ∙ sym two.1)
+code_read_once name bytes (given first) (stopped verdict) one two =
+    absurd (read_or_not name bytes first verdict one two)
+code_read_once name bytes (stopped verdict) (given second) one two =
+    absurd (read_or_not name bytes second verdict two one)
+code_read_once name bytes (stopped verdict) (stopped other) one two =
+    ap (stop_with {X = CodeShape}) (refused_once name bytes verdict other one two)
 
 -- ---- sources
 
@@ -100,12 +82,12 @@ source_once : OneSources → (name : SourceName) (source hosts file start : List
     IsOne (NodeSources name source hosts file start)
 source_once laws (from_program name) source hosts file start =
     one_then (PlacedSources source hosts) (PlacedNode file start) (laws.plans source hosts)
-    (λ placed was. placed_once file start placed)
+    (λ placed was. valued_once file start (code_of placed) placed.source.file)
 source_once laws (from_code name) source hosts file start =
-    one_then (CodeRead source) (λ code. Then (HostsRead hosts) (λ hosts. CodeNode file start code hosts))
-    (code_read_once source)
-    (λ code was. one_then (HostsRead hosts) (λ hosts. CodeNode file start code hosts) (laws.hosts hosts)
-    (λ hosts was. code_node_once file start code hosts))
+    one_then (CodeRead name source) (λ code. Then (HostsRead hosts) (Valued file start code))
+    (code_read_once name source)
+    (λ code was. one_then (HostsRead hosts) (Valued file start code) (laws.hosts hosts)
+    (λ hosts was. valued_once file start code hosts))
 
 -- ---- the node's host
 
@@ -133,40 +115,59 @@ same_host hosts name me other one two =
     ] in
     ap (λ (n : ℕ). record { 0 = n }) same
 
--- a host that is found is not missing, and hosts that are alike are not unlike
-found_or_not : (name : List ℕ) (source : NodeSource) (node : NodeStart) (verdict : VerdictShape) →
-    OfHost name source (given node) → OfHost name source (stopped verdict) → ⊥
-found_or_not name source node verdict one two = refuted two.0
-  where
-    refuted : (All (λ row. row.name ≢ name) source.hosts.hosts ⊎ (¬ AreHostsOf source.code source.hosts.hosts)) → ⊥
-    refuted (inl none) =
-        let named = one.1 in
-        let within : node.me.0 < length source.hosts.hosts =
-        slice_get_within source.hosts.hosts node.me.0 named.0 named.1 in
-        let row : get_or source.hosts.hosts node.me.0 named.0 ≡ named.0 =
-        some_same (slice_get source.hosts.hosts node.me.0) (get_or source.hosts.hosts node.me.0 named.0) named.0
-        (slice_get-get_or source.hosts.hosts node.me.0 named.0 within) named.1 in
-        none node.me.0 named.0 within (ap (λ (it : HostShape). it.name) row ∙ named.2)
-    refuted (inr unlike) = unlike one.2
+-- a host that is found is not missing
+found_or_none : (hosts : HostsShape) (name : List ℕ) (me : HostId) → IsNamed hosts name me →
+    All (λ row. row.name ≢ name) hosts.hosts → ⊥
+found_or_none hosts name me named none =
+    let within : me.0 < length hosts.hosts = slice_get_within hosts.hosts me.0 named.0 named.1 in
+    let row : get_or hosts.hosts me.0 named.0 ≡ named.0 =
+    some_same (slice_get hosts.hosts me.0) (get_or hosts.hosts me.0 named.0) named.0
+    (slice_get-get_or hosts.hosts me.0 named.0 within) named.1 in
+    none me.0 named.0 within (ap (λ (it : HostShape). it.name) row ∙ named.2)
 
-host_once : (name : List ℕ) (source : NodeSource) → IsOne (OfHost name source)
-host_once name source (given first) (given second) one two =
+abbrev Missing : (name code hosts : List ℕ) → NodeSource → VerdictShape → Type 0
+Missing name code hosts source verdict =
+    (All (λ row. row.name ≢ name) source.hosts.hosts × (verdict ≡ no_host name))
+    ⊎ ((me : HostId) × IsNamed source.hosts name me × (¬ AreHostsOf source.code source.hosts.hosts)
+    × (verdict ≡ other_hosts code hosts))
+
+-- and hosts that are alike are not unlike
+found_or_not : (name code hosts : List ℕ) (source : NodeSource) (node : NodeStart) (verdict : VerdictShape) →
+    OfHost name code hosts source (given node) → Missing name code hosts source verdict → ⊥
+found_or_not name code hosts source node verdict one (inl none) =
+    found_or_none source.hosts name node.me one.1 none.0
+found_or_not name code hosts source node verdict one (inr unlike) = unlike.2 one.2
+
+missing_once : (name code hosts : List ℕ) (source : NodeSource) (first second : VerdictShape) →
+    Missing name code hosts source first → Missing name code hosts source second → first ≡ second
+missing_once name code hosts source first second (inl one) (inl two) = one.1 ∙ sym two.1
+missing_once name code hosts source first second (inl one) (inr two) =
+    absurd (found_or_none source.hosts name two.0 two.1 one.0)
+missing_once name code hosts source first second (inr one) (inl two) =
+    absurd (found_or_none source.hosts name one.0 one.1 two.0)
+missing_once name code hosts source first second (inr one) (inr two) = one.3 ∙ sym two.3
+
+host_once : (name code hosts : List ℕ) (source : NodeSource) → IsOne (OfHost name code hosts source)
+host_once name code hosts source (given first) (given second) one two =
     let me : first.me ≡ second.me = same_host source.hosts name first.me second.me one.1 two.1 in
     ap (give {X = NodeStart})
     (ap₂ (λ (it : NodeSource) (host : HostId). record { source = it; me = host }) (one.0 ∙ sym two.0) me)
-host_once name source (given first) (stopped verdict) one two =
-    absurd (found_or_not name source first verdict one two)
-host_once name source (stopped verdict) (given second) one two =
-    absurd (found_or_not name source second verdict two one)
-host_once name source (stopped verdict) (stopped other) one two = ap (stop_with {X = NodeStart}) (one.1 ∙ sym two.1)
+host_once name code hosts source (given first) (stopped verdict) one two =
+    absurd (found_or_not name code hosts source first verdict one two)
+host_once name code hosts source (stopped verdict) (given second) one two =
+    absurd (found_or_not name code hosts source second verdict two one)
+host_once name code hosts source (stopped verdict) (stopped other) one two =
+    ap (stop_with {X = NodeStart}) (missing_once name code hosts source verdict other one two)
 
 -- ---- nodes
 
 pub node_once : OneSources → (asked : Asked) (source hosts start : List ℕ) →
     IsOne (NodeStarts asked source hosts start)
 node_once laws asked source hosts start =
-    one_then (NodeSources asked.source source hosts asked.start start) (OfHost asked.host)
-    (source_once laws asked.source source hosts asked.start start) (λ it was. host_once asked.host it)
+    one_then (NodeSources asked.source source hosts asked.start start)
+    (OfHost asked.host (name_of asked.source) asked.hosts)
+    (source_once laws asked.source source hosts asked.start start)
+    (λ it was. host_once asked.host (name_of asked.source) asked.hosts it)
 
 -- the same bytes are held where files tell them
 told_once : (holds : List ℕ → Option (List ℕ)) (held : Option (List ℕ → Option (List ℕ))) (name first second : List ℕ) →

@@ -6,13 +6,13 @@ use Rattle.js_base.specs.declared.ids.HostId.{HostId}
 use Rattle.js_base.specs.declared.status.Status.{Status}
 use Rattle.js_base.specs.declared.status.Status.TheVariants as status
 use Rattle.host_code.specs.Code.{CodeShape}
-use Rattle.host_core.specs.Host.{HostShape}
 use Rattle.node_engine.specs.declared.node_error.NodeError.{NodeError}
 use Rattle.node_engine.specs.NodeWorlds.{NodeWorld, Part, do_all, BreaksIn}
-use Rattle.node_engine.specs.Serving.{status_of, Closes, EndsAt, Serves, StopsIn, has_ended, stage_by, stage_of}
+use Rattle.node_engine.specs.Statuses.{status_of}
+use Rattle.node_engine.specs.Serving.{Closes, EndsAt, Serves, StopsIn, has_ended, stage_by, stage_of}
 use Rattle.node_engine.specs.Serving.{is_told, halts, goes_on}
-use Rattle.node_engine.specs.Told.{Outside, Told, TellsOf}
-use Rattle.node_engine.specs.Units.{AreUnitParts}
+use Rattle.node_engine.specs.Told.{Seen, Told, TellsOf}
+use Rattle.node_engine.specs.Units.{AreUnitParts, IsUnit}
 
 -- ---- how it ends
 
@@ -22,7 +22,7 @@ NoUnits answer world new = (answer ≡ status.Spent) × (new ≡ world)
 abbrev MoreUnits : CodeShape → HostId → ℕ → Status → NodeWorld → NodeWorld → Type 0
 MoreUnits code me units answer world new =
     (parts : List Part) × AreUnitParts code me world parts
-    × (StopsIn answer parts world new ⊎ Serves code me units answer (do_all parts world) new)
+    × (StopsIn answer parts world new ⊎ (IsUnit world × Serves code me units answer (do_all parts world) new))
 
 ends_halted : (code : CodeShape) (me : HostId) (answer : Status) (world new : NodeWorld) (Otherwise : Type 0) →
     stage_of code me world ≡ halts → Closes code me answer world new →
@@ -57,91 +57,99 @@ serves_broken code me units answer world new parts stage are stops =
     (parts, are, inl stops)
 
 serves_more : (code : CodeShape) (me : HostId) (units : ℕ) (answer : Status) (world new : NodeWorld)
-    (parts : List Part) → stage_of code me world ≡ goes_on → AreUnitParts code me world parts →
+    (parts : List Part) → stage_of code me world ≡ goes_on → AreUnitParts code me world parts → IsUnit world →
     Serves code me units answer (do_all parts world) new → Serves code me (suc units) answer world new
-serves_more code me units answer world new parts stage are serves =
+serves_more code me units answer world new parts stage are unit serves =
     subst (λ it. EndsAt code me it answer world new (MoreUnits code me units answer world new)) (sym stage)
-    (parts, are, inr serves)
+    (parts, are, inr (unit, serves))
 
 -- ---- the stage of a world that is told
 
-stage_is : (code : CodeShape) (me : HostId) (world : NodeWorld) (host : HostShape) (there : Outside) (ended : Bool) →
-    Told world host there → world.ended ≡ false → ended ≡ has_ended code me host →
+stage_is : (code : CodeShape) (me : HostId) (world : NodeWorld) (there : Seen) (ended : Bool) →
+    Told world there → world.ended ≡ false → ended ≡ has_ended code me there.host →
     stage_of code me world ≡ stage_by false ended
-stage_is code me world host there ended told not_yet is =
+stage_is code me world there ended told not_yet is =
     ap₂ stage_by not_yet (ap (has_ended code me) (sym told.host_is) ∙ sym is)
 
 -- ---- the units so far
 
 -- Whatever follows from here in the units that are left follows in all of them from the start.
-abbrev pub ServesOn : CodeShape → HostId → (units done : ℕ) → (first : HostShape) (old : Outside) (host : HostShape)
-    (here : Outside) → Type 0
-ServesOn code me units done first old host here =
-    (world : NodeWorld) → Told world first old → world.ended ≡ false →
-    (now : NodeWorld) × Told now host here × (now.ended ≡ false)
+abbrev pub ServesOn : CodeShape → HostId → (units done : ℕ) → (old here : Seen) → Type 0
+ServesOn code me units done old here =
+    (world : NodeWorld) → Told world old → world.ended ≡ false →
+    (now : NodeWorld) × Told now here × (now.ended ≡ false)
     × ((answer : Status) (new : NodeWorld) → Serves code me (units - done) answer now new →
     Serves code me units answer world new)
 
 -- what a unit leaves, and what breaks one
-abbrev UnitDone : CodeShape → HostId → (host later : HostShape) (here there : Outside) → Bool → Type 0
-UnitDone code me host later here there ended =
-    (world : NodeWorld) → Told world host here → world.ended ≡ false →
-    (parts : List Part) × AreUnitParts code me world parts × Told (do_all parts world) later there
+abbrev UnitDone : CodeShape → HostId → (here there : Seen) → Bool → Type 0
+UnitDone code me here there ended =
+    (world : NodeWorld) → Told world here → world.ended ≡ false →
+    (parts : List Part) × AreUnitParts code me world parts × IsUnit world × Told (do_all parts world) there
     × ((do_all parts world).ended ≡ ended)
 
-abbrev UnitBroken : CodeShape → HostId → (host later : HostShape) (here there : Outside) → NodeError → Type 0
-UnitBroken code me host later here there error =
-    (world : NodeWorld) → Told world host here →
-    (parts : List Part) × AreUnitParts code me world parts × TellsOf (BreaksIn error parts world) later there
+abbrev UnitBroken : CodeShape → HostId → (here there : Seen) → NodeError → Type 0
+UnitBroken code me here there error =
+    (world : NodeWorld) → Told world here →
+    (parts : List Part) × AreUnitParts code me world parts × TellsOf (BreaksIn error parts world) there
 
-abbrev Ends : CodeShape → HostId → ℕ → Status → (first : HostShape) (old : Outside) (later : HostShape)
-    (there : Outside) → Type 0
-Ends code me units answer first old later there =
-    (world : NodeWorld) → Told world first old → world.ended ≡ false →
-    TellsOf (Serves code me units answer world) later there
+abbrev Ends : CodeShape → HostId → ℕ → Status → (old there : Seen) → Type 0
+Ends code me units answer old there =
+    (world : NodeWorld) → Told world old → world.ended ≡ false → TellsOf (Serves code me units answer world) there
 
-pub serves_on : (code : CodeShape) (me : HostId) (units done : ℕ) (first : HostShape) (old : Outside)
-    (host later : HostShape) (here there : Outside) → done < units →
-    ServesOn code me units done first old host here → false ≡ has_ended code me host →
-    UnitDone code me host later here there false → ServesOn code me units (done + 1) first old later there
-serves_on code me units done first old host later here there lt on goes unit world told not_yet =
+-- of the code and the number of a node that are the same yet
+pub same_unit : (code own : CodeShape) (me my : HostId) (here there : Seen) (ended : Bool) → own ≡ code → my ≡ me →
+    UnitDone own my here there ended → UnitDone code me here there ended
+same_unit code own me my here there ended codes numbers unit =
+    subst (λ (m : HostId). UnitDone code m here there ended) numbers
+    (subst (λ (k : CodeShape). UnitDone k my here there ended) codes unit)
+
+pub same_break : (code own : CodeShape) (me my : HostId) (here there : Seen) (error : NodeError) → own ≡ code →
+    my ≡ me → UnitBroken own my here there error → UnitBroken code me here there error
+same_break code own me my here there error codes numbers unit =
+    subst (λ (m : HostId). UnitBroken code m here there error) numbers
+    (subst (λ (k : CodeShape). UnitBroken k my here there error) codes unit)
+
+pub serves_on : (code : CodeShape) (me : HostId) (units done : ℕ) (old here there : Seen) → done < units →
+    ServesOn code me units done old here → false ≡ has_ended code me here.host →
+    UnitDone code me here there false → ServesOn code me units (done + 1) old there
+serves_on code me units done old here there lt on goes unit world told not_yet =
     let at = on world told not_yet in
     let did = unit at.0 at.1 at.2 in
     let left : units - done ≡ suc (units - (done + 1)) = omega arith in (
       do_all did.0 at.0,
-      did.2,
       did.3,
+      did.4,
       λ answer new serves.
           at.3 answer new
           (subst (λ left. Serves code me left answer at.0 new) (sym left)
           (serves_more code me (units - (done + 1)) answer at.0 new did.0
-          (stage_is code me at.0 host here false at.1 at.2 goes) did.1 serves)),
+          (stage_is code me at.0 here false at.1 at.2 goes) did.1 did.2 serves)),
     )
 
-pub ends_told : (code : CodeShape) (me : HostId) (units done : ℕ) (first : HostShape) (old : Outside)
-    (host later : HostShape) (here there : Outside) → done < units →
-    ServesOn code me units done first old host here → false ≡ has_ended code me host →
-    UnitDone code me host later here there true → Ends code me units status.Done first old later there
-ends_told code me units done first old host later here there lt on goes unit world told not_yet =
+pub ends_told : (code : CodeShape) (me : HostId) (units done : ℕ) (old here there : Seen) → done < units →
+    ServesOn code me units done old here → false ≡ has_ended code me here.host →
+    UnitDone code me here there true → Ends code me units status.Done old there
+ends_told code me units done old here there lt on goes unit world told not_yet =
     let at = on world told not_yet in
     let did = unit at.0 at.1 at.2 in
     let left : units - done ≡ suc (units - (done + 1)) = omega arith in
     let after = do_all did.0 at.0 in (
       after,
-      did.2,
+      did.3,
       at.3 status.Done after
           (subst (λ left. Serves code me left status.Done at.0 after) (sym left)
           (serves_more code me (units - (done + 1)) status.Done at.0 after did.0
-          (stage_is code me at.0 host here false at.1 at.2 goes) did.1
+          (stage_is code me at.0 here false at.1 at.2 goes) did.1 did.2
           (serves_told code me (units - (done + 1)) after
-          (ap (λ (told : Bool). stage_by told (has_ended code me after.host)) did.3)))),
+          (ap (λ (told : Bool). stage_by told (has_ended code me after.host)) did.4)))),
     )
 
-pub ends_broken : (code : CodeShape) (me : HostId) (units done : ℕ) (first : HostShape) (old : Outside)
-    (host later : HostShape) (here there : Outside) (error : NodeError) (answer : Status) → done < units →
-    ServesOn code me units done first old host here → false ≡ has_ended code me host → answer ≡ status_of error →
-    UnitBroken code me host later here there error → Ends code me units answer first old later there
-ends_broken code me units done first old host later here there error answer lt on goes is unit world told not_yet =
+pub ends_broken : (code : CodeShape) (me : HostId) (units done : ℕ) (old here there : Seen) (error : NodeError)
+    (answer : Status) → done < units → ServesOn code me units done old here →
+    false ≡ has_ended code me here.host → answer ≡ status_of error →
+    UnitBroken code me here there error → Ends code me units answer old there
+ends_broken code me units done old here there error answer lt on goes is unit world told not_yet =
     let at = on world told not_yet in
     let did = unit at.0 at.1 in
     let end = did.2 in
@@ -151,32 +159,41 @@ ends_broken code me units done first old host later here there error answer lt o
       at.3 answer end.0
           (subst (λ left. Serves code me left answer at.0 end.0) (sym left)
           (serves_broken code me (units - (done + 1)) answer at.0 end.0 did.0
-          (stage_is code me at.0 host here false at.1 at.2 goes) did.1 (error, is, end.2))),
+          (stage_is code me at.0 here false at.1 at.2 goes) did.1 (error, is, end.2))),
     )
 
-pub ends_closed : (code : CodeShape) (me : HostId) (units done : ℕ) (first : HostShape) (old : Outside)
-    (host : HostShape) (here there : Outside) (answer : Status) → ServesOn code me units done first old host here →
-    true ≡ has_ended code me host →
-    ((world : NodeWorld) (host : HostShape) → Told world host here →
-    TellsOf (Closes code me answer world) host there) → Ends code me units answer first old host there
-ends_closed code me units done first old host here there answer on halted closes world told not_yet =
+-- the closing frames, of the node's code and number
+abbrev Closing : CodeShape → HostId → Status → (here there : Seen) → Type 0
+Closing code me answer here there =
+    (world : NodeWorld) → Told world here → TellsOf (Closes code me answer world) there
+
+pub same_closing : (code own : CodeShape) (me my : HostId) (answer : Status) (here there : Seen) → own ≡ code →
+    my ≡ me → Closing own my answer here there → Closing code me answer here there
+same_closing code own me my answer here there codes numbers closing =
+    subst (λ (m : HostId). Closing code m answer here there) numbers
+    (subst (λ (k : CodeShape). Closing k my answer here there) codes closing)
+
+pub ends_closed : (code : CodeShape) (me : HostId) (units done : ℕ) (old here there : Seen) (answer : Status) →
+    ServesOn code me units done old here → true ≡ has_ended code me here.host →
+    Closing code me answer here there → Ends code me units answer old there
+ends_closed code me units done old here there answer on halted closes world told not_yet =
     let at = on world told not_yet in
-    let end = closes at.0 host at.1 in (
+    let end = closes at.0 at.1 in (
       end.0,
       end.1,
       at.3 answer end.0
           (serves_halted code me (units - done) answer at.0 end.0
-          (stage_is code me at.0 host here true at.1 at.2 halted) end.2),
+          (stage_is code me at.0 here true at.1 at.2 halted) end.2),
     )
 
-pub ends_spent : (code : CodeShape) (me : HostId) (units done : ℕ) (first : HostShape) (old : Outside)
-    (host : HostShape) (here : Outside) → units - done ≡ 0 → ServesOn code me units done first old host here →
-    false ≡ has_ended code me host → Ends code me units status.Spent first old host here
-ends_spent code me units done first old host here none on goes world told not_yet =
+pub ends_spent : (code : CodeShape) (me : HostId) (units done : ℕ) (old here : Seen) → units - done ≡ 0 →
+    ServesOn code me units done old here → false ≡ has_ended code me here.host →
+    Ends code me units status.Spent old here
+ends_spent code me units done old here none on goes world told not_yet =
     let at = on world told not_yet in (
       at.0,
       at.1,
       at.3 status.Spent at.0
           (subst (λ left. Serves code me left status.Spent at.0 at.0) (sym none)
-          (serves_spent code me at.0 (stage_is code me at.0 host here false at.1 at.2 goes))),
+          (serves_spent code me at.0 (stage_is code me at.0 here false at.1 at.2 goes))),
     )

@@ -4,6 +4,7 @@ use Rattle.std.proofs.Common.{ap, ◌∙◌, subst, if◌then◌else◌, Result,
 use Rattle.std.specs.Prelude.{IsSome, is_none}
 use Rattle.std.proofs.lemmas.Bool.{cases_eq, cases_lt, false≢true}
 use Rattle.js_base.specs.declared.ids.HostId.{HostId}
+use Rattle.js_base.specs.declared.status.Status.TheVariants as status
 use Rattle.js_base.proofs.Decisions.{Decided, both, never}
 use Rattle.host_code.specs.declared.message.Message.{Message}
 use Rattle.host_code.specs.declared.message.Message.TheVariants as message
@@ -24,9 +25,13 @@ use Rattle.node_engine.specs.declared.arrivals.Arrival.TheVariants as arrival
 use Rattle.node_engine.specs.declared.node_error.NodeError.{NodeError}
 use Rattle.node_engine.specs.Arrivals.{IsForNode, Arrives, ArrivesAs, arrival_of}
 use Rattle.node_engine.specs.JournalLines.{turn_line, take_line, done_line, drop_line}
-use Rattle.node_engine.specs.NodeWorlds.{NodeWorld, Part, Taking, Hearing, Line, do_part, do_all, BreaksIn}
-use Rattle.node_engine.specs.Told.{Outside, Told, TellsOf, Takes, Does, Stops, Works, Fails}
+use Rattle.node_engine.specs.NodeWorlds.{NodeWorld, Part, Taking, Hearing, Line, do_part, do_all}
+use Rattle.node_engine.specs.declared.node.Node.{Node}
+use Rattle.node_engine.specs.Statuses.{status_of}
+use Rattle.node_engine.specs.Told.{Seen, Told, Takes, Does, DoesUnit, Stops, StopsUnit}
 use Rattle.node_engine.specs.Units.{AreUnitParts, AreUnitPartsOf, AreTurnParts, AreTakingParts, AreArrivalParts}
+use Rattle.node_engine.specs.Units.{IsUnit}
+use Rattle.node_engine.proofs.Breaking.{breaks_first, leaves_later}
 use Rattle.node_engine.specs.Units.{hearing_parts, sending_parts, step_parts}
 
 -- ---- whether the root said that the program is done
@@ -46,74 +51,36 @@ step_keeps code me line outcome parts world is =
 abbrev hearing : Bool → List ℕ → List Part
 hearing is_root line = (if is_root then Hearing ∷ [] else []) ++ Line line ∷ []
 
-pub heard_works : (is_root : Bool) (line : List ℕ) (host : HostShape) (old new : Outside) →
-    Does (Line line ∷ []) old new → Works (hearing is_root line) host host old new
-heard_works true line host old new does = record {
-  after = λ world told.
-      does.after (do_part Hearing world) host
-      (record {
-        host_is = told.host_is;
-        left_is = told.left_is;
-        sent_is = told.sent_is;
-        journal_is = told.journal_is;
-      });
+-- a world is told alike once the root's word is heard
+heard_alike : (world : NodeWorld) (there : Seen) → Told world there → Told (do_part Hearing world) there
+heard_alike world there told = record {
+  host_is = told.host_is;
+  left_is = told.left_is;
+  sent_is = told.sent_is;
+  journal_is = told.journal_is;
 }
-heard_works false line host old new does = record { after = λ world told. does.after world host told }
 
-pub heard_fails : (error : NodeError) (is_root : Bool) (line : List ℕ) (host : HostShape) (old new : Outside) →
-    Stops error (Line line ∷ []) old new → Fails error (hearing is_root line) host host old new
-heard_fails error true line host old new stops = record {
-  after = λ world told.
-      let end = stops.after (do_part Hearing world) host
-      (record {
-        host_is = told.host_is;
-        left_is = told.left_is;
-        sent_is = told.sent_is;
-        journal_is = told.journal_is;
-      }) in
-      (end.0, end.1, inr end.2);
+pub heard_does : (is_root : Bool) (line : List ℕ) (old new : Seen) → Does (Line line ∷ []) old new →
+    Does (hearing is_root line) old new
+heard_does true line old new does = record {
+  after = λ world told. does.after (do_part Hearing world) (heard_alike world old told);
+  leaves = does.leaves;
 }
-heard_fails error false line host old new stops = record { after = λ world told. stops.after world host told }
+heard_does false line old new does = does
+
+pub heard_stops : (error : NodeError) (is_root : Bool) (line : List ℕ) (old new : Seen) →
+    Stops error (Line line ∷ []) old new → Stops error (hearing is_root line) old new
+heard_stops error true line old new stops = record {
+  after = λ world told.
+      let end = stops.after (do_part Hearing world) (heard_alike world old told) in (end.0, end.1, inr end.2);
+  leaves = stops.leaves;
+}
+heard_stops error false line old new stops = stops
 
 pub heard_ended : (is_root : Bool) (line : List ℕ) (world : NodeWorld) → world.ended ≡ false →
     (do_all (hearing is_root line) world).ended ≡ is_root
 heard_ended true line world not_yet = refl
 heard_ended false line world not_yet = not_yet
-
--- ---- a frame that is taken
-
-pub taking_works : (code : CodeShape) (me : HostId) (bytes : List ℕ) (arrival : Arrival) (before later : HostShape)
-    (old mid new : Outside) (parts : List Part) (ended : Bool) → Takes bytes old mid → Arrives code me bytes arrival →
-    AreArrivalParts code me before arrival parts → Works parts before later mid new →
-    ((world : NodeWorld) → world.ended ≡ false → (do_all parts world).ended ≡ ended) →
-    (world : NodeWorld) → Told world before old → world.ended ≡ false →
-    (all : List Part) × AreTakingParts code me before world.left all × Told (do_all all world) later new
-    × ((do_all all world).ended ≡ ended)
-taking_works code me bytes arrival before later old mid new parts ended takes arrives are works hears world told
-    not_yet =
-    let taken = takes.after world before told in
-    let left = taken.1.1 in (
-      Taking ∷ parts,
-      subst (λ left. AreTakingParts code me before left (Taking ∷ parts)) (sym left)
-          (arrival, parts, arrives, are, refl),
-      works.after (do_part Taking world) taken.0,
-      hears (do_part Taking world) not_yet,
-    )
-
-pub taking_fails : (code : CodeShape) (me : HostId) (bytes : List ℕ) (arrival : Arrival) (before later : HostShape)
-    (old mid new : Outside) (parts : List Part) (error : NodeError) → Takes bytes old mid →
-    Arrives code me bytes arrival → AreArrivalParts code me before arrival parts →
-    Fails error parts before later mid new → (world : NodeWorld) → Told world before old →
-    (all : List Part) × AreTakingParts code me before world.left all × TellsOf (BreaksIn error all world) later new
-taking_fails code me bytes arrival before later old mid new parts error takes arrives are fails world told =
-    let taken = takes.after world before told in
-    let left = taken.1.1 in
-    let end = fails.after (do_part Taking world) taken.0 in (
-      Taking ∷ parts,
-      subst (λ left. AreTakingParts code me before left (Taking ∷ parts)) (sym left)
-          (arrival, parts, arrives, are, refl),
-      (end.0, end.1, inr end.2),
-    )
 
 -- ---- the next unit
 
@@ -125,7 +92,7 @@ pub a_thread : (running : Option ThreadShape) → false ≡ is_none running → 
 a_thread None runs = absurd (false≢true runs)
 a_thread (Some thread) runs = refl
 
-pub unit_of_taking : (code : CodeShape) (me : HostId) (world : NodeWorld) (host : HostShape) (parts : List Part) →
+unit_of_taking : (code : CodeShape) (me : HostId) (world : NodeWorld) (host : HostShape) (parts : List Part) →
     host ≡ world.host → host.running ≡ None → AreTakingParts code me host world.left parts →
     AreUnitParts code me world parts
 unit_of_taking code me world host parts same rests are =
@@ -140,11 +107,112 @@ turn_of code me world None parts is some are = absurd (false≢true some)
 turn_of code me world (Some thread) parts is some are =
     subst (λ running. AreUnitPartsOf code me world running parts) (sym is) are
 
-pub unit_of_turn : (code : CodeShape) (me : HostId) (world : NodeWorld) (host : HostShape) (parts : List Part) →
+unit_of_turn : (code : CodeShape) (me : HostId) (world : NodeWorld) (host : HostShape) (parts : List Part) →
     host ≡ world.host → IsSome host.running → AreTurnParts code me host parts → AreUnitParts code me world parts
 unit_of_turn code me world host parts same runs are =
     turn_of code me world host.running parts (ap (λ (h : HostShape). h.running) (sym same)) runs
     (subst (λ h. AreTurnParts code me h parts) same are)
+
+runs_is_unit : (world : NodeWorld) (host : HostShape) → host ≡ world.host → IsSome host.running → IsUnit world
+runs_is_unit world host same runs none =
+    let nothing : host.running ≡ None = ap (λ (h : HostShape). h.running) same ∙ none in
+    absurd (false≢true (subst IsSome nothing runs))
+
+-- a thread runs, and its instruction is done
+pub turn_does : {L R : Type 0} (node : Node L R) (parts : List Part) (outcome : Outcome) (old new : Seen) →
+    IsSome old.host.running → IsTurn node.code.now old.host outcome →
+    parts ≡ step_parts node.code.now node.me turn_line outcome → Does parts old new → DoesUnit false node old new
+turn_does node parts outcome old new runs turn is does = record {
+  after = λ world told not_yet. (
+    parts,
+    unit_of_turn node.code.now node.me world old.host parts told.host_is runs (outcome, turn, is),
+    runs_is_unit world old.host told.host_is runs,
+    does.after world told,
+    step_keeps node.code.now node.me turn_line outcome parts world is ∙ not_yet,
+  );
+  leaves = does.leaves;
+}
+
+-- or breaks
+pub turn_stops : {L R : Type 0} (error : NodeError) (node : Node L R) (parts : List Part) (outcome : Outcome)
+    (old new : Seen) → IsSome old.host.running → IsTurn node.code.now old.host outcome →
+    parts ≡ step_parts node.code.now node.me turn_line outcome → Stops error parts old new →
+    StopsUnit error node old new
+turn_stops error node parts outcome old new runs turn is stops = record {
+  after = λ world told. (
+    parts,
+    unit_of_turn node.code.now node.me world old.host parts told.host_is runs (outcome, turn, is),
+    stops.after world told,
+  );
+  leaves = stops.leaves;
+}
+
+-- ---- a frame that is taken
+
+pub taking_does : {L R : Type 0} (node : Node L R) (bytes : List ℕ) (arrival : Arrival) (old mid new : Seen)
+    (parts : List Part) (ended : Bool) → old.host.running ≡ None → mid.host ≡ old.host →
+    Takes bytes old mid → Arrives node.code.now node.me bytes arrival →
+    AreArrivalParts node.code.now node.me mid.host arrival parts → Does parts mid new →
+    ((world : NodeWorld) → world.ended ≡ false → (do_all parts world).ended ≡ ended) → DoesUnit ended node old new
+taking_does node bytes arrival old mid new parts ended rests same takes arrives are does hears = record {
+  after = λ world told not_yet.
+      let taken = takes.after world told in
+      let left = taken.1.1 in (
+        Taking ∷ parts,
+        unit_of_taking node.code.now node.me world old.host (Taking ∷ parts) told.host_is rests
+            (subst (λ left. AreTakingParts node.code.now node.me old.host left (Taking ∷ parts)) (sym left) (
+              arrival,
+              parts,
+              arrives,
+              subst (λ h. AreArrivalParts node.code.now node.me h arrival parts) same are,
+              refl,
+            )),
+        (λ none empty. let never : ⊥ = cc in never),
+        does.after (do_part Taking world) taken.0,
+        hears (do_part Taking world) not_yet,
+      );
+  leaves = leaves_later status.Done old.outside mid.outside new.outside takes.leaves does.leaves;
+}
+
+pub taking_stops_later : {L R : Type 0} (error : NodeError) (node : Node L R) (bytes : List ℕ) (arrival : Arrival)
+    (old mid new : Seen) (parts : List Part) → old.host.running ≡ None → mid.host ≡ old.host →
+    Takes bytes old mid → Arrives node.code.now node.me bytes arrival →
+    AreArrivalParts node.code.now node.me mid.host arrival parts → Stops error parts mid new →
+    StopsUnit error node old new
+taking_stops_later error node bytes arrival old mid new parts rests same takes arrives are stops = record {
+  after = λ world told.
+      let taken = takes.after world told in
+      let left = taken.1.1 in
+      let end = stops.after (do_part Taking world) taken.0 in (
+        Taking ∷ parts,
+        unit_of_taking node.code.now node.me world old.host (Taking ∷ parts) told.host_is rests
+            (subst (λ left. AreTakingParts node.code.now node.me old.host left (Taking ∷ parts)) (sym left) (
+              arrival,
+              parts,
+              arrives,
+              subst (λ h. AreArrivalParts node.code.now node.me h arrival parts) same are,
+              refl,
+            )),
+        (end.0, end.1, inr end.2),
+      );
+  leaves = leaves_later (status_of error) old.outside mid.outside new.outside takes.leaves stops.leaves;
+}
+
+-- the taking itself breaks
+pub taking_stops_first : {L R : Type 0} (error : NodeError) (node : Node L R) (old new : Seen) →
+    old.host.running ≡ None → Stops error (Taking ∷ []) old new →
+    ((left : List (List ℕ)) →
+    (others : List Part) × AreTakingParts node.code.now node.me old.host left (Taking ∷ others)) →
+    StopsUnit error node old new
+taking_stops_first error node old new rests stops some = record {
+  after = λ world told.
+      let others = some world.left in (
+        Taking ∷ others.0,
+        unit_of_taking node.code.now node.me world old.host (Taking ∷ others.0) told.host_is rests others.1,
+        (breaks_first error Taking others.0 old new stops).after world told,
+      );
+  leaves = stops.leaves;
+}
 
 -- ---- there are parts
 

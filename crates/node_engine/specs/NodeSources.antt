@@ -1,16 +1,11 @@
 -- What a node begins with: the code of all hosts, the hosts of a host file, and starting values. The code comes from a
 -- program, which is placed on the hosts, or from a split file.
-use Rattle.std.specs.Prelude.{◌≡◌, ◌≢◌, ◌⊎◌, ℕ, ◌<◌, ◌≤◌, ℤ, List, [], length, map, Some, Ok, Err, All, slice_get, take}
+use Rattle.std.specs.Prelude.{◌≡◌, ◌≢◌, ◌⊎◌, ℕ, ◌<◌, ◌≤◌, ℤ, List, length, map, Some, Ok, Err, All, slice_get, take}
 use Rattle.js_base.specs.declared.ids.HostId.{HostId}
 use Rattle.js_base.specs.declared.limits.TheConstants.{SPLIT_FILE_BYTES}
-use Rattle.js_base.specs.declared.status.Status.TheVariants.{InputRefused}
 use Rattle.host_code.specs.Code.{CodeShape, CodeHostShape}
 use Rattle.host_decl.specs.Hosts.{HostsShape, HostShape}
-use Rattle.jif_tree.specs.declared.program.Field.{Field}
-use Rattle.jif_tree.specs.declared.program.Program.{Program}
-use Rattle.jif_tree.specs.Trees.{program_tree}
 use Rattle.event_text.specs.Settings.{form_of}
-use Rattle.event_text.specs.Start.{program_form}
 use Rattle.split_file.specs.declared.error.SplitError.{SplitError}
 use Rattle.split_file.specs.File.{file_code}
 use Rattle.front_end.specs.PlacedCode.{code_of}
@@ -18,14 +13,22 @@ use Rattle.front_end.specs.PlacedSources.{PlacedSource, PlacedSources}
 use Rattle.front_end.specs.Sources.{HostsRead}
 use Rattle.front_end.specs.Stages.{Outcome, given, stopped, Then}
 use Rattle.front_end.specs.Starting.{StartingValues}
-use Rattle.front_end.specs.Verdicts.{VerdictShape, Refuse}
+use Rattle.front_end.specs.Refusals as refusals
+use Rattle.front_end.specs.Verdicts.{VerdictShape, Refuse, too_long}
 use Rattle.node_engine.specs.declared.node_source.NodeSource as native
 use Rattle.node_engine.specs.declared.node_start.NodeStart as native_start
-use Rattle.node_engine.specs.Options.{SourceName, Program as from_program, Code as from_code, Asked}
+use Rattle.node_engine.specs.Options.{SourceName, Program as from_program, Code as from_code, Asked, name_of}
 
--- a file of the node is refused
-abbrev pub input_refused : VerdictShape
-input_refused = Refuse InputRefused []
+-- ---- what a node alone refuses
+
+abbrev pub bad_code : (file : List ℕ) → SplitError → VerdictShape
+bad_code file why = Refuse (refusals.BadCode file why)
+
+abbrev pub no_host : (name : List ℕ) → VerdictShape
+no_host name = Refuse (refusals.NoHost name)
+
+abbrev pub other_hosts : (code hosts : List ℕ) → VerdictShape
+other_hosts code hosts = Refuse (refusals.OtherHosts code hosts)
 
 pub record NodeSource : Type 0 where
   pub code : CodeShape
@@ -34,38 +37,30 @@ pub record NodeSource : Type 0 where
 
 -- ---- the stages
 
--- the values that a file of this name gives to fields, with their code and hosts
-abbrev pub Valued : (file start : List ℕ) → List Field → CodeShape → HostsShape → Outcome NodeSource → Type 0
-Valued file start fields code hosts =
-    Then (StartingValues file start fields)
+-- the values that a file of this name gives to the fields of a code, with the code and its hosts
+abbrev pub Valued : (file start : List ℕ) → CodeShape → HostsShape → Outcome NodeSource → Type 0
+Valued file start code hosts =
+    Then (StartingValues file start (map form_of code.fields))
     (λ values end. end ≡ given (record { code = code; hosts = hosts; values = values }))
 
--- a program in its places; the tree is that of some program
+-- a program in its places
 abbrev pub PlacedNode : (file start : List ℕ) → PlacedSource → Outcome NodeSource → Type 0
-PlacedNode file start placed end =
-    (program : Program) × (program_tree program ≡ placed.source.tree)
-    × Valued file start program.fields.items (code_of placed) placed.source.file end
+PlacedNode file start placed = Valued file start (code_of placed) placed.source.file
 
 abbrev pub FromProgram : (program hosts file start : List ℕ) → Outcome NodeSource → Type 0
 FromProgram program hosts file start = Then (PlacedSources program hosts) (PlacedNode file start)
 
--- the code of a split file
-abbrev pub CodeRead : List ℕ → Outcome CodeShape → Type 0
-CodeRead bytes (given code) = (length bytes ≤ SPLIT_FILE_BYTES) × (file_code bytes ≡ Ok code)
-CodeRead bytes (stopped verdict) =
-    ((SPLIT_FILE_BYTES < length bytes)
-    ⊎ ((length bytes ≤ SPLIT_FILE_BYTES) × (why : SplitError) × (file_code bytes ≡ Err why)))
-    × (verdict ≡ input_refused)
+-- the code of a split file of this name
+abbrev pub CodeRead : (name bytes : List ℕ) → Outcome CodeShape → Type 0
+CodeRead name bytes (given code) = (length bytes ≤ SPLIT_FILE_BYTES) × (file_code bytes ≡ Ok code)
+CodeRead name bytes (stopped verdict) =
+    ((SPLIT_FILE_BYTES < length bytes) × (verdict ≡ too_long name))
+    ⊎ ((why : SplitError) × (length bytes ≤ SPLIT_FILE_BYTES) × (file_code bytes ≡ Err why)
+    × (verdict ≡ bad_code name why))
 
--- the fields have the names, sizes and first values of the code's
-abbrev pub CodeNode : (file start : List ℕ) → CodeShape → HostsShape → Outcome NodeSource → Type 0
-CodeNode file start code hosts end =
-    (fields : List Field) × (map program_form fields ≡ map form_of code.fields)
-    × Valued file start fields code hosts end
-
-abbrev pub FromCode : (code hosts file start : List ℕ) → Outcome NodeSource → Type 0
-FromCode code hosts file start =
-    Then (CodeRead code) (λ code. Then (HostsRead hosts) (λ hosts. CodeNode file start code hosts))
+abbrev pub FromCode : (name code hosts file start : List ℕ) → Outcome NodeSource → Type 0
+FromCode name code hosts file start =
+    Then (CodeRead name code) (λ code. Then (HostsRead hosts) (Valued file start code))
 
 -- ---- the node's host
 
@@ -83,27 +78,30 @@ abbrev pub AreHostsOf : CodeShape → List HostShape → Type 0
 AreHostsOf code rows = map named_host rows ≡ code.hosts
 
 -- What a node is of a source: the number of the host of a name. It is refused where the host file has no such host, and
--- where the code's hosts are not those of the host file.
+-- then where the code's hosts are not those of the host file.
 pub record NodeStart : Type 0 where
   pub source : NodeSource
   pub me : HostId
 
-abbrev pub OfHost : List ℕ → NodeSource → Outcome NodeStart → Type 0
-OfHost name source (given node) =
+-- the files have the code and the hosts
+abbrev pub OfHost : (name code hosts : List ℕ) → NodeSource → Outcome NodeStart → Type 0
+OfHost name code hosts source (given node) =
     (node.source ≡ source) × IsNamed source.hosts name node.me × AreHostsOf source.code source.hosts.hosts
-OfHost name source (stopped verdict) =
-    (All (λ row. row.name ≢ name) source.hosts.hosts ⊎ (¬ AreHostsOf source.code source.hosts.hosts))
-    × (verdict ≡ input_refused)
+OfHost name code hosts source (stopped verdict) =
+    (All (λ row. row.name ≢ name) source.hosts.hosts × (verdict ≡ no_host name))
+    ⊎ ((me : HostId) × IsNamed source.hosts name me × (¬ AreHostsOf source.code source.hosts.hosts)
+    × (verdict ≡ other_hosts code hosts))
 
 -- ---- all stages, where the files hold these bytes
 
 abbrev pub NodeSources : SourceName → (source hosts file start : List ℕ) → Outcome NodeSource → Type 0
 NodeSources (from_program name) source hosts file start = FromProgram source hosts file start
-NodeSources (from_code name) source hosts file start = FromCode source hosts file start
+NodeSources (from_code name) source hosts file start = FromCode name source hosts file start
 
 abbrev pub NodeStarts : Asked → (source hosts start : List ℕ) → Outcome NodeStart → Type 0
 NodeStarts asked source hosts start =
-    Then (NodeSources asked.source source hosts asked.start start) (OfHost asked.host)
+    Then (NodeSources asked.source source hosts asked.start start)
+    (OfHost asked.host (name_of asked.source) asked.hosts)
 
 -- ---- in the program
 

@@ -1,10 +1,10 @@
 -- A node from its words and files to its end: what is due, and what is left of links and journal.
-use Rattle.std.specs.Prelude.{◌≡◌, ◌⊎◌, ⊤, ℕ, false, List, [], ◌∷◌, Option, Some, slice_get}
+use Rattle.std.specs.Prelude.{◌≡◌, ◌⊎◌, ◌<◌, ℕ, false, List, [], ◌∷◌, map, Option, Some, None, slice_get}
+use Rattle.std.specs.Option.{option_map}
+use Rattle.js_base.specs.Counts.{last_count}
 use Rattle.js_base.specs.declared.limits.TheConstants.{PROGRAM_BYTES, SPLIT_FILE_BYTES}
-use Rattle.js_base.specs.declared.ids.HostId.{HostId}
 use Rattle.js_base.specs.declared.status.Status.{Status}
 use Rattle.js_base.specs.declared.status.Status.TheVariants as status
-use Rattle.host_code.specs.Code.{CodeShape}
 use Rattle.host_core.specs.Host.{HostShape}
 use Rattle.host_core.specs.Start.{host_at_start}
 use Rattle.host_decl.specs.Hosts as declared_hosts
@@ -13,18 +13,19 @@ use Rattle.front_end.specs.declared.stop.Stop.TheVariants as stop
 use Rattle.front_end.specs.Loading.{StopsLoading}
 use Rattle.front_end.specs.Loads.{FilesChange, LoadsWell, Told as TellsFile}
 use Rattle.front_end.specs.Stages.{Outcome, given, stopped}
+use Rattle.front_end.specs.Refusals.{RefusalShape, refusal_shape, refusal_status}
 use Rattle.front_end.specs.Verdicts.{VerdictShape, Refuse, Print, verdict_shape}
+use Rattle.node_links.specs.Journals.{Named}
+use Rattle.node_engine.specs.declared.node_end.NodeEnd as native
+use Rattle.node_engine.specs.Beginnings.{Beginning, BeginsNothing, EndsUnbegun, LinksBegan}
 use Rattle.node_engine.specs.NodeSources.{NodeStart, NodeStarts}
 use Rattle.node_engine.specs.NodeWorlds.{NodeWorld}
-use Rattle.node_engine.specs.Options.{Asked, IsAsked, SourceName, Program, Code}
-use Rattle.node_engine.specs.Serving.{IsServed, Serves}
-use Rattle.node_engine.specs.Told.{Outside, Told, TellsOf}
+use Rattle.node_engine.specs.Options.{Asked, IsAsked, SourceName, Program, Code, name_of}
+use Rattle.node_engine.specs.Serving.{Serves}
+use Rattle.node_engine.specs.Statuses.{IsEnded, IsServed}
+use Rattle.node_engine.specs.Told.{Names, NodeChange, Outside, Told, TellsOf}
 
 -- ---- files
-
-abbrev pub name_of : SourceName → List ℕ
-name_of (Program name) = name
-name_of (Code name) = name
 
 abbrev pub most_of : SourceName → ℕ
 most_of (Program name) = PROGRAM_BYTES
@@ -54,61 +55,86 @@ pub record LoadedNode (asked : Asked) (files : FilesChange) (end : Outcome NodeS
 abbrev pub IsNodeDue : Asked → FilesChange → Outcome NodeStart → Type 0
 IsNodeDue asked files end = NotLoaded asked files end ⊎ LoadedNode asked files end
 
--- ---- statuses
+-- ---- ends
 
--- that of a refused program, a file fault, or that of another file that is refused
-abbrev pub refusal_status : Status → Status
-refusal_status status.SourceRefused = status.SourceRefused
-refusal_status status.FileFault = status.FileFault
-refusal_status _ = status.InputRefused
+-- the status with which a node ends, and the refusal, where one was due
+pub record End : Type 0 where
+  pub status : Status
+  pub refusal : Option RefusalShape
 
-abbrev pub status_due : VerdictShape → Status
-status_due (Refuse status line) = refusal_status status
-status_due (Print status text) = refusal_status status
+abbrev pub without_refusal : Status → End
+without_refusal answer = record { status = answer; refusal = None }
 
-abbrev pub IsStatusOf : Stop → Status → Type 0
-IsStatusOf stop.OutOfMemory answer = answer ≡ status.NoMemory
-IsStatusOf (stop.Due verdict) answer = answer ≡ status_due (verdict_shape verdict)
+-- nothing is printed by a node, so what is due where it stops is a refusal
+abbrev pub end_of : VerdictShape → End
+end_of (Refuse refusal) = record { status = refusal_status refusal; refusal = Some refusal }
+end_of (Print answer text) = without_refusal status.InputRefused
+
+abbrev pub IsEndOf : Stop → End → Type 0
+IsEndOf stop.OutOfMemory end = end ≡ without_refusal status.NoMemory
+IsEndOf (stop.Due verdict) end = end ≡ end_of (verdict_shape verdict)
+
+-- how a node of the program ends
+abbrev pub end_shape : native.NodeEnd → End
+end_shape end = record { status = end.status; refusal = option_map refusal_shape end.refusal }
 
 -- ---- the run
 
--- with these a node may end before its first unit
-abbrev pub IsUnbegun : Status → Type 0
-IsUnbegun status.LinkFault = ⊤
-IsUnbegun status.OutFault = ⊤
-IsUnbegun status.NoMemory = ⊤
-IsUnbegun _ = ⊥
+-- with what the node of a row begins
+abbrev pub beginning_of : NodeStart → declared_hosts.HostShape → Beginning
+beginning_of node row = record {
+  me = node.me;
+  paths = map (λ (other : declared_hosts.HostShape). other.path) node.source.hosts.hosts;
+  name = row.name;
+}
 
--- nothing was sent or noted, or the node serves
-abbrev pub Runs : CodeShape → HostId → ℕ → Status → NodeWorld → NodeWorld → Type 0
-Runs code me turns answer world new = (IsUnbegun answer × (new ≡ world)) ⊎ Serves code me turns answer world new
-
--- It ends as a node does that has begun; and where links and journal tell what they gave and took, it ran from the host
--- as it starts, with the key of its row.
-pub record RunsNode (turns : ℕ) (node : NodeStart) (answer : Status) (old new : Outside) : Type 0 where
-  pub row : declared_hosts.HostShape
-  pub row_is : slice_get node.source.hosts.hosts node.me.0 ≡ Some row
+-- It began, and then served; and where links and journal tell what they gave and took, it did so from the host as it
+-- starts, with the key of its row. A journal says nothing of its names when something is put: so they are said of the
+-- moment before the first put. Links keep as whom they began.
+pub record ServesNode
+    (turns : ℕ) (node : NodeStart) (row : declared_hosts.HostShape) (answer : Status) (change : NodeChange)
+    (reaches : Names → Type 0) : Type 0 where
+  pub links : LinksBegan (beginning_of node row) change
+  pub names : Names
+  pub named : Named row.name change.names_before names
+  pub reached : reaches names
   pub served : IsServed answer
   pub runs : (world : NodeWorld) →
-      Told world (host_at_start node.source.code node.source.values row.key node.me) old → world.ended ≡ false →
-      (later : HostShape) × TellsOf (Runs node.source.code node.me turns answer world) later new
+      Told world
+      (record { host = host_at_start node.source.code node.source.values row.key node.me; outside = change.old }) →
+      world.ended ≡ false →
+      (later : HostShape) × TellsOf (Serves node.source.code node.me turns answer world)
+      (record { host = later; outside = change.new })
+
+-- a node of a row of the host file does not come to its first unit, or serves
+abbrev pub RunsNode : ℕ → NodeStart → Status → NodeChange → (Names → Type 0) → Type 0
+RunsNode turns node answer change reaches =
+    (row : declared_hosts.HostShape) × (slice_get node.source.hosts.hosts node.me.0 ≡ Some row)
+    × (EndsUnbegun (beginning_of node row) answer change ⊎ ServesNode turns node row answer change reaches)
 
 -- ---- answers
 
--- a node that is asked for: it does not begin, and links and journal stay; or it runs
-abbrev pub OptionsAnswer : Asked → FilesChange → Status → Outside → Outside → Type 0
-OptionsAnswer asked files answer old new =
-    (((answer ≡ status.NoMemory)
-    ⊎ ((verdict : VerdictShape) × IsNodeDue asked files (stopped verdict) × (answer ≡ status_due verdict)))
-    × (new ≡ old))
-    ⊎ ((node : NodeStart) × IsNodeDue asked files (given node) × RunsNode asked.turns node answer old new)
+-- a node that is asked for: it is refused or memory runs out before it begins; or it runs
+abbrev pub OptionsAnswer : Asked → FilesChange → End → NodeChange → (Names → Type 0) → Type 0
+OptionsAnswer asked files end change reaches =
+    (((end ≡ without_refusal status.NoMemory)
+    ⊎ ((verdict : VerdictShape) × IsNodeDue asked files (stopped verdict) × (end ≡ end_of verdict)))
+    × BeginsNothing change)
+    ⊎ ((node : NodeStart) × IsNodeDue asked files (given node)
+    × RunsNode asked.turns node end.status change reaches × (end.refusal ≡ None))
 
 -- words ask for a node, or they ask for none, or memory ran out
-abbrev pub NodeAnswer : List (List ℕ) → FilesChange → Status → Outside → Outside → Type 0
-NodeAnswer words files answer old new =
-    ((answer ≡ status.NoMemory) × (new ≡ old))
-    ⊎ ((answer ≡ status.Usage) × ((asked : Asked) → ¬ IsAsked words asked) × (new ≡ old))
-    ⊎ ((asked : Asked) × IsAsked words asked × OptionsAnswer asked files answer old new)
+abbrev pub NodeAnswer : List (List ℕ) → FilesChange → End → NodeChange → (Names → Type 0) → Type 0
+NodeAnswer words files end change reaches =
+    ((end ≡ without_refusal status.NoMemory) × BeginsNothing change)
+    ⊎ ((end ≡ without_refusal status.Usage) × ((asked : Asked) → ¬ IsAsked words asked) × BeginsNothing change)
+    ⊎ ((asked : Asked) × IsAsked words asked × OptionsAnswer asked files end change reaches)
+
+-- of the status alone
+abbrev pub NodeAnswers : List (List ℕ) → FilesChange → Status → NodeChange → (Names → Type 0) → Type 0
+NodeAnswers words files answer change reaches =
+    (refusal : Option RefusalShape)
+    × NodeAnswer words files (record { status = answer; refusal = refusal }) change reaches
 
 -- ---- files that are accepted
 
@@ -122,9 +148,11 @@ pub record HoldsNode (asked : Asked) (holds : List ℕ → Option (List ℕ)) (n
   pub start_is : holds asked.start ≡ Some start
   pub starts : NodeStarts asked source hosts start (given node)
 
--- with these a node ends where nothing outside fails
-abbrev pub IsEnded : Status → Type 0
-IsEnded status.Done = ⊤
-IsEnded status.Spent = ⊤
-IsEnded status.NoMemory = ⊤
-IsEnded _ = ⊥
+-- Where the files that the words name are accepted, and neither they nor links nor journal count a fault, the node ends
+-- as one does where nothing outside fails.
+abbrev pub IsComplete : List (List ℕ) → FilesChange → Status → (old new : Outside) → Type 0
+IsComplete words files answer old new =
+    (asked : Asked) (node : NodeStart) (holds : List ℕ → Option (List ℕ)) → IsAsked words asked →
+    files.held ≡ Some holds → HoldsNode asked holds node → files.faults_after ≡ files.faults_before →
+    files.faults_before < last_count → new.links.faults ≡ old.links.faults → old.links.faults < last_count →
+    new.journal.faults ≡ old.journal.faults → old.journal.faults < last_count → IsEnded answer

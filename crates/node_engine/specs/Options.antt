@@ -43,6 +43,11 @@ pub data SourceName : Type 0 where
   Program : List ℕ → SourceName
   Code : List ℕ → SourceName
 
+-- the file that it names
+abbrev pub name_of : SourceName → List ℕ
+name_of (Program name) = name
+name_of (Code name) = name
+
 pub record Asked : Type 0 where
   pub source : SourceName
   pub hosts : List ℕ

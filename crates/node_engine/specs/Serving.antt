@@ -1,5 +1,5 @@
 -- What a node does in so many units, and how it ends.
-use Rattle.std.specs.Prelude.{◌≡◌, ◌⊎◌, ⊤, ℕ, zero, suc, ◌+◌, Bool, true, false, ◌==◌, ◌&&◌, if◌then◌else◌}
+use Rattle.std.specs.Prelude.{◌≡◌, ◌⊎◌, ℕ, zero, suc, ◌+◌, Bool, true, false, ◌==◌, ◌&&◌, if◌then◌else◌}
 use Rattle.std.specs.Prelude.{List, [], ◌∷◌, ◌++◌, length}
 use Rattle.js_base.specs.declared.ids.HostId.{HostId}
 use Rattle.js_base.specs.declared.status.Status.{Status}
@@ -9,15 +9,9 @@ use Rattle.host_core.specs.Host.{HostShape}
 use Rattle.wire_msg.specs.declared.frame.Frame.TheVariants as frame
 use Rattle.wire_msg.specs.Spelling.{frame_bytes}
 use Rattle.node_engine.specs.declared.node_error.NodeError.{NodeError}
-use Rattle.node_engine.specs.declared.node_error.NodeError.TheVariants as node_error
 use Rattle.node_engine.specs.NodeWorlds.{NodeWorld, Part, Sending, do_all, BreaksIn}
-use Rattle.node_engine.specs.Units.{AreUnitParts}
-
--- the status of an error
-abbrev pub status_of : NodeError → Status
-status_of node_error.OutOfMemory = status.NoMemory
-status_of node_error.LinkFault = status.LinkFault
-status_of node_error.OutFault = status.OutFault
+use Rattle.node_engine.specs.Statuses.{status_of}
+use Rattle.node_engine.specs.Units.{AreUnitParts, IsUnit}
 
 -- parts break, by an error of this status
 abbrev pub StopsIn : Status → List Part → NodeWorld → NodeWorld → Type 0
@@ -79,13 +73,4 @@ Serves code me zero answer world new =
 Serves code me (suc units) answer world new =
     EndsAt code me (stage_of code me world) answer world new
     ((parts : List Part) × AreUnitParts code me world parts
-    × (StopsIn answer parts world new ⊎ Serves code me units answer (do_all parts world) new))
-
--- with these a node ends that has begun
-abbrev pub IsServed : Status → Type 0
-IsServed status.Done = ⊤
-IsServed status.Spent = ⊤
-IsServed status.LinkFault = ⊤
-IsServed status.OutFault = ⊤
-IsServed status.NoMemory = ⊤
-IsServed _ = ⊥
+    × (StopsIn answer parts world new ⊎ (IsUnit world × Serves code me units answer (do_all parts world) new)))

@@ -1,5 +1,5 @@
 -- The units of a node's work. A unit is one instruction where a thread runs, and one frame taken otherwise.
-use Rattle.std.specs.Prelude.{◌≡◌, ℕ, ◌==◌, if◌then◌else◌, List, [], ◌∷◌, ◌++◌, Option, Some, None}
+use Rattle.std.specs.Prelude.{◌≡◌, ◌≢◌, ℕ, ◌==◌, if◌then◌else◌, List, [], ◌∷◌, ◌++◌, Option, Some, None}
 use Rattle.js_base.specs.declared.ids.HostId.{HostId}
 use Rattle.host_code.specs.declared.message.Message.{Message}
 use Rattle.host_code.specs.Code.{CodeShape}
@@ -63,3 +63,7 @@ AreUnitPartsOf code me world None parts = AreTakingParts code me world.host worl
 -- the parts of the next unit
 abbrev pub AreUnitParts : CodeShape → HostId → NodeWorld → List Part → Type 0
 AreUnitParts code me world parts = AreUnitPartsOf code me world world.host.running parts
+
+-- a unit can be done: a thread runs, or a frame is left to take
+abbrev pub IsUnit : NodeWorld → Type 0
+IsUnit world = world.host.running ≡ None → world.left ≢ []

@@ -1,13 +1,9 @@
 //! Laws of what a node does.
 
-ghost use Rattle.std.specs.Prelude.{◌≡◌, ◌∷◌, ◌++◌, [], ℕ, List, Option, Some, codes};
-ghost use Rattle.front_end.specs.Loads.{FilesChange};
-ghost use Rattle.front_end.specs.Stages.{Outcome};
-ghost use Rattle.node_engine.specs.NodeSources.{NodeStart, NodeStarts};
-ghost use Rattle.node_engine.specs.Nodes.{LoadedNode};
-ghost use Rattle.node_engine.specs.Options.{Asked};
+ghost use Rattle.std.specs.Prelude.{◌≡◌, ◌∷◌, ◌++◌, [], ℕ, List, codes};
 ghost use Rattle.js_base.specs.declared.text.TheConstants.{LINE_FEED};
 ghost use Rattle.js_base.specs.declared.ids.HostId.{HostId};
+ghost use Rattle.js_base.specs.declared.status.Status.{Status};
 ghost use Rattle.host_code.specs.Code.{CodeShape};
 ghost use Rattle.host_core.specs.Host.{HostShape};
 ghost use Rattle.wire_msg.specs.declared.error.WireError.TheVariants as wire_error;
@@ -17,10 +13,10 @@ ghost use Rattle.node_engine.specs.declared.arrivals.Arrival.{Arrival};
 ghost use Rattle.node_engine.specs.declared.arrivals.Arrival.TheVariants as arrival;
 ghost use Rattle.node_engine.specs.Arrivals.{Arrives};
 ghost use Rattle.node_engine.specs.NodeWorlds.{NodeWorld, Part, Taking, Line, Sending};
-ghost use Rattle.node_engine.specs.Serving.{closing_from};
+ghost use Rattle.node_engine.specs.Notes.{IsNoted};
+ghost use Rattle.node_engine.specs.Serving.{Serves, closing_from};
 ghost use Rattle.node_engine.specs.Units.{AreArrivalParts, AreTakingParts, AreUnitParts};
 
-use front_end::source_laws;
 use host_core::step_laws;
 use wire_msg::wire_laws;
 
@@ -42,6 +38,10 @@ pub fn unit_laws()
     ensures one_parts { (code : CodeShape) (me : HostId) (world : NodeWorld) (first second : List Part) →
         AreUnitParts code me world first → AreUnitParts code me world second → first ≡ second }
 
+    // However a node ends, the whole lines of its journal tell the steps that its host made, or all but the last.
+    ensures steps_noted { (code : CodeShape) (me : HostId) (units : ℕ) (answer : Status) (world new : NodeWorld) →
+        Serves code me units answer world new → IsNoted code world.host new.host world.journal new.journal }
+
     // Worked: no bytes are dropped as a frame that is too short, and have one line in the journal.
     ensures worked_short { (code : CodeShape) (me : HostId) → Arrives code me [] (arrival.Dropped wire_error.Short) }
     ensures worked_line { (code : CodeShape) (me : HostId) (host : HostShape) (parts : List Part) →
@@ -57,18 +57,4 @@ pub fn unit_laws()
 {
     step_laws();
     wire_laws();
-}
-
-/// Laws of what a node begins with. The call does nothing.
-pub fn node_laws()
-    // What the files of a node hold gives one node, or is refused with one status.
-    ensures one_node { (asked : Asked) (source hosts start : List ℕ) (first second : Outcome NodeStart) →
-        NodeStarts asked source hosts start first → NodeStarts asked source hosts start second → first ≡ second }
-
-    // Two nodes that are due by what files hold are the same.
-    ensures one_loaded { (asked : Asked) (files : FilesChange) (holds : List ℕ → Option (List ℕ))
-        (first second : Outcome NodeStart) → files.held ≡ Some holds →
-        LoadedNode asked files first → LoadedNode asked files second → first ≡ second }
-{
-    source_laws();
 }

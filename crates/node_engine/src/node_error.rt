@@ -1,7 +1,7 @@
 //! Why a node's work breaks off.
 
 ghost use Rattle.std.specs.Prelude.{◌≡◌};
-ghost use Rattle.node_engine.specs.Serving.{status_of};
+ghost use Rattle.node_engine.specs.Statuses.{status_of};
 
 use js_base::{OutOfMemory, PutError, Status};
 use node_links::LinkError;

@@ -2,17 +2,19 @@
 
 ghost use Rattle.std.specs.Prelude.{◌≡◌, ◌≢◌, ◌<◌, ◌↔◌, ℕ, List, All, IfOk, IfSome, IfNone, IsTrue, length, map};
 ghost use Rattle.host_code.specs.Code.{CodeShape};
-ghost use Rattle.front_end.specs.Loading.{EndsAs};
+ghost use Rattle.std.specs.String.{string_bytes};
+ghost use Rattle.front_end.specs.Loading.{EndsAs, StopsWith};
 ghost use Rattle.js_base.specs.declared.limits.TheConstants.{HOSTS};
-ghost use Rattle.node_engine.specs.NodeSources.{IsNamed, IsStarted, OfHost, named_host, node_source, node_start};
+ghost use Rattle.node_engine.specs.NodeSources.{IsNamed, IsStarted, OfHost, named_host, no_host, node_source};
+ghost use Rattle.node_engine.specs.NodeSources.{node_start, other_hosts};
 
-use crate::node_source::{NodeSource, refused};
-use front_end::Stop;
+use crate::node_source::NodeSource;
+use front_end::{Refusal, Stop, Verdict};
 use host_code::{Code, CodeHost};
 use host_decl::{HostRow, Hosts};
 use js_base::HostId;
 use js_base::limits::HOSTS;
-use std::alloc::Global;
+use std::alloc::{AllocError, Global};
 
 /// A node before it begins: what it begins with, and the number of its host.
 #[derive(Drop)]
@@ -21,18 +23,54 @@ pub struct NodeStart {
     pub me: HostId,
 }
 
-/// The node of the host of this name, or what is due where there is no such host or the code is for other hosts.
-pub fn of_host(alloc: Global, source: NodeSource, name: &str) -> Result<NodeStart, Stop>
-    ensures due { EndsAs node_start (OfHost name.now (node_source source)) result }
+/// The node of the host of this name, or what is due where there is no such host or the code is for other hosts. The
+/// files of these names have the code and the hosts.
+pub fn of_host(
+    alloc: Global,
+    source: NodeSource,
+    name: &str,
+    code: &str,
+    hosts: &str,
+) -> Result<NodeStart, Stop>
+    ensures due { EndsAs node_start (OfHost name.now code.now hosts.now (node_source source)) result }
     ensures started { IfOk result IsStarted }
 {
     let Some(me) = host_named(&source.hosts, name) else {
-        return Err(refused(alloc));
+        return Err(no_host(alloc, name));
     };
     if !are_alike(source.code.hosts(), source.hosts.hosts()) {
-        return Err(refused(alloc));
+        return Err(other_hosts(alloc, code, hosts));
     }
     Ok(NodeStart { source, me })
+}
+
+/// The host file has no host of this name.
+fn no_host(alloc: Global, name: &str) -> Stop
+    ensures { StopsWith (λ verdict. verdict ≡ no_host name.now) result }
+{
+    match String::from_str(alloc, name) {
+        Ok(name) => Stop::Due(Verdict::Refuse(Refusal::NoHost { name })),
+        Err(AllocError) => Stop::OutOfMemory,
+    }
+}
+
+/// The code of a file is for other hosts than a host file has.
+fn other_hosts(alloc: Global, code: &str, hosts: &str) -> Stop
+    ensures { StopsWith (λ verdict. verdict ≡ other_hosts code.now hosts.now) result }
+{
+    match copies(alloc, code, hosts) {
+        Ok((code, hosts)) => Stop::Due(Verdict::Refuse(Refusal::OtherHosts { code, hosts })),
+        Err(AllocError) => Stop::OutOfMemory,
+    }
+}
+
+/// Two texts again.
+fn copies(alloc: Global, one: &str, other: &str) -> Result<(String, String), AllocError>
+    ensures { IfOk result (λ both. (string_bytes both.0 ≡ one.now) × (string_bytes both.1 ≡ other.now)) }
+{
+    let first = String::from_str(alloc, one)?;
+    let second = String::from_str(alloc, other)?;
+    Ok((first, second))
 }
 
 /// The number of the host of a name.

@@ -1,20 +1,19 @@
 //! A node at work: units one after the other, to the end of the program or of the turns that were given.
 
-ghost use Rattle.std.specs.Prelude.{◌≡◌, ◌<◌, ◌≤◌, ◌⊎◌, ◌+◌, ℕ, IsTrue, false, List, Option};
-ghost use Rattle.std.specs.Prelude.{IfErr, OnOk, IsErrOf, length, drop};
-ghost use Rattle.js_base.specs.Counts.{Rose};
+ghost use Rattle.std.specs.Prelude.{◌≡◌, ◌<◌, IfErr, OnOk};
 ghost use Rattle.js_base.specs.declared.limits.TheConstants.{HOSTS};
 ghost use Rattle.host_code.specs.Sound.{IsHost};
 ghost use Rattle.host_core.specs.Fits.{HostFits};
-ghost use Rattle.host_core.specs.Host.{HostShape, state_of};
+ghost use Rattle.host_core.specs.Host.{state_of};
 ghost use Rattle.node_engine.specs.NodeWorlds.{NodeWorld};
-ghost use Rattle.node_engine.specs.Serving.{Closes, IsServed, Serves, closing_parts, has_ended, telling};
-ghost use Rattle.node_engine.specs.Told.{Does, Outside, Stops, Told, TellsOf, links_told, outside};
+ghost use Rattle.node_engine.specs.Serving.{Closes, closing_parts, has_ended, telling};
+ghost use Rattle.node_engine.specs.Statuses.{IsServed};
+ghost use Rattle.node_engine.specs.Told.{Does, HasSameHost, IsReady, IsSameNode, Leaves, ServesFrom, Stops, Told};
+ghost use Rattle.node_engine.specs.Told.{TellsOf, outside, seen};
 
 use crate::laws::unit_laws;
+use crate::node::Node;
 use crate::node_error::NodeError;
-use crate::outside::sent;
-use crate::units::unit;
 use host_code::Code;
 use host_core::Host;
 use js_base::limits::HOSTS;
@@ -42,101 +41,108 @@ pub fn serve<L: Links, R: Sink>(
     requires me { host.old.me ≡ me }
     // Where links and journal tell what they gave and took, what they and the host are at the end is what so many units
     // leave, and the part that failed.
-    ensures serves { (world : NodeWorld) →
-        Told world (state_of host.old) (outside L.Links R.Sink links.old journal.old) →
-        world.ended ≡ false →
-        TellsOf (Serves code.now me units result world) (state_of host.new)
+    ensures serves { ServesFrom code.now me units result
+        (record { host = state_of host.old; outside = outside L.Links R.Sink links.old journal.old })
+        (record { host = state_of host.new; outside = outside L.Links R.Sink links.new journal.new }) }
+    // Whether they tell or not, it answers one of these. A fault was counted where it is answered, and no other.
+    ensures answers { IsServed result }
+    ensures leaves { Leaves result (outside L.Links R.Sink links.old journal.old)
         (outside L.Links R.Sink links.new journal.new) }
-    // Whether they tell or not, it answers one of these, and a fault only where it was counted in this call.
-    ensures answers { IsServed result }
-    ensures link_faults { L.faults links.old ≤ L.faults links.new }
-    ensures link_cause { result ≡ Status.LinkFault → Rose (L.faults links.old) (L.faults links.new) }
-    ensures journal_faults { R.faults journal.old ≤ R.faults journal.new }
-    ensures journal_cause { result ≡ Status.OutFault → Rose (R.faults journal.old) (R.faults journal.new) }
     ensures fits { HostFits code.now host.new }
+    ensures me { host.new.me ≡ me }
 {
-    unit_laws();
-    for _ in 0..units {
-        if has_closed(code, me, host) {
-            return closed(alloc, code, me, links);
+    let mut node = Node {
+        alloc,
+        code,
+        me,
+        host,
+        links,
+        journal,
+    };
+    node.serves(units)
+}
+
+impl<L: Links, R: Sink> Node<'_, '_, L, R> {
+    /// At most so many units.
+    fn serves(&mut self, units: u64) -> Status
+        requires { IsReady self.old }
+        ensures serves { ServesFrom self.old.code.now self.old.me units result (seen L.Links R.Sink self.old)
+            (seen L.Links R.Sink self.new) }
+        ensures answers { IsServed result }
+        ensures leaves { Leaves result (seen L.Links R.Sink self.old).outside
+            (seen L.Links R.Sink self.new).outside }
+        ensures ready { IsReady self.new }
+        ensures same { IsSameNode self.old self.new }
+    {
+        unit_laws();
+        for _ in 0..units {
+            if self.has_closed() {
+                return self.closed();
+            }
+            match self.unit() {
+                Ok(true) => return Status::Done,
+                Ok(false) => {}
+                Err(error) => return error.status(),
+            }
         }
-        match unit(alloc, host, code, me, links, journal) {
-            Ok(true) => return Status::Done,
-            Ok(false) => {}
-            Err(error) => return error.status(),
+        if self.has_closed() {
+            return self.closed();
+        }
+        Status::Spent
+    }
+
+    /// Whether the node is the root's, and its host has halted.
+    fn has_closed(&self) -> bool
+        ensures { result ≡ has_ended self.now.code.now self.now.me (state_of self.now.host.now) }
+    {
+        self.me.0 == self.code.root().0 && self.host.halted()
+    }
+
+    /// Each other host is told that the program is done.
+    fn closed(&mut self) -> Status
+        requires { IsHost self.old.code.now self.old.me }
+        ensures closes { (world : NodeWorld) → Told world (seen L.Links R.Sink self.old) →
+            TellsOf (Closes self.old.code.now self.old.me result world) (seen L.Links R.Sink self.new) }
+        ensures answers { IsServed result }
+        ensures leaves { Leaves result (seen L.Links R.Sink self.old).outside
+            (seen L.Links R.Sink self.new).outside }
+        ensures same { HasSameHost self.old self.new }
+    {
+        match self.close() {
+            Ok(()) => Status::Done,
+            Err(error) => error.status(),
         }
     }
-    if has_closed(code, me, host) {
-        return closed(alloc, code, me, links);
-    }
-    Status::Spent
-}
 
-/// Whether the node is the root's, and its host has halted.
-fn has_closed(code: &Code, me: HostId, host: &Host) -> bool
-    ensures { result ≡ has_ended code.now me (state_of host.now) }
-{
-    me.0 == code.root().0 && host.halted()
-}
-
-/// Each other host is told that the program is done.
-fn closed<L: Links>(alloc: Global, code: &Code, me: HostId, links: &mut L) -> Status
-    requires { IsHost code.now me }
-    ensures closes { (journal : Option (List ℕ)) (world : NodeWorld) (host : HostShape) →
-        Told world host (record { links = links_told L.Links links.old; journal = journal }) →
-        TellsOf (Closes code.now me result world) host
-        (record { links = links_told L.Links links.new; journal = journal }) }
-    ensures answers { IsServed result }
-    ensures faults { L.faults links.old ≤ L.faults links.new }
-    ensures cause { result ≡ Status.LinkFault → Rose (L.faults links.old) (L.faults links.new) }
-    ensures not_put { ¬ (result ≡ Status.OutFault) }
-{
-    match close(alloc, code, me, links) {
-        Ok(()) => Status::Done,
-        Err(error) => error.status(),
+    /// Sends each other host the frame of one that is done.
+    fn close(&mut self) -> Result<(), NodeError>
+        requires { IsHost self.old.code.now self.old.me }
+        ensures ok { OnOk result (Does (closing_parts self.old.code.now self.old.me)
+            (seen L.Links R.Sink self.old) (seen L.Links R.Sink self.new)) }
+        ensures err { IfErr result (λ error. Stops error (closing_parts self.old.code.now self.old.me)
+            (seen L.Links R.Sink self.old) (seen L.Links R.Sink self.new)) }
+        ensures same { HasSameHost self.old self.new }
+    {
+        let count = self.code.hosts().len();
+        prove!(count <= HOSTS);
+        for number in 0..count {
+            self.tell(HostId(number as u8))?;
+        }
+        Ok(())
     }
-}
 
-/// Sends each other host the frame of one that is done.
-fn close<L: Links>(alloc: Global, code: &Code, me: HostId, links: &mut L) -> Result<(), NodeError>
-    requires { IsHost code.now me }
-    ensures ok { OnOk result ((journal : Option (List ℕ)) →
-        Does (closing_parts code.now me)
-        (record { links = links_told L.Links links.old; journal = journal })
-        (record { links = links_told L.Links links.new; journal = journal })) }
-    ensures err { IfErr result (λ error. (journal : Option (List ℕ)) →
-        Stops error (closing_parts code.now me)
-        (record { links = links_told L.Links links.old; journal = journal })
-        (record { links = links_told L.Links links.new; journal = journal })) }
-    ensures faults { L.faults links.old ≤ L.faults links.new }
-    ensures cause { IsErrOf result NodeError.LinkFault → Rose (L.faults links.old) (L.faults links.new) }
-    ensures not_put { ¬ IsErrOf result NodeError.OutFault }
-{
-    let count = code.hosts().len();
-    prove!(count <= HOSTS);
-    for number in 0..count {
-        tell(alloc, me, HostId(number as u8), links)?;
+    /// Sends a host the frame of one that is done, unless it is the node's own.
+    fn tell(&mut self, to: HostId) -> Result<(), NodeError>
+        requires { self.old.me.0 < HOSTS }
+        ensures ok { OnOk result (Does (telling self.old.me to.0)
+            (seen L.Links R.Sink self.old) (seen L.Links R.Sink self.new)) }
+        ensures err { IfErr result (λ error. Stops error (telling self.old.me to.0)
+            (seen L.Links R.Sink self.old) (seen L.Links R.Sink self.new)) }
+        ensures same { HasSameHost self.old self.new }
+    {
+        if to.0 == self.me.0 {
+            return Ok(());
+        }
+        self.sent(to, &Frame::Done)
     }
-    Ok(())
-}
-
-/// Sends a host the frame of one that is done, unless it is the node's own.
-fn tell<L: Links>(alloc: Global, me: HostId, to: HostId, links: &mut L) -> Result<(), NodeError>
-    requires { me.0 < HOSTS }
-    ensures ok { OnOk result ((journal : Option (List ℕ)) →
-        Does (telling me to.0)
-        (record { links = links_told L.Links links.old; journal = journal })
-        (record { links = links_told L.Links links.new; journal = journal })) }
-    ensures err { IfErr result (λ error. (journal : Option (List ℕ)) →
-        Stops error (telling me to.0)
-        (record { links = links_told L.Links links.old; journal = journal })
-        (record { links = links_told L.Links links.new; journal = journal })) }
-    ensures faults { L.faults links.old ≤ L.faults links.new }
-    ensures cause { IsErrOf result NodeError.LinkFault → Rose (L.faults links.old) (L.faults links.new) }
-    ensures not_put { ¬ IsErrOf result NodeError.OutFault }
-{
-    if to.0 == me.0 {
-        return Ok(());
-    }
-    sent(alloc, links, me, to, &Frame::Done)
 }

@@ -41,8 +41,8 @@ impl Model for MemLinks {
 }
 
 impl MemLinks {
-    /// Has these frames to give, has sent none, and did not begin. The calls of `next` and `send` are numbered together from 0,
-    /// and those whose number is in `failing` fail, and a `next` where no frame is left.
+    /// Has these frames to give, has sent none, and did not begin. The calls of `next` and `send` are numbered together
+    /// from 0, and those whose number is in `failing` fail, and a `next` where no frame is left.
     pub fn new(alloc: Global, frames: Vec<Vec<u8>>, failing: Vec<u64>) -> Self
         ensures { result ≡ record {
           begun = [];

@@ -1,4 +1,5 @@
 use Rattle.std.proofs.Common.{refl}
+use Rattle.node_engine.proofs.Noting.{steps_noted}
 use Rattle.node_engine.proofs.OneUnit.{one_parts}
 use Rattle.node_engine.proofs.UnitParts.{some_arrival, some_parts, some_taking}
 use Rattle.node_engine.proofs.laws.unit_laws.Goals as goal
@@ -14,6 +15,9 @@ returns-clause-some_parts c = some_parts c.step_laws.ensures.some_taking c.step_
 
 pub returns-clause-one_parts : goal.returns-clause-one_parts
 returns-clause-one_parts c = one_parts
+
+pub returns-clause-steps_noted : goal.returns-clause-steps_noted
+returns-clause-steps_noted c = steps_noted
 
 pub returns-clause-worked_short : goal.returns-clause-worked_short
 returns-clause-worked_short c = λ code me. rw c.wire_laws.ensures.worked_nothing refl
