@@ -87,7 +87,7 @@ SavesWhenDue program hosts out files =
     (number : ℕ) × (text : List ℕ) × DueForCommand files.held (Split program hosts out) number (Print Done text)
     × (files.loads_after ≡ counted_by number files.loads_before) × SavesUnder out files
 
--- what a command may do beside its loads, whatever comes of it: nothing, or for a split one save where its report is due
+-- what a command may do beside its loads, whatever comes of it: nothing, or a split saves once where its report is due
 abbrev pub MaySave : CommandShape → FilesChange → Type 0
 MaySave (Split program hosts out) files = AreKept files ⊎ SavesWhenDue program hosts out files
 MaySave command files = AreKept files

@@ -1,8 +1,9 @@
 -- The headline, to be read from the top: what is reported of hosts that run a program together, whoever misbehaves.
 --
 -- `Together` follows events: at every moment the world stands for what a run of the program has come to. `StandsFor`
--- says that each field of an obeying host, which misbehaving hosts may not affect, has its value there, and that the run
--- is at its end once an obeying root has halted. `StandsPlainly` says it of all fields, and that no message was ignored.
+-- says that each field of an obeying host, which misbehaving hosts may not affect, has its value there, and that this
+-- run is at its end once an obeying root has halted. `StandsPlainly` says it of all fields, and that no message was
+-- ignored.
 use Rattle.std.specs.Prelude.{◌≡◌, ℕ, ◌+◌, ◌*◌, ◌≤◌, ℤ, List, length, map, Option, Some, Ok}
 use Rattle.js_base.specs.declared.limits.TheConstants.{SCRIPT_BYTES}
 use Rattle.js_base.specs.declared.status.Status.{Status}
@@ -61,8 +62,8 @@ FollowsPlainly placed tree start events last =
 
 -- ---- what files say
 
--- A program and a host file of these bytes are accepted. This is the program as a tree, with its hosts, and with a place
--- for each of its parts.
+-- A program and a host file of these bytes are accepted. This is the program as a tree, with its hosts, and with places
+-- for its parts.
 pub record IsPlacedAs (program hosts : List ℕ) (placed : PlacedSource) (tree : Program) : Type 0 where
   pub accepted : PlacedSources program hosts (given placed)
   pub tree_is : program_tree tree ≡ placed.source.tree

@@ -84,15 +84,16 @@ pub fn jifsplit<F: Files, S: Sink, E: Sink>(
     ensures headline { (program hosts events : List ℕ) →
         map string_bytes words.now ≡ command.words_of (command.Replay program hosts events) → result ≡ Status.Done →
         Puts (OfThreeFiles IsFaithful program hosts events (F.held files.old)) (S.taken out.old) (S.taken out.new) }
-    // Where nobody misbehaves that run is the plain one, in a drive to the hosts' rest or by all its events. At rest the
-    // program has halted, and 4096 events for each step of the plain run, and for one more, are enough to come to rest.
+    // Where nobody misbehaves that run is the plain one, in a drive to the hosts' rest or by all its events. At rest
+    // the program has halted, and 4096 events for each step of the plain run, and for one more, are enough to come to
+    // rest.
     ensures driven { (program hosts start : List ℕ) (events : ℕ) → IsStepCount events →
         map string_bytes words.now ≡ command.words_of (command.Drive program hosts start events) →
         (result ≡ Status.Done) ⊎ (result ≡ Status.Spent) →
         Puts (OfThreeFiles (λ p h s. IsFaithfulDrive p h s events result) program hosts start (F.held files.old))
         (S.taken out.old) (S.taken out.new) }
     // Where two scripts were compared, each was played so, and what was put tells whether misbehaving hosts were sent
-    // the same in both runs. Without `declassify` they were, as far as both runs go, and it never says that they differ.
+    // the same in both runs. Without `declassify` they were, as far as both runs go, and it never says they differ.
     ensures compared { (program hosts one other : List ℕ) →
         map string_bytes words.now ≡ command.words_of (command.Compare program hosts one other) →
         (result ≡ Status.Done) ⊎ (result ≡ Status.Differ) →
