@@ -13,8 +13,8 @@ use js_base::{OutOfMemory, PutError, Sink, Status};
 use std::alloc::{AllocError, Global};
 
 /// Puts out what is due, the line of a refusal on `err` and the text of a report on `out`, and answers with its status.
-/// Each line on `err` begins with the program's name. Where memory ran out before, or runs out meanwhile, a line says so
-/// where it can; it is given whole, since it can't be made then.
+/// Each line on `err` begins with the program's name. Where memory ran out before, or runs out meanwhile, a line says
+/// so where it can; it is given whole, since it can't be made then.
 pub fn answer<S: Sink, E: Sink>(
     alloc: Global,
     program: &str,

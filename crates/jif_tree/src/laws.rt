@@ -60,7 +60,8 @@ pub fn altered_examples()
     // So nothing takes it away and changes no field.
     ensures not_skipped { (program : Program) →
         ¬ Alters program one_bad (pending_with (for_1 ∷ [])) (pending_with []) }
-    // A local that principal 0 trusts may be read as any number, and one that principal 1 trusts as what is there alone.
+    // A local that principal 0 trusts may be read as any number, and one that principal 1 trusts as what is there
+    // alone.
     ensures local_as_any { (value : ℤ) → IsNumber value →
         MayGive one_bad (pending_with []) 0 (expr.Local variable_of_0) value }
     ensures local_as_is { (value : ℤ) → value ≢ pos 0 →
