@@ -4,6 +4,7 @@
 -- entry, with a bit for each host. Asking takes no memory then, and no look at labels.
 use Rattle.std.specs.Prelude.{◌≡◌, ◌≢◌, ℕ, ◌<◌, ◌↔◌, List, Option, Some, None, IsSomeAnd}
 use Rattle.std.specs.Prelude.{slice_get, slice_index}
+use Rattle.std.specs.List.{AllByRecursion}
 use Rattle.std.specs.Option.{option_map}
 use Rattle.std.specs.Int.{bit_at}
 use Rattle.js_base.specs.declared.ids.HostId.{HostId}
@@ -66,6 +67,10 @@ May code me (ask.Set field) from =
 May code me (ask.Forward variable) from =
     IsSomeAnd (variable_at code variable) (λ there. MayAffect (label_of_host code from) (label_at code there.label))
 May code me (ask.Enter entry) from = MayEnter code me entry (label_of_host code from)
+
+-- the host may forward each of these variables, so their values may ride with what it sends
+abbrev pub MayRide : CodeShape → HostId → HostId → List VarId → Type 0
+MayRide code me from variables = AllByRecursion (λ variable. May code me (ask.Forward variable) from) variables
 
 -- ---- the checks as words
 

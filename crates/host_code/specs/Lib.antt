@@ -4,5 +4,6 @@ pub mod CodeParts
 pub mod InstructionText
 pub mod Messages
 pub mod MessageText
+pub mod Riders
 pub mod Sound
 pub mod Thread

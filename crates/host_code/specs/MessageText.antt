@@ -2,7 +2,7 @@
 --
 -- A token is printed without its tag, and an event with it. `#N` in a script stands for the token with its tag, as it
 -- was sent. So an act can only present what was sent, and no script can make up the token of an obeying host.
-use Rattle.std.specs.Prelude.{ℕ, ℤ, List, [], ◌++◌, Option, Some, None, slice_get, codes}
+use Rattle.std.specs.Prelude.{ℕ, ℤ, List, [], ◌++◌, flat_map, Option, Some, None, slice_get, codes}
 use Rattle.std.specs.Fmt.{decimal, signed_decimal}
 use Rattle.js_base.specs.declared.ids.HostId.{HostId}
 use Rattle.js_base.specs.declared.ids.FieldId.{FieldId}
@@ -13,6 +13,7 @@ use Rattle.js_base.specs.declared.ids.RequestId.{RequestId}
 use Rattle.capability.specs.declared.token.Token.{Token}
 use Rattle.host_code.specs.declared.message.Message.{Message}
 use Rattle.host_code.specs.declared.message.Message.TheVariants as message
+use Rattle.host_code.specs.Riders.{Rider}
 use Rattle.host_code.specs.Code.{CodeShape, CodeHostShape, CodeFieldShape, CodeVariableShape, field_at, variable_at}
 
 -- ---- names, nothing where there is no such thing
@@ -82,6 +83,17 @@ abbrev pub rgoto_text : FrameId → EntryId → List ℕ → List ℕ
 rgoto_text frame entry token =
     codes "rgoto " ++ frame_text frame ++ codes " " ++ entry_text entry ++ codes " " ++ token
 
+-- a variable and its value, with a blank before each
+abbrev pub rider_text : CodeShape → Rider → List ℕ
+rider_text code rider = codes " " ++ variable_text code rider.0 ++ codes " " ++ signed_decimal rider.1
+
+abbrev pub riders_text : CodeShape → List Rider → List ℕ
+riders_text code riders = flat_map (rider_text code) riders
+
+-- an rgoto with which values ride that are printed so
+abbrev pub rgoto_with_text : FrameId → EntryId → List ℕ → List ℕ → List ℕ
+rgoto_with_text frame entry token riders = rgoto_text frame entry token ++ codes " with" ++ riders
+
 abbrev pub lgoto_text : List ℕ → List ℕ
 lgoto_text token = codes "lgoto " ++ token
 
@@ -104,6 +116,8 @@ message_text code (message.Forward request frame variable value) =
     forward_text request frame (variable_text code variable) value
 message_text code (message.Sync request frame entry token) = sync_text request frame entry (token_text code token)
 message_text code (message.Rgoto frame entry token) = rgoto_text frame entry (token_text code token)
+message_text code (message.RgotoWith frame entry token riders) =
+    rgoto_with_text frame entry (token_text code token) (riders_text code riders)
 message_text code (message.Lgoto token) = lgoto_text (token_text code token)
 message_text code (message.Value request value) = value_text request value
 message_text code (message.Ack request) = ack_text request

@@ -4,7 +4,7 @@ use Rattle.std.specs.Prelude.{◌==◌, ◌&&◌}
 use Rattle.std.specs.Prelude.{if◌then◌else◌}
 use Rattle.std.specs.Prelude.{List, [], ◌++◌, All, length, Option, Some, None, IsSomeAnd, slice_get, codes, ⊤}
 use Rattle.std.specs.Prelude.{sum_by}
-use Rattle.std.specs.List.{list_any}
+use Rattle.std.specs.List.{list_any, AllByRecursion}
 use Rattle.js_base.specs.declared.ids.HostId.{HostId}
 use Rattle.js_base.specs.declared.ids.FieldId.{FieldId}
 use Rattle.js_base.specs.declared.ids.VarId.{VarId}
@@ -18,6 +18,7 @@ use Rattle.host_code.specs.declared.instruction.Op.TheVariants as op
 use Rattle.host_code.specs.declared.code_expr.Node.{Node}
 use Rattle.host_code.specs.declared.code_expr.Node.TheVariants as node
 use Rattle.host_code.specs.declared.code.TheConstants.{MOST_ITEMS}
+use Rattle.host_code.specs.Riders.{AreFew}
 use Rattle.host_code.specs.Code.{CodeShape, CodeFieldShape, CodeVariableShape, halt, part_of, entry_at, site_at}
 
 -- ---- what is there
@@ -82,6 +83,10 @@ NodeFits code count _ = ⊤
 abbrev pub ExpressionFits : CodeShape → ℕ → List Node → Type 0
 ExpressionFits code count nodes = All (NodeFits code count) nodes
 
+-- variables of the code, 1 to 8
+abbrev pub AreRiding : CodeShape → List VarId → Type 0
+AreRiding code variables = AreFew variables × AllByRecursion (IsVariable code) variables
+
 -- what an instruction of the host names is there and where it has to be
 abbrev pub OperationFits : CodeShape → HostId → ℕ → Op → Type 0
 OperationFits code me count (op.Read field index) = IsField code field × ExpressionFits code count index
@@ -100,6 +105,10 @@ OperationFits code me count (op.Ret variable value) = IsVariable code variable �
 OperationFits code me count op.Back = ⊤
 OperationFits code me count (op.Branch guard target) =
     ExpressionFits code count guard × (target < length (part_of code me))
+OperationFits code me count (op.GoWith entry on riders) =
+    IsEntryOn code on entry × IsOther code me on × AreRiding code riders
+OperationFits code me count (op.CallWith entry on riders) =
+    IsEntryOn code on entry × IsOther code me on × AreRiding code riders
 
 pub record InstructionFits (code : CodeShape) (me : HostId) (at : ℕ) (instruction : Instr) : Type 0 where
   pub label : IsLabel code instruction.label
@@ -109,6 +118,7 @@ pub record InstructionFits (code : CodeShape) (me : HostId) (at : ℕ) (instruct
 abbrev pub IsLeaving : Op → Type 0
 IsLeaving op.Back = ⊤
 IsLeaving (op.Go entry on) = ⊤
+IsLeaving (op.GoWith entry on riders) = ⊤
 IsLeaving _ = ⊥
 
 pub record PartFits (code : CodeShape) (me : HostId) : Type 0 where

@@ -1,6 +1,7 @@
 //! Instructions.
 
 use crate::code_expr::CodeExpr;
+use crate::riders::RiderVars;
 use js_base::{EntryId, FieldId, HostId, SiteId, StmtId, VarId};
 
 /// What an instruction does. A host runs one at a time.
@@ -34,6 +35,12 @@ pub enum Op {
     Back,
     /// Goes on at the instruction of the number where the value is 0.
     Branch(CodeExpr, u32),
+    /// Hands the thread over to a host, at an entry and in the thread's frame, with the values of variables of that
+    /// frame.
+    GoWith(EntryId, HostId, RiderVars),
+    /// Hands the thread over to another host, at an entry and in the new frame, with the values of variables of that
+    /// frame.
+    CallWith(EntryId, HostId, RiderVars),
 }
 
 /// An instruction, with the place of its program label among the code's labels and the statement that it was made for.

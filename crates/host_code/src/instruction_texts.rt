@@ -9,7 +9,7 @@ ghost use Rattle.host_code.specs.MessageText.{entry_text};
 use crate::code::Code;
 use crate::instruction::Op;
 use crate::message_texts::{field_name, host_name, var_name};
-use js_base::{EntryId, OutOfMemory};
+use js_base::{EntryId, OutOfMemory, VarId};
 use std::alloc::Global;
 
 /// An instruction as it is listed: its name and what it names, without its expressions.
@@ -31,6 +31,24 @@ pub fn instruction_text(alloc: Global, code: &Code, op: &Op) -> Result<String, O
         Op::Ret(var, _) => of_name(alloc, "ret", var_name(code, *var)),
         Op::Back => Ok(String::from_str(alloc, "back")?),
         Op::Branch(_, target) => of_number(alloc, "branch", *target),
+        Op::GoWith(entry, on, riders) => {
+            of_riders(
+                alloc,
+                "go",
+                *entry,
+                host_name(code, *on),
+                variables_text(alloc, code, riders.vars())?.as_str(),
+            )
+        }
+        Op::CallWith(entry, on, riders) => {
+            of_riders(
+                alloc,
+                "call",
+                *entry,
+                host_name(code, *on),
+                variables_text(alloc, code, riders.vars())?.as_str(),
+            )
+        }
     }
 }
 
@@ -58,4 +76,29 @@ fn of_entry(alloc: Global, verb: &str, entry: EntryId, on: &str) -> Result<Strin
         string_bytes printed ≡ verb.now ++ codes " " ++ entry_text entry ++ codes " " ++ on.now) }
 {
     Ok(format!(in alloc; "{verb} e{} {on}", entry.0)?)
+}
+
+fn of_riders(
+    alloc: Global,
+    verb: &str,
+    entry: EntryId,
+    on: &str,
+    riders: &str,
+) -> Result<String, OutOfMemory>
+    ensures { IfOk result (λ printed. string_bytes printed ≡
+        verb.now ++ codes " " ++ entry_text entry ++ codes " " ++ on.now ++ codes " with" ++ riders.now) }
+{
+    Ok(format!(in alloc; "{verb} e{} {on} with{riders}", entry.0)?)
+}
+
+/// The names of the variables that ride, with a blank before each.
+fn variables_text(alloc: Global, code: &Code, vars: &[VarId]) -> Result<String, OutOfMemory>
+    ensures { IfOk result (λ printed. string_bytes printed ≡ text.variables_text code.now vars.now) }
+{
+    let mut printed = String::new(alloc);
+    for var in vars {
+        printed.push_str(" ")?;
+        printed.push_str(var_name(code, *var))?;
+    }
+    Ok(printed)
 }

@@ -7,6 +7,7 @@ mod instruction;
 mod instruction_texts;
 mod message;
 mod message_texts;
+mod riders;
 
 pub use code::{Code, CodeField, CodeHost, CodeParts, CodeVar, Entry, MOST_ITEMS, Part};
 pub use code_expr::{CodeExpr, MOST_NODES, Node, depth_of};
@@ -15,5 +16,7 @@ pub use instruction_texts::instruction_text;
 pub use message::Message;
 pub use message_texts::{
     ack_text, answer_text, field_name, forward_text, get_text, host_name, lgoto_text, message_text,
-    rgoto_text, set_text, sync_text, token_text, value_text, var_name,
+    rgoto_text, rgoto_with_text, riders_text, set_text, sync_text, token_text, value_text,
+    var_name,
 };
+pub use riders::{MOST_RIDERS, RiderVars, Riders};

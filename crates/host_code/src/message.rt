@@ -1,10 +1,11 @@
 //! Messages between hosts.
 
 ghost use Rattle.std.specs.Prelude.{◌↔◌, IsTrue};
-ghost use Rattle.host_code.specs.Messages.{MessageFits};
+ghost use Rattle.host_code.specs.Messages.{AreOfCode, MessageFits};
 ghost use Rattle.host_code.specs.Sound.{IsHost, IsField, IsVariable};
 
 use crate::code::Code;
+use crate::riders::Riders;
 use capability::Token;
 use js_base::{EntryId, FieldId, FrameId, HostId, RequestId, VarId};
 
@@ -44,6 +45,13 @@ pub enum Message {
         entry: EntryId,
         token: Token,
     },
+    /// Start a thread at an entry in a frame, some of whose variables become the values that ride. It holds the token.
+    RgotoWith {
+        frame: FrameId,
+        entry: EntryId,
+        token: Token,
+        pairs: Riders,
+    },
     /// Start the thread of the entry that the token takes off the control stack.
     Lgoto {
         token: Token,
@@ -76,6 +84,9 @@ impl Message {
             | Message::Rgoto { token, .. }
             | Message::Lgoto { token }
             | Message::Token { token, .. } => has_host(code, token.host),
+            Message::RgotoWith { token, pairs, .. } => {
+                has_host(code, token.host) && all_vars(code, pairs.pairs())
+            }
             Message::Value { .. } | Message::Ack { .. } => true,
         }
     }
@@ -100,4 +111,14 @@ fn has_var(code: &Code, var: VarId) -> bool
     ensures { IsTrue result ↔ IsVariable code.now var }
 {
     (var.0 as usize) < code.vars().len()
+}
+
+/// Whether the code has each variable that rides.
+fn all_vars(code: &Code, riders: &[(VarId, i64)]) -> bool
+    ensures { IsTrue result ↔ AreOfCode code.now riders.now }
+{
+    match riders {
+        [] => true,
+        [(var, _), others @ ..] => has_var(code, *var) && all_vars(code, others),
+    }
 }

@@ -51,6 +51,16 @@ pub fn message_text(alloc: Global, code: &Code, message: &Message) -> Result<Str
             let token = token_text(alloc, code, token)?;
             rgoto_text(alloc, *frame, *entry, token.as_str())
         }
+        Message::RgotoWith {
+            frame,
+            entry,
+            token,
+            pairs,
+        } => {
+            let token = token_text(alloc, code, token)?;
+            let riders = riders_text(alloc, code, pairs.pairs())?;
+            rgoto_with_text(alloc, *frame, *entry, token.as_str(), riders.as_str())
+        }
         Message::Lgoto { token } => {
             let token = token_text(alloc, code, token)?;
             lgoto_text(alloc, token.as_str())
@@ -152,6 +162,39 @@ pub fn rgoto_text(
         "rgoto {}.{} e{} {token}",
         frame.site.0, frame.count, entry.0
     )?)
+}
+
+/// An rgoto whose token is printed so, with which values ride that are printed so.
+pub fn rgoto_with_text(
+    alloc: Global,
+    frame: FrameId,
+    entry: EntryId,
+    token: &str,
+    riders: &str,
+) -> Result<String, OutOfMemory>
+    ensures { IfOk result (λ printed.
+        string_bytes printed ≡ text.rgoto_with_text frame entry token.now riders.now) }
+{
+    Ok(format!(in alloc;
+        "rgoto {}.{} e{} {token} with{riders}",
+        frame.site.0, frame.count, entry.0
+    )?)
+}
+
+/// The variables and values that ride, with a blank before each.
+pub fn riders_text(
+    alloc: Global,
+    code: &Code,
+    riders: &[(VarId, i64)],
+) -> Result<String, OutOfMemory>
+    ensures { IfOk result (λ printed. string_bytes printed ≡ text.riders_text code.now riders.now) }
+{
+    let mut printed = String::new(alloc);
+    for (var, value) in riders {
+        let name = var_name(code, *var);
+        write!(printed, " {name} {value}").map_err(|_| OutOfMemory)?;
+    }
+    Ok(printed)
 }
 
 /// An lgoto whose token is printed so.
