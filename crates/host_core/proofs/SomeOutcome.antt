@@ -1,10 +1,11 @@
 -- Each check of the host table passes or fails, so taking a message leaves something, and so does a turn.
-use Rattle.std.proofs.Common.{◌≡◌, ℕ, Bool, true, false, Option, Some, None, ap, inl, inr, refl}
+use Rattle.std.proofs.Common.{◌≡◌, ℕ, Bool, true, false, List, [], ◌∷◌, Option, Some, None, ap, inl, inr, refl}
 use Rattle.std.specs.Prelude.{◌↔◌, IsTrue, IsSome}
 use Rattle.std.proofs.lemmas.Bool.{cases_eq}
 use Rattle.js_base.specs.declared.ids.HostId.{HostId}
 use Rattle.js_base.specs.declared.ids.FrameId.{FrameId}
 use Rattle.js_base.specs.declared.ids.SiteId.{SiteId}
+use Rattle.js_base.specs.declared.ids.VarId.{VarId}
 use Rattle.js_base.proofs.Decisions.{Decided, never, both, implied, as_well, same_text}
 use Rattle.capability.specs.declared.token.Token.{Token}
 use Rattle.ics_stack.specs.Stack.{top_token}
@@ -13,10 +14,11 @@ use Rattle.host_code.specs.declared.message.Message.TheVariants as message
 use Rattle.host_code.specs.declared.instruction.Instr.{Instr}
 use Rattle.host_code.specs.declared.instruction.Op.{Op}
 use Rattle.host_code.specs.declared.instruction.Op.TheVariants as op
+use Rattle.host_code.specs.Riders.{names_of}
 use Rattle.host_code.specs.Thread.{ThreadShape}
 use Rattle.host_code.specs.Code.{CodeShape, CodeVariableShape, variable_at, instruction_at}
 use Rattle.entry_check.specs.declared.ask.Ask.TheVariants as ask
-use Rattle.entry_check.specs.Checks.{label_at, label_of_host}
+use Rattle.entry_check.specs.Checks.{MayRide, label_at, label_of_host}
 use Rattle.entry_check.proofs.Decisions.{same_host, same_entry, may_see, may}
 use Rattle.host_core.specs.Host.{HostShape, Outcome, with_running, without_message}
 use Rattle.host_core.specs.Taking.{Passes, IsTaking, after_taking}
@@ -72,6 +74,11 @@ is_some : {X : Type 0} (found : Option X) → Decided (IsSome found)
 is_some None = inr (λ there. cc)
 is_some (Some x) = inl refl
 
+may_ride : (code : CodeShape) (me from : HostId) (variables : List VarId) → Decided (MayRide code me from variables)
+may_ride code me from [] = inl tt
+may_ride code me from (variable ∷ variables) =
+    both _ _ (may code me (ask.Forward variable) from) (may_ride code me from variables)
+
 passes : (code : CodeShape) (host : HostShape) (from : HostId) (taken : Message) →
     Decided (Passes code host from taken)
 passes code host from (message.Get request field index) = may code host.me (ask.Get field) from
@@ -79,6 +86,8 @@ passes code host from (message.Set request field index value) = may code host.me
 passes code host from (message.Forward request frame variable value) = may code host.me (ask.Forward variable) from
 passes code host from (message.Sync request frame entry token) = may code host.me (ask.Enter entry) from
 passes code host from (message.Rgoto frame entry token) = may code host.me (ask.Enter entry) from
+passes code host from (message.RgotoWith frame entry token riders) =
+    both _ _ (may code host.me (ask.Enter entry) from) (may_ride code host.me from (names_of riders))
 passes code host from (message.Lgoto token) = some_token (top_token host.entries) token
 passes code host from (message.Value request value) = is_some _
 passes code host from (message.Ack request) = is_some _

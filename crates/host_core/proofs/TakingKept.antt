@@ -1,16 +1,21 @@
 -- Taking a message keeps what holds of a host of the code, and what it sends fits.
-use Rattle.std.proofs.Common.{◌≡◌, Bool, true, false, refl, subst}
+use Rattle.std.proofs.Common.{◌≡◌, Bool, true, false, List, [], ◌∷◌, refl, subst}
 use Rattle.std.specs.Prelude.{Option, Some, None, IsSomeAnd, IsTrue}
 use Rattle.js_base.specs.declared.ids.HostId.{HostId}
+use Rattle.js_base.specs.declared.ids.EntryId.{EntryId}
+use Rattle.js_base.specs.declared.ids.FrameId.{FrameId}
+use Rattle.capability.specs.declared.token.Token.{Token}
 use Rattle.host_code.specs.declared.code.Entry.{Entry}
 use Rattle.host_code.specs.declared.message.Message.{Message}
 use Rattle.host_code.specs.declared.message.Message.TheVariants as message
 use Rattle.host_code.specs.Thread.Awaited.{value_of_field, acknowledgement}
+use Rattle.host_code.specs.Riders.{Rider}
 use Rattle.host_code.specs.Code.{CodeShape, entry_at}
 use Rattle.host_code.specs.Sound.{IsOther, IsSoundCode}
-use Rattle.host_core.specs.Host.{HostShape, Outcome, with_temporary}
+use Rattle.host_core.specs.Host.{HostShape, Outcome, with_temporary, with_variable_set, with_variables_set}
+use Rattle.host_core.specs.Host.{after_entering}
 use Rattle.host_core.specs.Taking.{Passes, IsTaking, after_taking}
-use Rattle.host_core.specs.Fits.{OutcomeFits, StateFits, TokensFit}
+use Rattle.host_core.specs.Fits.{OutcomeFits, StateFits, IsEntryOf, TokenFits, TokensFit}
 use Rattle.host_core.proofs.Kept.{kept_ignored, kept_row, kept_variable, kept_push, kept_entering, kept_pop}
 use Rattle.host_core.proofs.Answered.{kept_answer, kept_token}
 
@@ -19,6 +24,15 @@ on_host : (me : HostId) (P Q : Entry → Type 0) (there : Option Entry)
     → IsSomeAnd there (λ found. (found.host ≡ me) × P found × Q found) → IsSomeAnd there (λ found. found.host ≡ me)
 on_host me P Q None on = on
 on_host me P Q (Some found) on = on.0
+
+-- a thread that starts where variables were set
+riders_kept : (code : CodeShape) (host : HostShape) (entry : EntryId) (frame : FrameId) (token : Token)
+    (riders : List Rider) → IsSoundCode code → StateFits code host → IsEntryOf code host.me entry → TokenFits code token
+    → StateFits code (after_entering (with_variables_set host frame riders) (entry_at code entry) frame token)
+riders_kept code host entry frame token [] sound fits on held = kept_entering code host entry frame token sound fits on held
+riders_kept code host entry frame token (rider ∷ riders) sound fits on held =
+    riders_kept code (with_variable_set host frame rider.0 rider.1) entry frame token riders sound
+    (kept_variable code host frame rider.0 rider.1 fits) on held
 
 message_kept : (code : CodeShape) (host : HostShape) (from : HostId) (letter : Message) (passes : Bool) →
     IsSoundCode code
@@ -38,6 +52,11 @@ message_kept code host from (message.Sync request frame entry token) true sound 
 message_kept code host from (message.Rgoto frame entry token) true sound fits other tokens check = (
   kept_entering code host entry frame token sound fits
       (on_host host.me _ _ (entry_at code entry) ((check refl).1)) tokens,
+  tt,
+)
+message_kept code host from (message.RgotoWith frame entry token riders) true sound fits other tokens check = (
+  riders_kept code host entry frame token riders sound fits
+      (on_host host.me _ _ (entry_at code entry) ((check refl).0.1)) tokens,
   tt,
 )
 message_kept code host from (message.Lgoto token) true sound fits other tokens check =

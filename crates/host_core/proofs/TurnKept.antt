@@ -1,7 +1,8 @@
 -- A turn keeps what holds of a host of the code, and what it sends fits.
-use Rattle.std.proofs.Common.{◌≡◌, ◌≢◌, ℕ, ◌+◌, ◌-◌, ◌<◌, ◌≤◌, ◌⊎◌, ℤ, pos, Bool, true, false, List, [], length, get_or}
+use Rattle.std.proofs.Common.{◌≡◌, ◌≢◌, ℕ, ◌+◌, ◌-◌, ◌<◌, ◌≤◌, ◌⊎◌, ℤ, pos, Bool, true, false, List, [], ◌∷◌, length, get_or}
 use Rattle.std.proofs.Common.{ap, subst, refl, arith, inl, inr}
 use Rattle.std.specs.Prelude.{Option, Some, None, IfSome, IsSomeAnd, slice_get, slice_index, ◌==◌, if◌then◌else◌}
+use Rattle.std.specs.List.{AllByRecursion}
 use Rattle.std.specs.Ordering.{int_eq}
 use Rattle.std.proofs.lemmas.Bool.{eqb-false, cases_lt}
 use Rattle.std.proofs.lemmas.Bool.Decides.{nat_tests}
@@ -21,6 +22,7 @@ use Rattle.host_code.specs.declared.instruction.Instr.{Instr}
 use Rattle.host_code.specs.declared.instruction.Op.{Op}
 use Rattle.host_code.specs.declared.instruction.Op.TheVariants as op
 use Rattle.host_code.specs.declared.message.Message.TheVariants as message
+use Rattle.host_code.specs.Messages.{AreOfCode}
 use Rattle.host_code.specs.Thread.{ThreadShape}
 use Rattle.host_code.specs.Thread.Awaited.{value_of_field, acknowledgement, token_of_entry}
 use Rattle.host_code.specs.Code.{CodeShape, CodeFieldShape, field_at, entry_at, instruction_at, part_of}
@@ -33,7 +35,7 @@ use Rattle.host_core.specs.Host.{value_in_thread, next_request, after_push, afte
 use Rattle.host_core.specs.Host.{with_row_written, with_one_ignored}
 use Rattle.host_core.specs.Turn.{with_thread, after_read, after_put, after_let, after_forward, after_frame}
 use Rattle.host_core.specs.Turn.{after_own_push, after_ask, after_go, after_own_call, after_return, after_back}
-use Rattle.host_core.specs.Turn.{after_operation}
+use Rattle.host_core.specs.Turn.{after_go_with, riders_of, after_operation}
 use Rattle.host_core.specs.Turn.{IsTurn, IsRunning, IsTurnOf}
 use Rattle.host_core.specs.Fits.{OutcomeFits, StateFits, RunningFits, IsEntryOf, TokenFits}
 use Rattle.host_core.proofs.Kept.{kept_ignored, kept_row, kept_variable, kept_running, kept_at_rest, kept_push}
@@ -212,6 +214,20 @@ go_kept : (code : CodeShape) (host : HostShape) (thread : ThreadShape) (frame : 
 go_kept code host thread frame entry on None fits holds other = absurd holds
 go_kept code host thread frame entry on (Some held) fits holds other = (kept_at_rest code host fits, (other, holds))
 
+-- the variables that ride are the code's
+riders_fit : (code : CodeShape) (host : HostShape) (frame : FrameId) (variables : List VarId) →
+    AllByRecursion (IsVariable code) variables → AreOfCode code (riders_of host frame variables)
+riders_fit code host frame [] all = tt
+riders_fit code host frame (variable ∷ variables) all = (all.0, riders_fit code host frame variables all.1)
+
+go_with_kept : (code : CodeShape) (host : HostShape) (thread : ThreadShape) (frame : FrameId) (entry : EntryId)
+    (on : HostId) (variables : List VarId) (held : Option Token) → StateFits code host → IsSomeAnd held (TokenFits code)
+    → IsOther code host.me on → AllByRecursion (IsVariable code) variables
+    → OutcomeFits code host.me (after_go_with host thread frame entry on variables held)
+go_with_kept code host thread frame entry on variables None fits holds other all = absurd holds
+go_with_kept code host thread frame entry on variables (Some held) fits holds other all =
+    (kept_at_rest code host fits, (other, (holds, riders_fit code host frame variables all)))
+
 own_call_kept : (code : CodeShape) (host : HostShape) (thread : ThreadShape) (entry : EntryId) (there : Option Entry)
     → Given code host thread → entry_at code entry ≡ there → IsSomeAnd there (λ found. found.host ≡ host.me)
     → OutcomeFits code host.me (after_own_call host thread there)
@@ -337,6 +353,10 @@ operation_kept code host thread op.Back count passes sound fits runs names given
 operation_kept code host thread (op.Branch guard target) count passes sound fits runs names given =
     branch_on code host thread target (int_eq (value_in_thread host thread guard) (pos 0))
     (given (λ leaves. leaves)) names.1
+operation_kept code host thread (op.GoWith entry on riders) count passes sound fits runs names given =
+    go_with_kept code host thread thread.frame entry on riders thread.held fits runs.held names.1 names.2.1
+operation_kept code host thread (op.CallWith entry on riders) count passes sound fits runs names given =
+    go_with_kept code host thread thread.new_frame entry on riders thread.held fits runs.held names.1 names.2.1
 
 running_kept : (code : CodeShape) (host : HostShape) (thread : ThreadShape) (there : Option Instr) (outcome : Outcome)
     → IsSoundCode code → StateFits code host → RunningFits code host.me thread

@@ -76,6 +76,7 @@ OutcomeFits code me outcome = StateFits code outcome.state × SentFits code me o
 abbrev pub TokensFit : CodeShape → Message → Type 0
 TokensFit code (message.Sync request frame entry token) = TokenFits code token
 TokensFit code (message.Rgoto frame entry token) = TokenFits code token
+TokensFit code (message.RgotoWith frame entry token riders) = TokenFits code token
 TokensFit code (message.Lgoto token) = TokenFits code token
 TokensFit code (message.Token request token) = TokenFits code token
 TokensFit code _ = ⊤

@@ -15,6 +15,8 @@ use Rattle.ics_stack.specs.Stack.{StackShape, next_token, entries_after_push, se
 use Rattle.host_code.specs.declared.code.Entry.{Entry}
 use Rattle.host_code.specs.declared.message.Message.{Message}
 use Rattle.host_code.specs.declared.code_expr.Node.{Node}
+use Rattle.host_code.specs.declared.riders.TheConstants.{MOST_RIDERS}
+use Rattle.host_code.specs.Riders.{Rider}
 use Rattle.host_code.specs.Thread.{ThreadShape, Awaited, WaitingShape}
 use Rattle.host_code.specs.Code.{CodeShape, halt, entry_at}
 use Rattle.host_stores.specs.Stores.{StoresShape, with_variable, variable_of}
@@ -73,6 +75,12 @@ with_row_written host field index value = record host { rows = store_after_write
 abbrev pub with_variable_set : HostShape → FrameId → VarId → ℤ → HostShape
 with_variable_set host frame variable value =
     record host { variables = with_variable host.variables frame variable value }
+
+-- each of some variables of a frame becomes a value, in order; of a variable that comes twice the last one counts
+abbrev pub with_variables_set : HostShape → FrameId → List Rider → HostShape
+with_variables_set host frame [] = host
+with_variables_set host frame (rider ∷ riders) =
+    with_variables_set (with_variable_set host frame rider.0 rider.1) frame riders
 
 abbrev pub with_running : HostShape → Option ThreadShape → HostShape
 with_running host thread = record host { running = thread }
@@ -205,7 +213,8 @@ pub record IsSameHost (before after : HostModel) : Type 0 where
   pub calls : after.calls ≡ before.calls
   pub stopped : after.stopped ≡ before.stopped
 
--- A call was counted, and there is room for one more of each thing. So no other count comes to its end.
+-- A call was counted, and there is room for one more of each thing, and for as many variables as may ride. So no other
+-- count comes to its end.
 pub record IsReady (host : HostModel) : Type 0 where
   pub frames : All (λ count. count < host.calls) host.frames
   pub requests : All (λ count. count < host.calls) host.requests
@@ -213,5 +222,5 @@ pub record IsReady (host : HostModel) : Type 0 where
   pub ignored : host.ignored < host.calls
   pub calls : host.calls ≤ MOST_CALLS
   pub waiting : 0 < host.room
-  pub variables : 0 < host.stores.spare
+  pub variables : MOST_RIDERS ≤ host.stores.spare
   pub stack : 0 < host.stack.room

@@ -15,12 +15,13 @@ use Rattle.host_code.specs.declared.message.Message.{Message}
 use Rattle.host_code.specs.declared.message.Message.TheVariants as message
 use Rattle.host_code.specs.Thread.{ThreadShape, Awaited}
 use Rattle.host_code.specs.Thread.Awaited.{value_of_field, acknowledgement, token_of_entry}
+use Rattle.host_code.specs.Riders.{names_of}
 use Rattle.host_code.specs.Code.{CodeShape, entry_at}
 use Rattle.entry_check.specs.declared.ask.Ask.TheVariants as ask
-use Rattle.entry_check.specs.Checks.{May}
+use Rattle.entry_check.specs.Checks.{May, MayRide}
 use Rattle.host_core.specs.Awaiting.{awaits}
 use Rattle.host_core.specs.Host.{HostShape, Outcome, without_message, with_message, with_one_ignored, with_row_written}
-use Rattle.host_core.specs.Host.{with_variable_set}
+use Rattle.host_core.specs.Host.{with_variable_set, with_variables_set}
 use Rattle.host_core.specs.Host.{new_token, after_push, after_entering, after_pop, with_temporary, with_token}
 
 -- ---- the checks
@@ -35,6 +36,8 @@ Passes code host from (message.Set request field index value) = May code host.me
 Passes code host from (message.Forward request frame variable value) = May code host.me (ask.Forward variable) from
 Passes code host from (message.Sync request frame entry token) = May code host.me (ask.Enter entry) from
 Passes code host from (message.Rgoto frame entry token) = May code host.me (ask.Enter entry) from
+Passes code host from (message.RgotoWith frame entry token riders) =
+    May code host.me (ask.Enter entry) from × MayRide code host.me from (names_of riders)
 Passes code host from (message.Lgoto token) = top_token host.entries ≡ Some token
 Passes code host from (message.Value request value) = IsSome (place_of_awaiting host value_of_field request from)
 Passes code host from (message.Ack request) = IsSome (place_of_awaiting host acknowledgement request from)
@@ -63,6 +66,8 @@ after_passing code host from (message.Sync request frame entry token) =
     with_message (after_push host entry frame token) from (message.Token request (new_token host entry frame))
 after_passing code host from (message.Rgoto frame entry token) =
     without_message (after_entering host (entry_at code entry) frame token)
+after_passing code host from (message.RgotoWith frame entry token riders) =
+    without_message (after_entering (with_variables_set host frame riders) (entry_at code entry) frame token)
 after_passing code host from (message.Lgoto token) = without_message (after_pop code host host.entries)
 after_passing code host from (message.Value request value) =
     without_message (after_answer host (place_of_awaiting host value_of_field request from) (with_temporary value))

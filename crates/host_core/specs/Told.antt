@@ -39,6 +39,8 @@ with_wrong_tag token =
 abbrev pub with_wrong_tags : Message → Message
 with_wrong_tags (message.Sync request frame entry token) = message.Sync request frame entry (with_wrong_tag token)
 with_wrong_tags (message.Rgoto frame entry token) = message.Rgoto frame entry (with_wrong_tag token)
+with_wrong_tags (message.RgotoWith frame entry token riders) =
+    message.RgotoWith frame entry (with_wrong_tag token) riders
 with_wrong_tags (message.Lgoto token) = message.Lgoto (with_wrong_tag token)
 with_wrong_tags (message.Token request token) = message.Token request (with_wrong_tag token)
 with_wrong_tags letter = letter

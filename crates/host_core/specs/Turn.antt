@@ -1,6 +1,6 @@
 -- What a host does at a turn: its running thread runs one instruction.
 use Rattle.std.specs.Prelude.{◌≡◌, ◌≢◌, ℕ, ◌+◌, ◌<◌, ◌↔◌, ⊤, ℤ, pos, Bool, ◌==◌}
-use Rattle.std.specs.Prelude.{if◌then◌else◌, IsTrue, List, Option}
+use Rattle.std.specs.Prelude.{if◌then◌else◌, IsTrue, List, map, Option}
 use Rattle.std.specs.Prelude.{Some, None}
 use Rattle.std.specs.Prelude.{slice_index, slice_set}
 use Rattle.std.specs.Option.{option_and_then}
@@ -20,6 +20,7 @@ use Rattle.host_code.specs.declared.instruction.Instr.{Instr}
 use Rattle.host_code.specs.declared.instruction.Op.{Op}
 use Rattle.host_code.specs.declared.instruction.Op.TheVariants as op
 use Rattle.host_code.specs.declared.message.Message.TheVariants as message
+use Rattle.host_code.specs.Riders.{Rider}
 use Rattle.host_code.specs.Thread.{ThreadShape}
 use Rattle.host_code.specs.Thread.Awaited.{value_of_field, acknowledgement, token_of_entry}
 use Rattle.host_code.specs.Code.{CodeShape, CodeFieldShape, CodeVariableShape, field_at, variable_at, entry_at}
@@ -115,6 +116,16 @@ after_go host thread frame entry on None = with_thread host thread
 after_go host thread frame entry on (Some held) =
     with_message (with_running host None) on (message.Rgoto frame entry held)
 
+-- the variables with their values in a frame
+abbrev pub riders_of : HostShape → FrameId → List VarId → List Rider
+riders_of host frame variables = map (λ variable. (variable, host.variables frame variable)) variables
+
+-- the thread ends likewise, and the values of these variables in the frame ride with it
+abbrev pub after_go_with : HostShape → ThreadShape → FrameId → EntryId → HostId → List VarId → Option Token → Outcome
+after_go_with host thread frame entry on variables None = with_thread host thread
+after_go_with host thread frame entry on variables (Some held) =
+    with_message (with_running host None) on (message.RgotoWith frame entry held (riders_of host frame variables))
+
 -- the thread goes on at an entry of this host, in its new frame
 abbrev pub after_own_call : HostShape → ThreadShape → Option Entry → Outcome
 after_own_call host thread None = with_thread host thread
@@ -169,6 +180,10 @@ after_operation code host thread (op.Ret variable value) passes =
     after_return host thread variable value thread.held passes
 after_operation code host thread op.Back passes = after_back code host thread thread.held passes
 after_operation code host thread (op.Branch guard target) passes = after_branch host thread guard target
+after_operation code host thread (op.GoWith entry on riders) passes =
+    after_go_with host thread thread.frame entry on riders thread.held
+after_operation code host thread (op.CallWith entry on riders) passes =
+    after_go_with host thread thread.new_frame entry on riders thread.held
 
 -- ---- the checks
 

@@ -170,6 +170,15 @@ impl Host {
                 self.take_rgoto(code, from, frame, entry, token);
                 None
             }
+            Message::RgotoWith {
+                frame,
+                entry,
+                token,
+                ref pairs,
+            } => {
+                self.take_rgoto_with(code, from, frame, entry, token, pairs);
+                None
+            }
             Message::Lgoto { token } => {
                 self.take_lgoto(code, from, token);
                 None
@@ -247,6 +256,8 @@ impl Host {
             Op::Ret(var, value) => self.return_value(code, thread, *var, value),
             Op::Back => self.give_back(code, thread),
             Op::Branch(guard, target) => self.branch(thread, guard, *target),
+            Op::GoWith(entry, on, riders) => self.go_with(thread, frame, *entry, *on, riders),
+            Op::CallWith(entry, on, riders) => self.go_with(thread, new_frame, *entry, *on, riders),
         };
         Ok(())
     }

@@ -6,7 +6,8 @@ ghost use Rattle.std.specs.Prelude.{if◌then◌else◌};
 ghost use Rattle.ics_stack.specs.Stack.{top_token};
 ghost use Rattle.host_code.specs.Code.{entry_at};
 ghost use Rattle.host_core.specs.Awaiting.{awaited_shape};
-ghost use Rattle.host_core.specs.Host.{state_of, IsReady, IsSameHost, with_row_written, with_variable_set, new_token};
+ghost use Rattle.host_core.specs.Host.{state_of, IsReady, IsSameHost, with_row_written, new_token};
+ghost use Rattle.host_core.specs.Host.{with_variable_set, with_variables_set};
 ghost use Rattle.host_core.specs.Host.{after_push, after_pop, after_popped, after_entering, after_asking, next_request};
 ghost use Rattle.host_core.specs.Host.{with_one_ignored};
 
@@ -30,11 +31,23 @@ impl Host {
 
     /// A variable of a frame becomes a value.
     pub(crate) fn set_variable(&mut self, frame: FrameId, var: VarId, value: i64)
-        requires { IsReady self.old }
+        requires { 0 < self.old.stores.spare }
         ensures state { state_of self.new ≡ with_variable_set (state_of self.old) frame var value }
+        ensures spare { self.old.stores.spare ≤ self.new.stores.spare + 1 }
         ensures same { IsSameHost self.old self.new }
     {
         self.stores.set_var(frame, var, value);
+    }
+
+    /// Each variable of a frame becomes the value that rode for it, in order.
+    pub(crate) fn set_variables(&mut self, frame: FrameId, riders: &[(VarId, i64)])
+        requires { length riders.now ≤ self.old.stores.spare }
+        ensures state { state_of self.new ≡ with_variables_set (state_of self.old) frame riders.now }
+        ensures same { IsSameHost self.old self.new }
+    {
+        for (var, value) in riders {
+            self.set_variable(frame, *var, *value);
+        }
     }
 
     /// An entry is pushed in its frame with the token that its thread will hold. Gives the token that takes it off.

@@ -1,6 +1,6 @@
 //! A host: what it has, and what one call of it does.
 
-ghost use Rattle.std.specs.Prelude.{◌≡◌, ◌<◌, ◌↔◌, OnOk, IsErrOf, IsTrue, is_none, length};
+ghost use Rattle.std.specs.Prelude.{◌≡◌, ◌<◌, ◌≤◌, ◌↔◌, OnOk, IsErrOf, IsTrue, is_none, length};
 ghost use Rattle.std.specs.Prelude.{◌+◌};
 ghost use Rattle.jif_tree.specs.Store.{row_of, element_at};
 ghost use Rattle.std.specs.Option.{option_map};
@@ -9,7 +9,7 @@ ghost use Rattle.host_core.specs.Host.{value_in_running, state_of, IsStopped, Is
 use crate::thread::{Thread, Waiting};
 use capability::KEY_BYTES;
 use entry_check::Checks;
-use host_code::{Code, CodeExpr, Message};
+use host_code::{Code, CodeExpr, MOST_RIDERS, Message};
 use host_stores::Stores;
 use ics_stack::IcsStack;
 use jif_tree::Store;
@@ -166,10 +166,11 @@ impl Host {
         self.stopped || self.calls >= MOST_CALLS
     }
 
-    /// Makes room for one more of each thing. Nothing else changes, also after an error.
+    /// Makes room for one more of each thing, and for as many variables as may ride with a message. Nothing else changes,
+    /// also after an error.
     fn reserve(&mut self) -> Result<(), OutOfMemory>
         ensures waiting { OnOk result (0 < self.new.room) }
-        ensures variables { OnOk result (0 < self.new.stores.spare) }
+        ensures variables { OnOk result (MOST_RIDERS ≤ self.new.stores.spare) }
         ensures stack { OnOk result (0 < self.new.stack.room) }
         ensures same { self.new ≡ record self.old {
           room = self.new.room;
@@ -178,7 +179,7 @@ impl Host {
         } }
     {
         self.waiting.reserve(1)?;
-        self.stores.reserve_vars(1)?;
+        self.stores.reserve_vars(MOST_RIDERS)?;
         self.stack.reserve()
     }
 

@@ -1,14 +1,15 @@
 //! Requests that a host takes: each is checked, done and answered.
 
-ghost use Rattle.std.specs.Prelude.{◌≡◌, ◌<◌, length};
-ghost use Rattle.entry_check.specs.Checks.{AreChecksOf};
+ghost use Rattle.std.specs.Prelude.{◌≡◌, ◌<◌, ◌↔◌, length, IsTrue, None};
+ghost use Rattle.host_code.specs.Riders.{names_of};
+ghost use Rattle.entry_check.specs.Checks.{AreChecksOf, MayRide};
 ghost use Rattle.host_core.specs.Host.{state_of, IsReady, IsSameHost};
 ghost use Rattle.host_core.specs.Taking.{IsTaking};
 
 use crate::host::{Host, Sent};
 use capability::{Held, Token};
 use entry_check::Ask;
-use host_code::{Code, Message};
+use host_code::{Code, Message, Riders};
 use js_base::limits::HOSTS;
 use js_base::{EntryId, FieldId, FrameId, HostId, RequestId, VarId};
 
@@ -133,6 +134,48 @@ impl Host {
             self.enter(code, entry, frame, Held::of(token));
         } else {
             self.ignore();
+        }
+    }
+
+    /// A thread is to start at an entry and in a frame, some of whose variables become the values that ride. It holds the
+    /// token.
+    pub(crate) fn take_rgoto_with(
+        &mut self,
+        code: &Code,
+        from: HostId,
+        frame: FrameId,
+        entry: EntryId,
+        token: Token,
+        riders: &Riders,
+    )
+        requires ready { IsReady self.old }
+        requires checks { AreChecksOf code.now self.old.me self.old.checks }
+        requires from { from.0 < HOSTS }
+        ensures state { IsTaking code.now (state_of self.old) from
+            (Message.RgotoWith frame entry token riders.now)
+            (record { state = state_of self.new; sent = None }) }
+        ensures same { IsSameHost self.old self.new }
+    {
+        let pairs = riders.pairs();
+        if self.checks.may(Ask::Enter(entry), from) && self.may_ride(code, from, pairs) {
+            self.set_variables(frame, pairs);
+            self.enter(code, entry, frame, Held::of(token));
+        } else {
+            self.ignore();
+        }
+    }
+
+    /// Whether a host may forward each variable that rides.
+    fn may_ride(&self, code: &Code, from: HostId, riders: &[(VarId, i64)]) -> bool
+        requires checks { AreChecksOf code.now self.now.me self.now.checks }
+        requires from { from.0 < HOSTS }
+        ensures { IsTrue result ↔ MayRide code.now self.now.me from (names_of riders.now) }
+    {
+        match riders {
+            [] => true,
+            [(var, _), others @ ..] => {
+                self.checks.may(Ask::Forward(*var), from) && self.may_ride(code, from, others)
+            }
         }
     }
 

@@ -242,6 +242,17 @@ fn with_wrong_tags(message: &Message) -> Message
             entry,
             token: with_wrong_tag(token),
         },
+        Message::RgotoWith {
+            frame,
+            entry,
+            token,
+            pairs,
+        } => Message::RgotoWith {
+            frame,
+            entry,
+            token: with_wrong_tag(token),
+            pairs,
+        },
         Message::Lgoto { token } => Message::Lgoto {
             token: with_wrong_tag(token),
         },

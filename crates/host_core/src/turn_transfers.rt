@@ -2,14 +2,16 @@
 
 ghost use Rattle.std.specs.Prelude.{◌≡◌, ◌<◌, ◌+◌, ◌^◌, ◌↔◌, IsTrue, length};
 ghost use Rattle.host_code.specs.Code.{variable_at};
+ghost use Rattle.host_code.specs.Riders.{AreFew};
 ghost use Rattle.host_core.specs.Host.{state_of, IsReady, IsSameHost};
-ghost use Rattle.host_core.specs.Turn.{after_own_push, after_ask, after_go, after_call, IsReturning, IsGivingBack};
+ghost use Rattle.host_core.specs.Turn.{after_own_push, after_ask, after_go, after_go_with, after_call, riders_of};
+ghost use Rattle.host_core.specs.Turn.{IsReturning, IsGivingBack};
 ghost use Rattle.host_core.specs.Turn.{MayReturn};
 
 use crate::host::{Host, Sent};
 use crate::thread::{Awaited, Thread};
 use capability::Held;
-use host_code::{Code, CodeExpr, Message};
+use host_code::{Code, CodeExpr, Message, RiderVars, Riders};
 use js_base::{EntryId, FrameId, HostId, VarId};
 
 impl Host {
@@ -85,6 +87,53 @@ impl Host {
                 token,
             },
         ))
+    }
+
+    /// The thread ends, and is handed over to a host at an entry and in a frame, with the values of variables of that
+    /// frame.
+    pub(crate) fn go_with(
+        &mut self,
+        mut thread: Thread,
+        frame: FrameId,
+        entry: EntryId,
+        on: HostId,
+        riders: &RiderVars,
+    ) -> Sent
+        ensures state { after_go_with (state_of self.old) thread frame entry on riders.now thread.held
+            ≡ record { state = state_of self.new; sent = result } }
+        ensures same { IsSameHost self.old self.new }
+    {
+        let Some(held) = thread.take_held() else {
+            self.running = Some(thread);
+            return None;
+        };
+        let pairs = self.riders_for(frame, riders.vars());
+        self.running = None;
+        let token = held.spend();
+        Some((
+            on,
+            Message::RgotoWith {
+                frame,
+                entry,
+                token,
+                pairs,
+            },
+        ))
+    }
+
+    /// Some variables with their values in a frame.
+    fn riders_for(&self, frame: FrameId, vars: &[VarId]) -> Riders
+        requires { AreFew vars.now }
+        ensures { result ≡ riders_of (state_of self.now) frame vars.now }
+    {
+        let [first, others @ ..] = vars else {
+            unreachable!();
+        };
+        let mut riders = Riders::one((*first, self.stores.var(frame, *first)));
+        for var in others {
+            riders.push((*var, self.stores.var(frame, *var)));
+        }
+        riders
     }
 
     /// The thread goes on at an entry in its new frame, on this host or on another.
