@@ -13,10 +13,12 @@ pub mod PrintedWords
 pub mod ScriptAgain
 pub mod SettingsAgain
 pub mod OwnTokens
+pub mod RiderLists
 pub mod Rows
 pub mod SaidAgain
 pub mod SaidEvents
 pub mod SaidNumbers
 pub mod SaidParts
+pub mod SaidRiders
 pub mod SaidWords
 pub mod Told

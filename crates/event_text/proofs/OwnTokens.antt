@@ -18,7 +18,7 @@ use Rattle.event_text.specs.declared.event.BadMessage.TheVariants as bad
 use Rattle.event_text.specs.declared.event.BadToken.{BadToken}
 use Rattle.event_text.specs.declared.event.BadToken.TheVariants.{Sent}
 use Rattle.event_text.specs.Acts.{among, own_token, own_in, token_of, get_of, set_of, forward_of, sync_of, rgoto_of}
-use Rattle.event_text.specs.Acts.{lgoto_of, value_of, ack_of, answer_of, message_of}
+use Rattle.event_text.specs.Acts.{rgoto_with_of, lgoto_of, value_of, ack_of, answer_of, message_of}
 use Rattle.event_text.specs.Events.{turn_of, take_of, act_of, event_of, with_event, events_of}
 use Rattle.event_text.specs.Lines.{LineShape, said_lines}
 use Rattle.event_text.specs.Misbehaving.{bad_in_front, past_bad, with_hosts}
@@ -28,7 +28,7 @@ use Rattle.event_text.specs.Parts.{host_named, parts, colon}
 use Rattle.event_text.specs.Script.{ScriptShape, script_of, with_start}
 use Rattle.event_text.specs.Settings.{FieldForm, form_of, settings_in_front, past_settings, starting_rows}
 use Rattle.event_text.specs.Settings.{after_settings}
-use Rattle.event_text.specs.Words.{Word, one_word, two_words, three_words, four_words}
+use Rattle.event_text.specs.Words.{Word, one_word, two_words, three_words, four_words, or_else}
 use Rattle.event_text.proofs.MadeParts.{mapped, then_made, either_made, two_made, three_made, four_made}
 
 -- ---- tokens
@@ -129,6 +129,21 @@ module _ (code : CodeShape) (word : ℕ) where
       three_made (λ frame entry token. bad.Rgoto frame entry token) _ _ _ made of in
       subst (IsOwnMessage code.hosts word) same (token_own code.hosts word it.2 token third)
 
+  rgoto_with_own : (words : List Word) → Owns (rgoto_with_of code word words)
+  rgoto_with_own (frame ∷ entry ∷ token ∷ mark ∷ words) made is =
+      elim (either_made (bytes_eq mark (codes "with")) _ None made is) [
+        | inl (holds, said) ↦
+            let (one, two, presented, riders, first, second, third, fourth, same) =
+            four_made (λ frame entry token riders. bad.RgotoWith frame entry token riders) _ _ _ _ made said in
+            subst (IsOwnMessage code.hosts word) same (token_own code.hosts word token presented third)
+        | inr (fails, none) ↦ absurd cc
+      ]
+  rgoto_with_own words made is = absurd cc
+
+  or_else_own : (first second : Option BadMessage) → Owns first → Owns second → Owns (or_else first second)
+  or_else_own (Some one) second owns other made is = owns made is
+  or_else_own None second owns other made is = other made is
+
   lgoto_own : (words : List Word) → Owns (lgoto_of code word words)
   lgoto_own words made is =
       let (it, there, of) = then_made _ (one_word words) made is in
@@ -168,7 +183,7 @@ module _ (code : CodeShape) (word : ℕ) where
       (or_own (bytes_eq kind (codes "set")) _ _ (set_own words)
       (or_own (bytes_eq kind (codes "forward")) _ _ (forward_own words)
       (or_own (bytes_eq kind (codes "sync")) _ _ (sync_own words)
-      (or_own (bytes_eq kind (codes "rgoto")) _ _ (rgoto_own words)
+      (or_own (bytes_eq kind (codes "rgoto")) _ _ (or_else_own _ _ (rgoto_own words) (rgoto_with_own words))
       (or_own (bytes_eq kind (codes "lgoto")) _ _ (lgoto_own words)
       (or_own (bytes_eq kind (codes "value")) _ _ (value_own words)
       (or_own (bytes_eq kind (codes "ack")) _ _ (ack_own words)

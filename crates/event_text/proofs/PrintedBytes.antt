@@ -21,6 +21,8 @@ use Rattle.capability.specs.declared.token.Token.{Token}
 use Rattle.host_code.specs.Code.{CodeShape, CodeHostShape, CodeFieldShape, CodeVariableShape}
 use Rattle.host_code.specs.MessageText.{host_text, field_text, variable_text, request_text, frame_text, entry_text}
 use Rattle.host_code.specs.MessageText.{name_of_host, name_of_field, name_of_variable, token_text}
+use Rattle.host_code.specs.MessageText.{rider_text, riders_text}
+use Rattle.host_code.specs.Riders.{Rider}
 use Rattle.host_code.specs.declared.code.TheConstants.{MOST_ITEMS}
 use Rattle.host_code.specs.Sound.{IsSoundCode, IsVariableName, FieldFits, VariableFits}
 use Rattle.event_text.specs.declared.event.Event.{Event}
@@ -190,6 +192,14 @@ module _ (code : CodeShape) (sound : IsSoundCode code) where
   token_printed (Sent number) = let digits = number_printed number in record { all = digits.all }
   token_printed (Own token) = let said = own_printed token in record { all = said.all }
 
+  rider_printed : (rider : Rider) → IsPrinted (rider_text code rider)
+  rider_printed rider =
+      two_printed {kind = codes " "} space_printed (variable_text_printed rider.0) (signed_printed rider.1)
+
+  riders_printed : (riders : List Rider) → IsPrinted (riders_text code riders)
+  riders_printed [] = record { all = refl }
+  riders_printed (rider ∷ riders) = both_printed (rider_printed rider) (riders_printed riders)
+
   message_printed : (made : BadMessage) → IsPrinted (bad_message_text code made)
   message_printed (bad.Get request field index) =
       three_printed {kind = codes "get "} (record { all = refl }) (request_printed request) (field_printed field) (signed_printed index)
@@ -204,6 +214,10 @@ module _ (code : CodeShape) (sound : IsSoundCode code) where
       (token_printed token)
   message_printed (bad.Rgoto frame entry token) =
       three_printed {kind = codes "rgoto "} (record { all = refl }) (frame_printed frame) (entry_printed entry) (token_printed token)
+  message_printed (bad.RgotoWith frame entry token riders) =
+      then_printed {mark = codes " with"}
+      (three_printed {kind = codes "rgoto "} (record { all = refl }) (frame_printed frame) (entry_printed entry) (token_printed token))
+      (record { all = refl }) (riders_printed riders)
   message_printed (bad.Lgoto token) = let said = token_printed token in record { all = said.all }
   message_printed (bad.Value request value) =
       two_printed {kind = codes "value "} (record { all = refl }) (request_printed request) (signed_printed value)

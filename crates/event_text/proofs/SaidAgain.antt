@@ -11,15 +11,16 @@ use Rattle.event_text.specs.declared.event.Event.TheVariants.{Take, Turn, Act}
 use Rattle.event_text.specs.declared.event.BadMessage.{BadMessage}
 use Rattle.event_text.specs.declared.event.BadMessage.TheVariants as bad
 use Rattle.event_text.specs.Acts.{get_of, set_of, forward_of, sync_of, rgoto_of, lgoto_of, value_of, ack_of, answer_of}
-use Rattle.event_text.specs.Acts.{message_of}
+use Rattle.event_text.specs.Acts.{rgoto_with_of, message_of}
 use Rattle.event_text.specs.Events.{turn_of, take_of, act_of, event_of}
 use Rattle.event_text.specs.EventText.{bad_message_text, event_text}
 use Rattle.event_text.specs.Lines.{words}
-use Rattle.event_text.specs.Words.{Word, one_word, two_words, three_words, four_words}
+use Rattle.event_text.specs.Words.{Word, one_word, two_words, three_words, four_words, or_else}
 use Rattle.event_text.proofs.MadeParts.{mapped, then_made, either_made, two_made, three_made, four_made}
 use Rattle.event_text.proofs.SaidNumbers.{number_text, signed_text}
 use Rattle.event_text.proofs.SaidParts.{one_are, two_are, three_are, four_are, host_said, field_said, variable_said}
 use Rattle.event_text.proofs.SaidParts.{request_said, frame_said, entry_said, token_said}
+use Rattle.event_text.proofs.SaidRiders.{riders_said, spaced, joined_spaced}
 use Rattle.event_text.proofs.SaidWords.{joined, words_again}
 
 abbrev pub space : ℕ
@@ -38,6 +39,16 @@ spaced_four a b c d =
     append_assoc (a ++ codes " " ++ b ++ codes " " ++ c) (codes " ") d
     ∙ append_assoc (a ++ codes " " ++ b ++ codes " ") c (space ∷ d)
     ∙ spaced_three a b (c ++ space ∷ d)
+
+spaced_with : (a b c : Word) (said : List Word) →
+    a ++ codes " " ++ b ++ codes " " ++ c ++ codes " with" ++ spaced said
+    ≡ joined space (a ∷ b ∷ c ∷ codes "with" ∷ said)
+spaced_with a b c said =
+    append_assoc (a ++ codes " " ++ b ++ codes " " ++ c) (codes " with") (spaced said)
+    ∙ append_assoc (a ++ codes " " ++ b ++ codes " ") c (codes " with" ++ spaced said)
+    ∙ spaced_three a b (c ++ (codes " with" ++ spaced said))
+    ∙ ap (λ (rest : List ℕ). a ++ space ∷ (b ++ space ∷ (c ++ space ∷ rest)))
+    (sym (joined_spaced (codes "with") said))
 
 module _ (code : CodeShape) (word : ℕ) where
   -- ---- messages
@@ -118,6 +129,32 @@ module _ (code : CodeShape) (word : ℕ) where
       (rw (frame_said it.0 frame one, entry_said it.1 entry two, token_said code word it.2 token three)
       (ap (λ (rest : List ℕ). codes "rgoto " ++ rest) (spaced_three it.0 it.1 it.2))))
 
+  rgoto_with_said : (said : List Word) → Prints (codes "rgoto") said (rgoto_with_of code word said)
+  rgoto_with_said (first ∷ second ∷ third ∷ mark ∷ said) made is =
+      elim (either_made (bytes_eq mark (codes "with")) _ None made is) [
+        | inl (holds, found) ↦
+            let (frame, entry, token, riders, one, two, three, four, same) =
+            four_made (λ frame entry token riders. bad.RgotoWith frame entry token riders) _ _ _ _ made found in
+            subst (Said (codes "rgoto") (first ∷ second ∷ third ∷ mark ∷ said)) same
+            (rw (
+              frame_said first frame one,
+              entry_said second entry two,
+              token_said code word third token three,
+              riders_said code said riders four,
+            )
+            (ap (λ (rest : List ℕ). codes "rgoto " ++ rest)
+            (spaced_with first second third said)
+            ∙ ap (λ (w : Word). joined space (codes "rgoto" ∷ first ∷ second ∷ third ∷ w ∷ said))
+            (sym ((bytes_eq-Decides mark (codes "with")).0 holds))))
+        | inr (fails, none) ↦ absurd cc
+      ]
+  rgoto_with_said said made is = absurd cc
+
+  or_else_said : (kind : Word) (said : List Word) (first second : Option BadMessage) → Prints kind said first →
+      Prints kind said second → Prints kind said (or_else first second)
+  or_else_said kind said (Some found) second one two made is = one made is
+  or_else_said kind said None second one two made is = two made is
+
   lgoto_said : (said : List Word) → Prints (codes "lgoto") said (lgoto_of code word said)
   lgoto_said said made is =
       let (it, there, of) = then_made _ (one_word said) made is in
@@ -174,7 +211,8 @@ module _ (code : CodeShape) (word : ℕ) where
       (kind_said kind (codes "set") said _ _ (set_said said)
       (kind_said kind (codes "forward") said _ _ (forward_said said)
       (kind_said kind (codes "sync") said _ _ (sync_said said)
-      (kind_said kind (codes "rgoto") said _ _ (rgoto_said said)
+      (kind_said kind (codes "rgoto") said _ _
+      (or_else_said (codes "rgoto") said _ _ (rgoto_said said) (rgoto_with_said said))
       (kind_said kind (codes "lgoto") said _ _ (lgoto_said said)
       (kind_said kind (codes "value") said _ _ (value_said said)
       (kind_said kind (codes "ack") said _ _ (ack_said said)

@@ -7,6 +7,7 @@ use Rattle.js_base.specs.declared.ids.HostId.{HostId}
 use Rattle.js_base.specs.declared.ids.EntryId.{EntryId}
 use Rattle.js_base.specs.declared.ids.FrameId.{FrameId}
 use Rattle.capability.specs.declared.tags.TheConstants.{TAG_BYTES}
+use Rattle.host_code.specs.Riders.{Rider, riders_from}
 use Rattle.host_code.specs.Code.{CodeShape, CodeHostShape}
 use Rattle.event_text.specs.declared.event.BadMessage.{BadMessage}
 use Rattle.event_text.specs.declared.event.BadMessage.TheVariants as bad
@@ -15,6 +16,7 @@ use Rattle.event_text.specs.declared.event.BadToken.TheVariants.{Sent, Own}
 use Rattle.event_text.specs.Numbers.{number_of, signed_of}
 use Rattle.event_text.specs.Parts.{host_named, field_of, variable_of, parts, colon, request_of, frame_of, entry_of}
 use Rattle.event_text.specs.Words.{Word, one_word, two_words, three_words, four_words, of_two, of_three, of_four}
+use Rattle.event_text.specs.Words.{or_else}
 
 -- ---- tokens
 
@@ -72,6 +74,31 @@ rgoto_of code word words =
     option_and_then (λ it. of_three (λ frame entry token. bad.Rgoto frame entry token)
     (frame_of it.0) (entry_of it.1) (token_of code.hosts word it.2)) (three_words words)
 
+-- a variable and a value for it
+abbrev pub rider_of : CodeShape → Word → Word → Option Rider
+rider_of code name value =
+    of_two (λ variable number. (variable, number)) (variable_of code.variables name) (signed_of value)
+
+-- words by two
+abbrev pub riders_in : CodeShape → List Word → Option (List Rider)
+riders_in code [] = Some []
+riders_in code (name ∷ []) = None
+riders_in code (name ∷ value ∷ words) =
+    of_two (λ rider riders. rider ∷ riders) (rider_of code name value) (riders_in code words)
+
+-- an rgoto with which 1 to 8 values ride
+abbrev pub rgoto_with_of : CodeShape → ℕ → List Word → Option BadMessage
+rgoto_with_of code word (frame ∷ entry ∷ token ∷ mark ∷ words) =
+    if bytes_eq mark (codes "with")
+    then of_four (λ frame entry token riders. bad.RgotoWith frame entry token riders) (frame_of frame) (entry_of entry)
+    (token_of code.hosts word token) (option_and_then riders_from (riders_in code words))
+    else None
+rgoto_with_of code word words = None
+
+-- an rgoto with riders or without
+abbrev pub any_rgoto_of : CodeShape → ℕ → List Word → Option BadMessage
+any_rgoto_of code word words = or_else (rgoto_of code word words) (rgoto_with_of code word words)
+
 abbrev pub lgoto_of : CodeShape → ℕ → List Word → Option BadMessage
 lgoto_of code word words =
     option_and_then (λ it. option_map (λ token. bad.Lgoto token) (token_of code.hosts word it)) (one_word words)
@@ -99,7 +126,7 @@ message_of code word (kind ∷ words) =
     else (if bytes_eq kind (codes "set") then set_of code words
     else (if bytes_eq kind (codes "forward") then forward_of code words
     else (if bytes_eq kind (codes "sync") then sync_of code word words
-    else (if bytes_eq kind (codes "rgoto") then rgoto_of code word words
+    else (if bytes_eq kind (codes "rgoto") then any_rgoto_of code word words
     else (if bytes_eq kind (codes "lgoto") then lgoto_of code word words
     else (if bytes_eq kind (codes "value") then value_of words
     else (if bytes_eq kind (codes "ack") then ack_of words

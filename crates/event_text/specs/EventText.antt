@@ -4,7 +4,7 @@ use Rattle.std.specs.Fmt.{decimal}
 use Rattle.host_code.specs.Code.{CodeShape}
 use Rattle.host_code.specs.MessageText.{host_text, field_text, variable_text, token_text, get_text, set_text}
 use Rattle.host_code.specs.MessageText.{forward_text, sync_text, rgoto_text, lgoto_text, value_text, ack_text}
-use Rattle.host_code.specs.MessageText.{answer_text}
+use Rattle.host_code.specs.MessageText.{answer_text, rgoto_with_text, riders_text}
 use Rattle.event_text.specs.declared.event.Event.{Event}
 use Rattle.event_text.specs.declared.event.Event.TheVariants.{Take, Turn, Act}
 use Rattle.event_text.specs.declared.event.BadMessage.{BadMessage}
@@ -27,6 +27,8 @@ bad_message_text code (bad.Forward request frame variable value) =
 bad_message_text code (bad.Sync request frame entry token) =
     sync_text request frame entry (bad_token_text code token)
 bad_message_text code (bad.Rgoto frame entry token) = rgoto_text frame entry (bad_token_text code token)
+bad_message_text code (bad.RgotoWith frame entry token riders) =
+    rgoto_with_text frame entry (bad_token_text code token) (riders_text code riders)
 bad_message_text code (bad.Lgoto token) = lgoto_text (bad_token_text code token)
 bad_message_text code (bad.Value request value) = value_text request value
 bad_message_text code (bad.Ack request) = ack_text request

@@ -19,6 +19,7 @@ IsOwnToken hosts word _ = ⊤
 abbrev pub IsOwnMessage : List CodeHostShape → ℕ → BadMessage → Type 0
 IsOwnMessage hosts word (bad.Sync request frame entry token) = IsOwnToken hosts word token
 IsOwnMessage hosts word (bad.Rgoto frame entry token) = IsOwnToken hosts word token
+IsOwnMessage hosts word (bad.RgotoWith frame entry token riders) = IsOwnToken hosts word token
 IsOwnMessage hosts word (bad.Lgoto token) = IsOwnToken hosts word token
 IsOwnMessage hosts word (bad.Token request token) = IsOwnToken hosts word token
 IsOwnMessage hosts word _ = ⊤

@@ -37,3 +37,8 @@ of_three make (Some first) second third = of_two (make first) second third
 abbrev pub of_four : {X Y Z W V : Type 0} → (X → Y → Z → W → V) → Option X → Option Y → Option Z → Option W → Option V
 of_four make None second third fourth = None
 of_four make (Some first) second third fourth = of_three (make first) second third fourth
+
+-- the first where it is there, and else the second
+abbrev pub or_else : {X : Type 0} → Option X → Option X → Option X
+or_else (Some first) second = Some first
+or_else None second = second

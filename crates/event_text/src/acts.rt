@@ -1,10 +1,13 @@
 //! What a misbehaving host sends, as scripts say it.
 
-ghost use Rattle.std.specs.Prelude.{◌≡◌, ◌≤◌, ◌<◌, length, Some};
+ghost use Rattle.std.specs.Prelude.{◌≡◌, ◌≤◌, ◌<◌, ◌⊎◌, ◌↔◌, ◌∷◌, [], length, Some, None, IfSome, IfNone, IsTrue};
+ghost use Rattle.std.specs.Option.{option_map, option_and_then};
+ghost use Rattle.host_code.specs.Riders.{riders_from};
 ghost use Rattle.event_text.specs.Lines.{words};
 ghost use Rattle.event_text.specs.Parts.{parts, colon};
 ghost use Rattle.event_text.specs.Acts.{among, own_in, token_of, get_of, set_of, forward_of, sync_of, rgoto_of};
-ghost use Rattle.event_text.specs.Acts.{lgoto_of, value_of, ack_of, answer_of, message_of};
+ghost use Rattle.event_text.specs.Acts.{riders_in, rgoto_with_of, any_rgoto_of, lgoto_of, value_of, ack_of};
+ghost use Rattle.event_text.specs.Acts.{answer_of, message_of};
 
 use crate::event::{BadMessage, BadToken};
 use crate::numbers::{number, signed};
@@ -13,10 +16,10 @@ use crate::parts::{
 };
 use crate::words::{first_word, four_words, one_word, three_words, two_words};
 use capability::{TAG_BYTES, Token};
-use host_code::{Code, CodeHost};
-use js_base::HostId;
+use host_code::{Code, CodeHost, MOST_RIDERS, Riders};
 use js_base::bits::has_bit;
 use js_base::limits::HOSTS;
+use js_base::{HostId, VarId};
 
 /// The message that the words of a line say. Bit h of the word says that host h misbehaves.
 pub fn message_of(code: &Code, bad: u16, line: &[u8]) -> Option<BadMessage>
@@ -32,7 +35,7 @@ pub fn message_of(code: &Code, bad: u16, line: &[u8]) -> Option<BadMessage>
     } else if kind == b"sync".as_slice() {
         sync_of(code, bad, operands)
     } else if kind == b"rgoto".as_slice() {
-        rgoto_of(code, bad, operands)
+        any_rgoto_of(code, bad, operands)
     } else if kind == b"lgoto".as_slice() {
         lgoto_of(code, bad, operands)
     } else if kind == b"value".as_slice() {
@@ -120,6 +123,80 @@ fn rgoto_of(code: &Code, bad: u16, operands: &[u8]) -> Option<BadMessage>
         entry,
         token,
     })
+}
+
+/// An rgoto with riders or without.
+fn any_rgoto_of(code: &Code, bad: u16, operands: &[u8]) -> Option<BadMessage>
+    ensures { result ≡ any_rgoto_of code.now bad (words operands.now) }
+{
+    match rgoto_of(code, bad, operands) {
+        Some(made) => Some(made),
+        None => rgoto_with_of(code, bad, operands),
+    }
+}
+
+/// An rgoto with which 1 to 8 values ride.
+fn rgoto_with_of(code: &Code, bad: u16, operands: &[u8]) -> Option<BadMessage>
+    ensures { result ≡ rgoto_with_of code.now bad (words operands.now) }
+{
+    let (frame, rest) = first_word(operands)?;
+    let (entry, rest) = first_word(rest)?;
+    let (token, rest) = first_word(rest)?;
+    let (mark, rest) = first_word(rest)?;
+    if mark != b"with".as_slice() {
+        return None;
+    }
+    let frame = frame_of(frame)?;
+    let entry = entry_of(entry)?;
+    let token = token_of(code.hosts(), bad, token)?;
+    let pairs = riders_of(code, rest)?;
+    Some(BadMessage::RgotoWith {
+        frame,
+        entry,
+        token,
+        pairs,
+    })
+}
+
+/// The riders that words say by two, 1 to 8 of them.
+fn riders_of(code: &Code, line: &[u8]) -> Option<Riders>
+    ensures { result ≡ option_and_then riders_from (riders_in code.now (words line.now)) }
+{
+    let (first, mut rest) = next_rider(code, line)?;
+    let mut riders = Riders::one(first);
+    for _ in 1..MOST_RIDERS {
+        if is_blank_line(rest) {
+            return Some(riders);
+        }
+        let (rider, behind) = next_rider(code, rest)?;
+        riders.push(rider);
+        rest = behind;
+    }
+    if is_blank_line(rest) {
+        Some(riders)
+    } else {
+        None
+    }
+}
+
+/// The rider that the first two words of a line say, and what follows them.
+fn next_rider<'a>(code: &Code, line: &'a [u8]) -> Option<((VarId, i64), &'a [u8])>
+    ensures none { IfNone result ((words line.now ≡ []) ⊎ (riders_in code.now (words line.now) ≡ None)) }
+    ensures some { IfSome result (λ it. riders_in code.now (words line.now)
+        ≡ option_map (λ riders. it.0 ∷ riders) (riders_in code.now (words it.1.now))) }
+{
+    let (name, rest) = first_word(line)?;
+    let (value, rest) = first_word(rest)?;
+    let var = variable_of(code.vars(), name)?;
+    let value = signed(value)?;
+    Some(((var, value), rest))
+}
+
+/// Whether a line has no words.
+fn is_blank_line(line: &[u8]) -> bool
+    ensures { IsTrue result ↔ (words line.now ≡ []) }
+{
+    first_word(line).is_none()
 }
 
 fn lgoto_of(code: &Code, bad: u16, operands: &[u8]) -> Option<BadMessage>

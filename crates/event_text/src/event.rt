@@ -1,6 +1,7 @@
 //! What happens in a world of hosts, one step at a time.
 
 use capability::Token;
+use host_code::Riders;
 use js_base::{EntryId, FieldId, FrameId, HostId, RequestId, VarId};
 
 /// What happens next. The first host of a take is the sender, and the first of an act the one that misbehaves.
@@ -44,6 +45,12 @@ pub enum BadMessage {
         frame: FrameId,
         entry: EntryId,
         token: BadToken,
+    },
+    RgotoWith {
+        frame: FrameId,
+        entry: EntryId,
+        token: BadToken,
+        pairs: Riders,
     },
     Lgoto {
         token: BadToken,

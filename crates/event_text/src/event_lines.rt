@@ -1,15 +1,16 @@
 //! The lines that say events.
 
-ghost use Rattle.std.specs.Prelude.{◌≡◌, ◌≤◌, length};
+ghost use Rattle.std.specs.Prelude.{◌≡◌, ◌≤◌, ◌++◌, ◌∷◌, [], length, OnOk};
 ghost use Rattle.event_text.specs.Lines.{words};
 ghost use Rattle.event_text.specs.Events.{event_of, turn_of, take_of, act_of};
 
 use crate::acts::message_of;
-use crate::event::Event;
+use crate::event::{BadMessage, Event};
 use crate::numbers::number;
 use crate::parts::host_named;
 use crate::words::{first_word, one_word, three_words};
 use host_code::{Code, CodeHost};
+use js_base::OutOfMemory;
 use js_base::limits::HOSTS;
 
 /// The event that a line says. Bit h of the word says that host h misbehaves.
@@ -55,4 +56,17 @@ fn act_of(code: &Code, bad: u16, operands: &[u8]) -> Option<Event>
     let to = host_named(code.hosts(), to)?;
     let made = message_of(code, bad, said)?;
     Some(Event::Act(from, to, made))
+}
+
+/// Puts the event of a line behind the others.
+// The kit's borrow checker has to be told of each type that an event holds, so the function names one.
+pub fn push_event(
+    events: &mut Vec<(u32, Event)>,
+    number: u32,
+    event: Event,
+) -> Result<(), OutOfMemory>
+    ensures { OnOk result (events.new.items ≡ events.old.items ++ (number, event) ∷ []) }
+{
+    let _no_message: Option<BadMessage> = None;
+    Ok(events.push((number, event))?)
 }

@@ -7,7 +7,8 @@ ghost use Rattle.event_text.specs.EventText.{event_text, bad_message_text, bad_t
 use crate::event::{BadMessage, BadToken, Event};
 use host_code::{
     Code, ack_text, answer_text, field_name, forward_text, get_text, host_name, lgoto_text,
-    rgoto_text, set_text, sync_text, token_text, value_text, var_name,
+    rgoto_text, rgoto_with_text, riders_text, set_text, sync_text, token_text, value_text,
+    var_name,
 };
 use js_base::OutOfMemory;
 use std::alloc::Global;
@@ -74,6 +75,16 @@ fn bad_message_text(alloc: Global, code: &Code, made: &BadMessage) -> Result<Str
         } => {
             let token = bad_token_text(alloc, code, token)?;
             rgoto_text(alloc, *frame, *entry, token.as_str())
+        }
+        BadMessage::RgotoWith {
+            frame,
+            entry,
+            token,
+            pairs,
+        } => {
+            let token = bad_token_text(alloc, code, token)?;
+            let riders = riders_text(alloc, code, pairs.pairs())?;
+            rgoto_with_text(alloc, *frame, *entry, token.as_str(), riders.as_str())
         }
         BadMessage::Lgoto { token } => {
             let token = bad_token_text(alloc, code, token)?;

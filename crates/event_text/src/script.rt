@@ -9,7 +9,7 @@ ghost use Rattle.event_text.specs.Settings.{form_of, HasRows};
 ghost use Rattle.event_text.specs.Script.{script_of, EventsFail, EventLinesFail};
 
 use crate::event::Event;
-use crate::event_lines::event_of;
+use crate::event_lines::{event_of, push_event};
 use crate::lines::{Lines, next_line};
 use crate::misbehaving::take_bad;
 use crate::settings::{starting_store, take_settings};
@@ -140,9 +140,7 @@ fn read_event_lines(
         let Some(event) = event_of(code, bad, line.bytes) else {
             return Err(EventsError::BadLine(line.number));
         };
-        if events.push((line.number, event)).is_err() {
-            return Err(EventsError::OutOfMemory);
-        }
+        push_event(&mut events, line.number, event)?;
         left = after;
     }
     Ok(events)
