@@ -1,7 +1,7 @@
 -- Reading bytes from the front, up to the first fault. Each format has its own type of faults, and says which of them
 -- is that of bytes that end too soon.
-use Rattle.std.specs.Prelude.{ℕ, zero, suc, ℤ, Bool, true, false, if◌then◌else◌, List, [], ◌∷◌, ◌++◌, length, take, drop}
-use Rattle.std.specs.Prelude.{nat_lt, Result, Ok, Err, ⊤}
+use Rattle.std.specs.Prelude.{ℕ, zero, suc, ℤ, Bool, true, false, if◌then◌else◌, List, [], ◌∷◌, ◌++◌, length, take}
+use Rattle.std.specs.Prelude.{drop, nat_lt, Result, Ok, Err, ⊤}
 use Rattle.std.specs.Int.{Width, w32, w64, byte_len, from_be_bytes, cast_signed}
 
 -- what is read from the front of bytes, and what is left of them
