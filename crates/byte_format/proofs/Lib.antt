@@ -1,2 +1,4 @@
+pub mod ItemLaws
+pub mod Items
 pub mod NumberLaws
 pub mod Sequels

@@ -1,8 +1,8 @@
 -- Reading bytes from the front, up to the first fault. Each format has its own type of faults, and says which of them
 -- is that of bytes that end too soon.
-use Rattle.std.specs.Prelude.{ℕ, ℤ, Bool, true, false, if◌then◌else◌, List, [], ◌∷◌, length, take, drop, nat_lt}
-use Rattle.std.specs.Prelude.{Result, Ok, Err, ⊤}
-use Rattle.std.specs.Int.{Width, w64, byte_len, from_be_bytes, cast_signed}
+use Rattle.std.specs.Prelude.{ℕ, zero, suc, ℤ, Bool, true, false, if◌then◌else◌, List, [], ◌∷◌, ◌++◌, length, take}
+use Rattle.std.specs.Prelude.{drop, nat_lt, Result, Ok, Err, ⊤}
+use Rattle.std.specs.Int.{Width, w32, w64, byte_len, from_be_bytes, cast_signed}
 
 -- what is read from the front of bytes, and what is left of them
 abbrev pub Reader : Type 0 → Type 0 → Type 0
@@ -61,3 +61,18 @@ unfoldable pub integer_at : {E : Type 0} → E → Reader E ℤ
 integer_at short = do
   word ← number_at short w64
   given (cast_signed w64 word)
+
+-- ---- lists
+
+-- so many more items, each read by what stands before it
+unfoldable pub items_at : {E A : Type 0} → (List A → Reader E A) → List A → ℕ → Reader E (List A)
+items_at item before zero = given before
+items_at item before (suc count) = do
+  next ← item before
+  items_at item (before ++ next ∷ []) count
+
+-- items, behind their count
+unfoldable pub list_at : {E A : Type 0} → E → (List A → Reader E A) → Reader E (List A)
+list_at short item = do
+  count ← number_at short w32
+  items_at item [] count

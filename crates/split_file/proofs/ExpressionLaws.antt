@@ -15,19 +15,19 @@ use Rattle.host_code.specs.declared.code_expr.Node.TheVariants as node
 use Rattle.host_code.specs.declared.code_expr.TheConstants.{MOST_NODES}
 use Rattle.host_code.specs.CodeExpr.{depth_after}
 use Rattle.byte_format.specs.Numbers.{number_bytes}
-use Rattle.byte_format.specs.Reader.{sequel, given, require}
+use Rattle.byte_format.specs.Reader.{sequel, given, require, items_at}
 use Rattle.byte_format.proofs.NumberLaws.{byte_reads, byte_again, number_reads, number_again, integer_reads}
 use Rattle.byte_format.proofs.NumberLaws.{integer_again}
 use Rattle.byte_format.proofs.Sequels.{Reads, Again, reads_then, reads_given, reads_last, reads_require, reads_refused}
 use Rattle.byte_format.proofs.Sequels.{reads_if, again_then, again_given, again_last, again_require}
+use Rattle.byte_format.proofs.ItemLaws.{all_of, in_all, all_weaker, all_read, items_again}
 use Rattle.split_file.specs.declared.fault.Fault.TheVariants as fault
 use Rattle.split_file.specs.Spelling.{operator_byte, node_bytes, expression_bytes}
-use Rattle.split_file.specs.Reader.{Reader, byte_at, items_at}
+use Rattle.split_file.specs.Reader.{Reader, byte_at}
 use Rattle.split_file.specs.Reading.{operator_of, number_node_at, variable_id_at, variable_node_at, temporary_node_at}
 use Rattle.split_file.specs.Reading.{operator_node_at, node_of, node_at, leave_one, expression_at}
 use Rattle.split_file.proofs.Sequels.{reads_place, reads_in_range, again_place, again_in_range}
 use Rattle.split_file.proofs.NumberLaws.{index_reads, index_again}
-use Rattle.split_file.proofs.ItemLaws.{all_of, in_all, all_weaker, all_read, items_again}
 
 -- ---- operators
 

@@ -10,7 +10,7 @@ use Rattle.host_code.specs.declared.code.Entry.{Entry}
 use Rattle.host_code.specs.declared.instruction.Instr.{Instr}
 use Rattle.host_code.specs.Code.{CodeShape}
 use Rattle.byte_format.specs.Numbers.{AreBytes}
-use Rattle.byte_format.specs.Reader.{handed_on, sequel, given}
+use Rattle.byte_format.specs.Reader.{handed_on, sequel, given, items_at}
 use Rattle.byte_format.proofs.Sequels.{Reads, Again, read_as, ok_is, handed, reads_given, reads_require, reads_weaker}
 use Rattle.byte_format.proofs.Sequels.{again_given, again_require}
 use Rattle.split_file.specs.declared.fault.Fault.{Fault}
@@ -20,7 +20,7 @@ use Rattle.split_file.specs.declared.fault.ReadError.TheVariants as error
 use Rattle.split_file.specs.declared.error.SplitError.{SplitError}
 use Rattle.split_file.specs.declared.error.SplitError.TheVariants as refusal
 use Rattle.split_file.specs.Spelling.{magic, version_of, table_bytes, start_bytes, part_bytes, split_file}
-use Rattle.split_file.specs.Reader.{Reader, Fails, items_at}
+use Rattle.split_file.specs.Reader.{Reader, Fails}
 use Rattle.split_file.specs.Reading.{next_part_at, front_at, with_parts, ended, PLACE_BYTES, ENTRY_BYTES, entries_stand}
 use Rattle.split_file.specs.Reading.{code_at}
 use Rattle.split_file.specs.File.{IsRealCode, IsRefusal, refusal_of, outcome, file_code}

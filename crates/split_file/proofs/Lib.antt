@@ -2,7 +2,6 @@ pub mod Appends
 pub mod ExpressionLaws
 pub mod FileLaws
 pub mod FrontLaws
-pub mod ItemLaws
 pub mod Items
 pub mod NextItems
 pub mod NumberLaws

@@ -12,13 +12,13 @@ use Rattle.byte_format.specs.Numbers.{number_bytes}
 use Rattle.byte_format.proofs.NumberLaws.{number_reads, number_again}
 use Rattle.byte_format.proofs.Sequels.{Reads, Again, reads_then, reads_given, reads_require, reads_weaker, again_then}
 use Rattle.byte_format.proofs.Sequels.{again_given, again_require}
+use Rattle.byte_format.specs.Reader.{items_at}
+use Rattle.byte_format.proofs.ItemLaws.{AllIn, all_weaker, all_read, items_again}
 use Rattle.split_file.specs.declared.fault.Fault.TheVariants as fault
 use Rattle.split_file.specs.Spelling.{instruction_bytes, part_bytes}
-use Rattle.split_file.specs.Reader.{items_at}
 use Rattle.split_file.specs.Reading.{is_leaving, instruction_at, next_instruction_at, part_at, next_part_at}
 use Rattle.split_file.proofs.Sequels.{reads_place, again_place}
 use Rattle.split_file.proofs.NumberLaws.{index_reads, index_again}
-use Rattle.split_file.proofs.ItemLaws.{AllIn, all_weaker, all_read, items_again}
 use Rattle.split_file.proofs.OperandLaws.{IsFew}
 use Rattle.split_file.proofs.OperationLaws.{OperationIs, operation_reads, operation_again}
 use Rattle.split_file.proofs.Temporaries.{few_at}

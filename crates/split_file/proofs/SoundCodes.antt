@@ -16,9 +16,9 @@ use Rattle.host_code.specs.declared.code.Entry.{Entry}
 use Rattle.host_code.specs.declared.instruction.Instr.{Instr}
 use Rattle.host_code.specs.Code.{CodeShape, CodeFieldShape, part_of}
 use Rattle.host_code.specs.Sound.{IsHost, IsLeaving, OperationFits, PartFits, FieldFits, EntryFits, temporaries_at}
+use Rattle.byte_format.proofs.ItemLaws.{AllIn, all_of, in_all, all_weaker, at_place, by_place}
 use Rattle.split_file.specs.Reading.{is_leaving, elements_of, is_empty, with_parts}
 use Rattle.split_file.specs.File.{IsRealInstruction, IsRealCode}
-use Rattle.split_file.proofs.ItemLaws.{AllIn, all_of, in_all, all_weaker, at_place, by_place}
 use Rattle.split_file.proofs.TableLaws.{FieldIs}
 use Rattle.split_file.proofs.StartLaws.{EntryIs}
 use Rattle.split_file.proofs.OperandLaws.{IsFew, entry_there, entry_there_again, some_within}

@@ -10,13 +10,14 @@ use Rattle.byte_format.specs.Numbers.{number_bytes}
 use Rattle.byte_format.proofs.NumberLaws.{byte_reads, byte_again, number_reads, number_again, word_reads, word_again}
 use Rattle.byte_format.proofs.Sequels.{Reads, Again, reads_then, reads_given, reads_last, again_then, again_given}
 use Rattle.byte_format.proofs.Sequels.{again_last}
-use Rattle.split_file.specs.Spelling.{host_id_bytes, entry_bytes, list_bytes}
+use Rattle.byte_format.specs.Lists.{list_bytes}
+use Rattle.byte_format.proofs.ItemLaws.{AllIn, all_of, in_all, all_weaker, list_read, list_again}
+use Rattle.split_file.specs.Spelling.{host_id_bytes, entry_bytes}
 use Rattle.split_file.specs.Reading.{host_id_at, is_empty, entry_row_at, is_entry_on, root_at, main_at, StartsShape}
 use Rattle.split_file.specs.Reading.{starts_at}
 use Rattle.split_file.proofs.Sequels.{AgainSome, reads_place, reads_in_range, again_in_range, some_then, some_place}
 use Rattle.split_file.proofs.Sequels.{some_same}
 use Rattle.split_file.proofs.NumberLaws.{index_reads, index_again}
-use Rattle.split_file.proofs.ItemLaws.{AllIn, all_of, in_all, all_weaker, list_read, list_again}
 use Rattle.split_file.proofs.TableLaws.{host_id_reads, host_id_again}
 
 -- ---- entries

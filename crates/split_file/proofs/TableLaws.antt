@@ -14,21 +14,22 @@ use Rattle.label_lattice.specs.Label.{IsLabel}
 use Rattle.host_code.specs.Code.{CodeHostShape, CodeFieldShape, CodeVariableShape}
 use Rattle.host_code.specs.Sound.{IsVariableName}
 use Rattle.byte_format.specs.Numbers.{word_bytes, number_bytes, integer_bytes}
-use Rattle.byte_format.specs.Reader.{sequel, given, require}
+use Rattle.byte_format.specs.Reader.{sequel, given, require, items_at}
 use Rattle.byte_format.proofs.NumberLaws.{byte_reads, byte_again, number_reads, number_again, word_reads, word_again}
 use Rattle.byte_format.proofs.NumberLaws.{integer_reads, integer_again}
 use Rattle.byte_format.proofs.Sequels.{Reads, Again, reads_then, reads_given, reads_last, reads_require, reads_weaker}
 use Rattle.byte_format.proofs.Sequels.{again_then, again_given, again_last, again_require}
+use Rattle.byte_format.specs.Lists.{list_bytes}
+use Rattle.byte_format.proofs.ItemLaws.{AllIn, all_of, in_all, all_weaker, all_read, list_read, items_again, list_again}
 use Rattle.split_file.specs.declared.fault.Fault.TheVariants as fault
 use Rattle.split_file.specs.Spelling.{text_bytes, flag_bytes, label_bytes, host_bytes, host_id_bytes, field_bytes}
-use Rattle.split_file.specs.Spelling.{variable_bytes, list_bytes}
-use Rattle.split_file.specs.Reader.{number_at, items_at}
+use Rattle.split_file.specs.Spelling.{variable_bytes}
+use Rattle.split_file.specs.Reader.{number_at}
 use Rattle.split_file.specs.Reading.{name_at, is_variable_name, host_id_at, label_at, host_row_at, hosts_at, flag_at}
 use Rattle.split_file.specs.Reading.{elements_of, is_size, shape_at, field_row_at, variable_row_at, TablesShape}
 use Rattle.split_file.specs.Reading.{tables_at}
 use Rattle.split_file.proofs.Sequels.{reads_place, reads_in_range, again_place, again_in_range}
 use Rattle.split_file.proofs.NumberLaws.{text_reads, text_again, index_reads, index_again, flag_reads, flag_again}
-use Rattle.split_file.proofs.ItemLaws.{AllIn, all_of, in_all, all_weaker, all_read, list_read, items_again, list_again}
 use Rattle.split_file.proofs.VariableNames.{variable_name_is, variable_name_again}
 
 -- ---- names and host numbers

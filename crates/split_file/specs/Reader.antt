@@ -1,5 +1,5 @@
 -- Reading the bytes of a split file from the front, up to the first fault.
-use Rattle.std.specs.Prelude.{◌≡◌, ℕ, zero, suc, ℤ, Bool, List, [], ◌∷◌, ◌++◌, length, Result, Ok, Err}
+use Rattle.std.specs.Prelude.{◌≡◌, ℕ, ℤ, Bool, List, length, Result, Ok, Err}
 use Rattle.std.specs.Int.{Width, w32}
 use Rattle.byte_format.specs.Reader as shared
 use Rattle.byte_format.specs.Reader.{◌>>=◌, given, require}
@@ -45,17 +45,8 @@ text_at = do
 
 -- ---- lists
 
--- so many more items, each read by what stands before it
-unfoldable pub items_at : {A : Type 0} → (List A → Reader A) → List A → ℕ → Reader (List A)
-items_at item before zero = given before
-items_at item before (suc count) = do
-  next ← item before
-  items_at item (before ++ next ∷ []) count
-
-unfoldable pub list_at : {A : Type 0} → (List A → Reader A) → Reader (List A)
-list_at item = do
-  count ← number_at w32
-  items_at item [] count
+abbrev pub list_at : {A : Type 0} → (List A → Reader A) → Reader (List A)
+list_at item = shared.list_at fault.Short item
 
 -- ---- what a call answers
 

@@ -34,11 +34,11 @@ use Rattle.host_code.specs.Code.{CodeShape, CodeHostShape, CodeFieldShape, CodeV
 use Rattle.host_code.specs.Code.{host_of_site}
 use Rattle.host_code.specs.CodeExpr.{depth_after}
 use Rattle.host_code.specs.Sound.{temporaries_at}
-use Rattle.byte_format.specs.Reader.{◌>>=◌, given, refused, require}
+use Rattle.byte_format.specs.Reader.{◌>>=◌, given, refused, require, items_at}
 use Rattle.split_file.specs.declared.fault.Fault.TheVariants as fault
 use Rattle.split_file.specs.Spelling.{magic}
 use Rattle.split_file.specs.Reader.{Reader, place, in_range, byte_at, bytes_at, number_at, integer_at, text_at}
-use Rattle.split_file.specs.Reader.{items_at, list_at}
+use Rattle.split_file.specs.Reader.{list_at}
 
 -- ---- names
 

@@ -14,16 +14,13 @@ use Rattle.host_code.specs.declared.code_expr.Node.{Node}
 use Rattle.host_code.specs.declared.code_expr.Node.TheVariants as node
 use Rattle.host_code.specs.Code.{CodeShape, CodeHostShape, CodeFieldShape, CodeVariableShape}
 use Rattle.byte_format.specs.Numbers.{number_bytes, word_bytes, integer_bytes}
+use Rattle.byte_format.specs.Lists.{list_bytes}
 
--- ---- texts and lists
+-- ---- texts
 
 -- how many bytes it has, and the bytes
 abbrev pub text_bytes : List ℕ → List ℕ
 text_bytes text = number_bytes (length text) ++ text
-
--- how many items it has, and the items
-abbrev pub list_bytes : {A : Type 0} → (A → List ℕ) → List A → List ℕ
-list_bytes item_bytes items = number_bytes (length items) ++ flat_map item_bytes items
 
 -- ---- what a code is made of, but for its instructions
 

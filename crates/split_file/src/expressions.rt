@@ -1,10 +1,11 @@
 //! Readers of expressions.
-#![tactic(auto, unfolding(byte_format::specs::Reader::sequel, byte_format::specs::Reader::given, byte_format::specs::Reader::refused, crate::specs::Reader::place, byte_format::specs::Reader::require, crate::specs::Reader::in_range, crate::specs::Reading::operator_of, crate::specs::Reading::number_node_at, crate::specs::Reading::variable_id_at, crate::specs::Reading::variable_node_at, crate::specs::Reading::temporary_node_at, crate::specs::Reading::operator_node_at, crate::specs::Reading::node_of, crate::specs::Reading::node_at, crate::specs::Reading::expression_at, crate::specs::Reader::items_at,))]
+#![tactic(auto, unfolding(byte_format::specs::Reader::sequel, byte_format::specs::Reader::given, byte_format::specs::Reader::refused, crate::specs::Reader::place, byte_format::specs::Reader::require, crate::specs::Reader::in_range, crate::specs::Reading::operator_of, crate::specs::Reading::number_node_at, crate::specs::Reading::variable_id_at, crate::specs::Reading::variable_node_at, crate::specs::Reading::temporary_node_at, crate::specs::Reading::operator_node_at, crate::specs::Reading::node_of, crate::specs::Reading::node_at, crate::specs::Reading::expression_at, byte_format::specs::Reader::items_at,))]
 
 ghost use Rattle.std.specs.Prelude.{◌≡◌, ◌≤◌, ℕ, List, length, nat_le, [], IfOk};
 ghost use Rattle.std.specs.Int.{w32};
 ghost use Rattle.host_code.specs.declared.code_expr.TheConstants.{MOST_NODES};
-ghost use Rattle.split_file.specs.Reader.{Gives, in_range, items_at, number_at};
+ghost use Rattle.byte_format.specs.Reader.{items_at};
+ghost use Rattle.split_file.specs.Reader.{Gives, in_range, number_at};
 ghost use Rattle.split_file.specs.Reading.{operator_of, variable_id_at, node_of, node_at, leave_one, expression_at};
 
 use crate::fault::ReadError;

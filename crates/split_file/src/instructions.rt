@@ -1,5 +1,5 @@
 //! Readers of the instructions of hosts.
-#![tactic(auto, unfolding(byte_format::specs::Reader::sequel, byte_format::specs::Reader::given, byte_format::specs::Reader::refused, crate::specs::Reader::place, byte_format::specs::Reader::require, crate::specs::Reader::in_range, crate::specs::Reader::items_at, crate::specs::Reading::instruction_at, crate::specs::Reading::part_at,))]
+#![tactic(auto, unfolding(byte_format::specs::Reader::sequel, byte_format::specs::Reader::given, byte_format::specs::Reader::refused, crate::specs::Reader::place, byte_format::specs::Reader::require, crate::specs::Reader::in_range, byte_format::specs::Reader::items_at, crate::specs::Reading::instruction_at, crate::specs::Reading::part_at,))]
 
 ghost use Rattle.std.specs.Prelude.{◌≡◌, ◌+◌, ◌≤◌, ◌<◌, ◌^◌, ◌||◌, ℕ, List, [], length, suc, nat_lt};
 ghost use Rattle.std.specs.Prelude.{if◌then◌else◌, IfOk};
@@ -7,7 +7,8 @@ ghost use Rattle.std.specs.Ordering.{nat_cmp};
 ghost use Rattle.std.specs.BTreeSet.{contains};
 ghost use Rattle.host_code.specs.CodeParts.{shape_of};
 ghost use Rattle.host_code.specs.Sound.{is_entrance, temporaries_after};
-ghost use Rattle.split_file.specs.Reader.{Gives, items_at};
+ghost use Rattle.byte_format.specs.Reader.{items_at};
+ghost use Rattle.split_file.specs.Reader.{Gives};
 ghost use Rattle.split_file.specs.Reading.{is_leaving, instruction_at, next_instruction_at, part_at, next_part_at};
 
 use crate::fault::ReadError;

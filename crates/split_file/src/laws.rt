@@ -3,9 +3,10 @@
 ghost use Rattle.std.specs.Prelude.{◌≡◌, ◌≢◌, ℕ, ◌<◌, ◌⊎◌, ◌++◌, ◌∷◌, [], List, length, slice_index, Ok, Err, codes};
 ghost use Rattle.std.specs.List.{flat_map};
 ghost use Rattle.host_code.specs.Code.{CodeShape};
+ghost use Rattle.byte_format.specs.Lists.{list_bytes};
 ghost use Rattle.split_file.specs.declared.error.SplitError.{SplitError};
 ghost use Rattle.split_file.specs.declared.error.SplitError.TheVariants as refusal;
-ghost use Rattle.split_file.specs.Spelling.{list_bytes, host_bytes, label_bytes, field_bytes, variable_bytes};
+ghost use Rattle.split_file.specs.Spelling.{host_bytes, label_bytes, field_bytes, variable_bytes};
 ghost use Rattle.split_file.specs.Spelling.{entry_bytes, host_id_bytes, part_bytes, split_file};
 ghost use Rattle.split_file.specs.File.{IsRealCode, file_code};
 ghost use Rattle.split_file.specs.Examples.{empty_main, only_back, file_head};

@@ -1,10 +1,11 @@
 //! Readers of where threads and calls start.
-#![tactic(auto, unfolding(byte_format::specs::Reader::sequel, byte_format::specs::Reader::given, byte_format::specs::Reader::refused, crate::specs::Reader::place, byte_format::specs::Reader::require, crate::specs::Reader::in_range, crate::specs::Reading::entry_row_at, crate::specs::Reading::root_at, crate::specs::Reading::main_at, crate::specs::Reading::starts_at, crate::specs::Reader::items_at, crate::specs::Reader::list_at,))]
+#![tactic(auto, unfolding(byte_format::specs::Reader::sequel, byte_format::specs::Reader::given, byte_format::specs::Reader::refused, crate::specs::Reader::place, byte_format::specs::Reader::require, crate::specs::Reader::in_range, crate::specs::Reading::entry_row_at, crate::specs::Reading::root_at, crate::specs::Reading::main_at, crate::specs::Reading::starts_at, byte_format::specs::Reader::items_at, byte_format::specs::Reader::list_at,))]
 
 ghost use Rattle.std.specs.Prelude.{◌≡◌, ◌≤◌, ◌<◌, ◌^◌, ◌==◌, ◌||◌, not, length, [], IfOk};
 ghost use Rattle.std.specs.Int.{w32};
 ghost use Rattle.host_code.specs.declared.code.TheConstants.{MOST_ITEMS};
-ghost use Rattle.split_file.specs.Reader.{Gives, in_range, items_at, list_at, number_at};
+ghost use Rattle.byte_format.specs.Reader.{items_at};
+ghost use Rattle.split_file.specs.Reader.{Gives, in_range, list_at, number_at};
 ghost use Rattle.split_file.specs.Reading.{host_id_at, is_empty, entry_row_at, is_entry_on, root_at, main_at};
 ghost use Rattle.split_file.specs.Reading.{starts_at};
 ghost use Rattle.split_file.specs.Shapes.{starts_shape};

@@ -1,10 +1,11 @@
 //! Readers of what instructions name: hosts, labels, fields and variables.
-#![tactic(auto, unfolding(byte_format::specs::Reader::sequel, byte_format::specs::Reader::given, byte_format::specs::Reader::refused, crate::specs::Reader::place, byte_format::specs::Reader::require, crate::specs::Reader::in_range, crate::specs::Reading::host_id_at, crate::specs::Reading::label_at, crate::specs::Reading::host_row_at, crate::specs::Reading::hosts_at, crate::specs::Reading::shape_at, crate::specs::Reading::field_row_at, crate::specs::Reading::variable_row_at, crate::specs::Reading::tables_at, crate::specs::Reader::items_at, crate::specs::Reader::list_at,))]
+#![tactic(auto, unfolding(byte_format::specs::Reader::sequel, byte_format::specs::Reader::given, byte_format::specs::Reader::refused, crate::specs::Reader::place, byte_format::specs::Reader::require, crate::specs::Reader::in_range, crate::specs::Reading::host_id_at, crate::specs::Reading::label_at, crate::specs::Reading::host_row_at, crate::specs::Reading::hosts_at, crate::specs::Reading::shape_at, crate::specs::Reading::field_row_at, crate::specs::Reading::variable_row_at, crate::specs::Reading::tables_at, byte_format::specs::Reader::items_at, byte_format::specs::Reader::list_at,))]
 
 ghost use Rattle.std.specs.Prelude.{◌≡◌, ◌+◌, ◌≤◌, length, [], IfOk};
 ghost use Rattle.std.specs.Int.{w32, w64};
 ghost use Rattle.js_base.specs.declared.limits.TheConstants.{HOSTS, ELEMENTS};
-ghost use Rattle.split_file.specs.Reader.{Gives, in_range, items_at, list_at, number_at};
+ghost use Rattle.byte_format.specs.Reader.{items_at};
+ghost use Rattle.split_file.specs.Reader.{Gives, in_range, list_at, number_at};
 ghost use Rattle.split_file.specs.Reading.{host_id_at, label_at, host_row_at, hosts_at, shape_at, field_row_at};
 ghost use Rattle.split_file.specs.Reading.{variable_row_at, tables_at, elements_of, is_size};
 ghost use Rattle.split_file.specs.Shapes.{tables_shape};

@@ -7,9 +7,10 @@ ghost use Rattle.std.specs.List.{flat_map};
 ghost use Rattle.label_lattice.specs.Label.{IsLabel};
 ghost use Rattle.host_code.specs.declared.code.TheConstants.{MOST_ITEMS};
 ghost use Rattle.host_code.specs.Sound.{IsSoundCode};
+ghost use Rattle.byte_format.specs.Lists.{list_bytes};
 ghost use Rattle.split_file.specs.File.{IsRealInstruction, IsRealCode, file_code};
 ghost use Rattle.split_file.specs.Spelling.{host_id_bytes, host_bytes, label_bytes, field_bytes, variable_bytes};
-ghost use Rattle.split_file.specs.Spelling.{entry_bytes, part_bytes, list_bytes, table_bytes, start_bytes, split_file};
+ghost use Rattle.split_file.specs.Spelling.{entry_bytes, part_bytes, table_bytes, start_bytes, split_file};
 
 use crate::appending::{put_count, put_flag, put_host_id, put_label, put_text};
 use crate::operation_bytes::put_part;

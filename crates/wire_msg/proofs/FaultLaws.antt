@@ -1,53 +1,21 @@
 -- The first fault is what reading refuses bytes for.
-use Rattle.std.proofs.Common.{◌≡◌, inl, inr, ℕ, Bool, true, false, List, [], ◌∷◌, length, take, drop, Option, Some}
-use Rattle.std.proofs.Common.{None, Result, Ok, Err, refl, sym, ap, ◌∙◌}
+use Rattle.std.proofs.Common.{◌≡◌, ℕ, Bool, true, false, List, [], ◌∷◌, length, take, drop, Some}
+use Rattle.std.proofs.Common.{Result, Ok, Err, refl, sym, ap, ◌∙◌}
 use Rattle.std.specs.Prelude.{if◌then◌else◌, nat_lt, nat_le}
 use Rattle.std.specs.Int.{w32, from_be_bytes}
-use Rattle.std.proofs.lemmas.Bool.{cases_lt, lt-ltb, le-ltb}
 use Rattle.js_base.specs.declared.ids.HostId.{HostId}
 use Rattle.js_base.specs.declared.limits.TheConstants.{HOSTS, FRAME_BYTES}
-use Rattle.byte_format.specs.Reader.{handed_on, sequel, given, require, byte_at, bytes_at, number_at}
+use Rattle.byte_format.specs.Reader.{handed_on, sequel, require, byte_at, bytes_at, number_at}
 use Rattle.wire_msg.specs.declared.error.WireError.{WireError}
 use Rattle.wire_msg.specs.declared.error.WireError.TheVariants as refusal
 use Rattle.wire_msg.specs.declared.frame.Frame.{Frame}
-use Rattle.wire_msg.specs.Frames.{has_host}
 use Rattle.wire_msg.specs.Reader.{Reader, Gives, known, to_the_end, whole}
 use Rattle.wire_msg.specs.Reading.{fields_at, sent_at, body_at, frame_at, reading_of}
-use Rattle.wire_msg.specs.Faults.{Layout, layout_of, left_fault, fields_fault, body_fault, or_else, sized_fault}
+use Rattle.wire_msg.specs.Faults.{layout_of, left_fault, fields_fault, body_fault, or_else, sized_fault}
 use Rattle.wire_msg.specs.Faults.{first_fault, fault_in}
-use Rattle.wire_msg.proofs.Sizes.{IsLayout, fields_sized}
+use Rattle.wire_msg.proofs.Layouts.{named_by, fields_are}
 
 -- ---- a body
-
--- what is read behind the fields
-abbrev named_by : HostId → Frame → Reader (HostId × Frame)
-named_by from sent = sequel (require (has_host sent) refusal.BadField) (λ _. given (from, sent))
-
-ends : (from : HostId) (sent : Frame) (test : Bool) (left : List ℕ) →
-    fault_in (to_the_end (handed_on (require test refusal.BadField left)
-    (λ _. given {A = HostId × Frame} (from, sent)))) ≡ (if test then left_fault left else Some refusal.BadField)
-unfolding require given
-ends from sent true [] = refl
-ends from sent true (byte ∷ bytes) = refl
-ends from sent false left = refl
-
-fields_are : (from : HostId) (layout : Option Layout) (reader : Reader Frame) (fields : List ℕ) →
-    IsLayout has_host layout reader fields →
-    fault_in (to_the_end (handed_on (reader fields) (named_by from))) ≡ fields_fault layout fields
-unfolding sequel
-fields_are from None reader fields is =
-    ap (λ reading. fault_in (to_the_end (handed_on reading (named_by from)))) is
-fields_are from (Some layout) reader fields is =
-    elim (cases_lt (length fields) layout.0) [
-      | inl few ↦
-          rw (lt-ltb (length fields) layout.0 few)
-          (ap (λ reading. fault_in (to_the_end (handed_on reading (named_by from)))) (is.short few))
-      | inr many ↦
-          let found = is.long many in
-          rw (le-ltb (length fields) layout.0 many, sym found.2)
-          (ap (λ reading. fault_in (to_the_end (handed_on reading (named_by from)))) found.1
-          ∙ ends from found.0 (has_host found.0) (drop layout.0 fields))
-    ]
 
 -- what is read behind the kind
 abbrev kinded : HostId → ℕ → Reader (HostId × Frame)
@@ -55,10 +23,9 @@ kinded from kind = sequel (fields_at kind) (named_by from)
 
 sender_is : (test : Bool) (from : HostId) (kind : ℕ) (fields : List ℕ) →
     fault_in (to_the_end (handed_on (require test refusal.BadField fields) (λ _. kinded from kind)))
-    ≡ (if test then fields_fault (layout_of kind fields) fields else Some refusal.BadField)
+    ≡ (if test then fields_fault (layout_of kind) fields else Some refusal.BadField)
 unfolding require sequel
-sender_is true from kind fields =
-    fields_are from (layout_of kind fields) (fields_at kind) fields (fields_sized kind fields).is
+sender_is true from kind fields = fields_are from kind fields
 sender_is false from kind fields = refl
 
 body_is : (body : List ℕ) → fault_in (whole sent_at body) ≡ body_fault body

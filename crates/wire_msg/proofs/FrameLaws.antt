@@ -24,6 +24,7 @@ use Rattle.wire_msg.specs.Spelling.{message_bytes, kinded_bytes, body_bytes, fra
 use Rattle.wire_msg.specs.Reader.{Reader, Gives, known, whole}
 use Rattle.wire_msg.specs.Reading.{message_at, some_message_at, fields_at, sent_at, body_at, frame_at, reading_of}
 use Rattle.wire_msg.proofs.Sequels.{reads_known, whole_reads, again_known, whole_again}
+use Rattle.wire_msg.proofs.RiderLaws.{spelled_length}
 use Rattle.wire_msg.proofs.MessageLaws.{message_reads, message_again}
 
 -- ---- what may be sent
@@ -38,6 +39,8 @@ fitting code (message.Set request field index value) few is = refl
 fitting code (message.Forward request id variable value) few is = refl
 fitting code (message.Sync request id entry token) few is = host_there token.host (length code.hosts) few is
 fitting code (message.Rgoto id entry token) few is = host_there token.host (length code.hosts) few is
+fitting code (message.RgotoWith id entry token riders) few is =
+    host_there token.host (length code.hosts) few is.0
 fitting code (message.Lgoto token) few is = host_there token.host (length code.hosts) few is
 fitting code (message.Value request value) few is = refl
 fitting code (message.Ack request) few is = refl
@@ -110,12 +113,12 @@ some_again : (kind : ℕ) (sent : Message) (text : List ℕ) → (kind == 10) �
 unfolding fields_at some_message_at
 some_again kind sent text is one = rw is (again_last frame.Message one)
 
-kinded_again : (sent : Frame) → IsFrame sent → HasKinded sent
+kinded_again : (sent : Frame) → IsFrame sent → has_host sent ≡ true → HasKinded sent
 unfolding fields_at
-kinded_again (frame.Message sent) is =
-    let found = message_again sent is in
+kinded_again (frame.Message sent) is named =
+    let found = message_again sent is named in
     (found.0, found.1, found.2, some_again found.0 sent found.1 found.3 found.4)
-kinded_again frame.Done is = (10, [], refl, again_given frame.Done)
+kinded_again frame.Done is named = (10, [], refl, again_given frame.Done)
 
 -- what follows the kind
 abbrev Behind : HostId → ℕ → Reader (HostId × Frame)
@@ -132,7 +135,7 @@ behind_again from kind sent text is one =
 sent_again : (from : HostId) (sent : Frame) → IsSent from sent → Again sent_at (from, sent) (body_bytes from sent)
 unfolding sent_at
 sent_again from sent is =
-    let found = kinded_again sent is.1 in
+    let found = kinded_again sent is.1 is.0.1 in
     subst (λ bytes. Again sent_at (from, sent) (from.0 ∷ bytes)) found.2
     (again_then _ (byte_again _ from.0) (again_then _ (byte_again _ found.0)
     (again_require refusal.BadField (lt-ltb _ _ is.0.0)
@@ -146,14 +149,16 @@ body_again body short =
 
 -- ---- lengths
 
--- the longest body is that of a sync
-message_short : (sent : Message) → IsMessage sent → length (message_bytes sent) ≤ 70
+-- the longest body is that of an rgoto with which 8 values ride
+message_short : (sent : Message) → IsMessage sent → length (message_bytes sent) ≤ 155
 unfolding number_bytes word_bytes
 message_short (message.Get request field index) is = omega arith
 message_short (message.Set request field index value) is = omega arith
 message_short (message.Forward request id variable value) is = omega arith
 message_short (message.Sync request id entry token) is = omega (arith, is.1.1.1.1.1.1.1.0)
 message_short (message.Rgoto id entry token) is = omega (arith, is.1.1.1.1.1.1.0)
+message_short (message.RgotoWith id entry token riders) is =
+    omega (arith, spelled_length id entry token riders is.1.1.0.1.1.1.1.0, is.1.1.1.0.1)
 message_short (message.Lgoto token) is = omega (arith, is.1.1.1.1.0)
 message_short (message.Value request value) is = omega arith
 message_short (message.Ack request) is = omega arith

@@ -2,6 +2,8 @@ pub mod Appends
 pub mod FaultLaws
 pub mod FieldLaws
 pub mod FrameLaws
+pub mod Layouts
 pub mod MessageLaws
+pub mod RiderLaws
 pub mod Sequels
 pub mod Sizes

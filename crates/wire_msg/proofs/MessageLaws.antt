@@ -8,7 +8,8 @@ use Rattle.byte_format.proofs.NumberLaws.{integer_reads, integer_again}
 use Rattle.byte_format.proofs.Sequels.{Reads, Again, reads_then, reads_last, reads_if, reads_refused, again_then}
 use Rattle.byte_format.proofs.Sequels.{again_last}
 use Rattle.wire_msg.specs.declared.error.WireError.TheVariants as refusal
-use Rattle.wire_msg.specs.Frames.{IsMessage}
+use Rattle.wire_msg.specs.declared.frame.Frame.TheVariants as frame
+use Rattle.wire_msg.specs.Frames.{has_host, IsMessage}
 use Rattle.wire_msg.specs.Spelling.{message_bytes}
 use Rattle.wire_msg.specs.Reader.{Reader}
 use Rattle.wire_msg.specs.Reading.{get_at, set_at, forward_at, sync_at, rgoto_at, lgoto_at, value_at, ack_at, answer_at}
@@ -16,6 +17,7 @@ use Rattle.wire_msg.specs.Reading.{message_at}
 use Rattle.wire_msg.proofs.FieldLaws.{field_reads, field_again, variable_reads, variable_again, entry_reads}
 use Rattle.wire_msg.proofs.FieldLaws.{entry_again, request_reads, request_again, frame_id_reads, frame_id_again}
 use Rattle.wire_msg.proofs.FieldLaws.{token_reads, token_again}
+use Rattle.wire_msg.proofs.RiderLaws.{rgoto_with_reads, spelled_behind, rgoto_with_again}
 
 -- ---- what is read
 
@@ -94,7 +96,8 @@ message_reads kind =
     reads_if (kind == 7) (λ is. reads_kind 7 kind is value_reads) (λ _.
     reads_if (kind == 8) (λ is. reads_kind 8 kind is ack_reads) (λ _.
     reads_if (kind == 9) (λ is. reads_kind 9 kind is answer_reads) (λ _.
-    reads_refused refusal.BadKind)))))))))
+    reads_if (kind == 11) (λ is. reads_kind 11 kind is rgoto_with_reads) (λ _.
+    reads_refused refusal.BadKind))))))))))
 
 -- ---- what is read again
 
@@ -108,31 +111,33 @@ has_kind : (kind : ℕ) {sent : Message} {text : List ℕ} → kind ∷ text ≡
     Again (message_at kind) sent text → HasKind sent
 has_kind kind {text = text} is apart one = (kind, text, is, apart, one)
 
-pub message_again : (sent : Message) → IsMessage sent → HasKind sent
+pub message_again : (sent : Message) → IsMessage sent → has_host (frame.Message sent) ≡ true → HasKind sent
 unfolding message_at get_at set_at forward_at sync_at rgoto_at lgoto_at value_at ack_at answer_at
-message_again (message.Get request field index) is =
+message_again (message.Get request field index) is named =
     has_kind 1 refl refl (again_then _ (request_again request is.0) (again_then _ (field_again field is.1.0)
     (again_last (message.Get request field) (integer_again _ index is.1.1))))
-message_again (message.Set request field index value) is =
+message_again (message.Set request field index value) is named =
     has_kind 2 refl refl (again_then _ (request_again request is.0) (again_then _ (field_again field is.1.0)
     (again_then _ (integer_again _ index is.1.1.0)
     (again_last (message.Set request field index) (integer_again _ value is.1.1.1)))))
-message_again (message.Forward request id variable value) is =
+message_again (message.Forward request id variable value) is named =
     has_kind 3 refl refl (again_then _ (request_again request is.0) (again_then _ (frame_id_again id is.1.0)
     (again_then _ (variable_again variable is.1.1.0)
     (again_last (message.Forward request id variable) (integer_again _ value is.1.1.1)))))
-message_again (message.Sync request id entry token) is =
+message_again (message.Sync request id entry token) is named =
     has_kind 4 refl refl (again_then _ (request_again request is.0) (again_then _ (frame_id_again id is.1.0)
     (again_then _ (entry_again entry is.1.1.0)
     (again_last (message.Sync request id entry) (token_again token is.1.1.1)))))
-message_again (message.Rgoto id entry token) is =
+message_again (message.Rgoto id entry token) is named =
     has_kind 5 refl refl (again_then _ (frame_id_again id is.0) (again_then _ (entry_again entry is.1.0)
     (again_last (message.Rgoto id entry) (token_again token is.1.1))))
-message_again (message.Lgoto token) is = has_kind 6 refl refl (again_last message.Lgoto (token_again token is))
-message_again (message.Value request value) is =
+message_again (message.Lgoto token) is named = has_kind 6 refl refl (again_last message.Lgoto (token_again token is))
+message_again (message.Value request value) is named =
     has_kind 7 refl refl (again_then _ (request_again request is.0)
     (again_last (message.Value request) (integer_again _ value is.1)))
-message_again (message.Ack request) is = has_kind 8 refl refl (again_last message.Ack (request_again request is))
-message_again (message.Token request token) is =
+message_again (message.Ack request) is named = has_kind 8 refl refl (again_last message.Ack (request_again request is))
+message_again (message.Token request token) is named =
     has_kind 9 refl refl (again_then _ (request_again request is.0)
     (again_last (message.Token request) (token_again token is.1)))
+message_again (message.RgotoWith id entry token riders) is named =
+    has_kind 11 (spelled_behind id entry token riders) refl (rgoto_with_again id entry token riders is named)

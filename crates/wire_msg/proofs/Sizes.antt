@@ -1,7 +1,7 @@
 -- How many bytes each reader takes, and that it refuses only fewer.
-use Rattle.std.proofs.Common.{◌≡◌, inl, inr, ℕ, ◌+◌, ◌<◌, ◌≤◌, Bool, true, false, List, [], ◌∷◌, length, take, drop}
-use Rattle.std.proofs.Common.{Option, Some, None, Ok, Err, refl, ap, ◌∙◌, arith}
-use Rattle.std.specs.Prelude.{if◌then◌else◌, ⊤, ◌==◌, nat_lt, slice_index}
+use Rattle.std.proofs.Common.{◌≡◌, inl, inr, ℕ, zero, suc, ◌+◌, ◌*◌, ◌<◌, ◌≤◌, Bool, true, List, [], ◌∷◌}
+use Rattle.std.proofs.Common.{◌++◌, length, take, drop, Option, Some, None, Ok, Err, refl, ap, subst, ◌∙◌, arith}
+use Rattle.std.specs.Prelude.{⊤, nat_lt, slice_index}
 use Rattle.std.specs.Int.{Width, w32, w64, byte_len, from_be_bytes}
 use Rattle.std.proofs.lemmas.Bool.{cases_lt, lt-ltb, le-ltb}
 use Rattle.std.proofs.lemmas.List.{length-drop, drop-drop, get_or-drop}
@@ -9,16 +9,17 @@ use Rattle.js_base.specs.declared.limits.TheConstants.{HOSTS}
 use Rattle.capability.specs.declared.tags.TheConstants.{TAG_BYTES}
 use Rattle.capability.specs.declared.token.Token.{Token}
 use Rattle.host_code.specs.declared.message.Message.{Message}
-use Rattle.byte_format.specs.Reader.{handed_on, sequel, given, refused, byte_at, bytes_at, number_at, integer_at}
+use Rattle.host_code.specs.Riders.{Rider}
+use Rattle.byte_format.specs.Reader.{handed_on, sequel, given, byte_at, bytes_at, number_at, integer_at, items_at}
 use Rattle.wire_msg.specs.declared.error.WireError.TheVariants as refusal
-use Rattle.wire_msg.specs.declared.frame.Frame.{Frame}
+use Rattle.wire_msg.specs.declared.riding.Riding.{Riding}
 use Rattle.wire_msg.specs.declared.frame.Frame.TheVariants as frame
 use Rattle.wire_msg.specs.Frames.{has_host}
 use Rattle.wire_msg.specs.Reader.{Reader}
 use Rattle.wire_msg.specs.Reading.{field_at, variable_at, entry_at, request_at, frame_id_at, token_at, get_at, set_at}
-use Rattle.wire_msg.specs.Reading.{forward_at, sync_at, rgoto_at, lgoto_at, value_at, ack_at, answer_at, message_at}
-use Rattle.wire_msg.specs.Reading.{some_message_at, fields_at}
-use Rattle.wire_msg.specs.Faults.{Layout, message_layout, layout_of, has_host_at}
+use Rattle.wire_msg.specs.Reading.{forward_at, sync_at, rgoto_at, lgoto_at, value_at, ack_at, answer_at, riding_at}
+use Rattle.wire_msg.specs.Reading.{rider_at}
+use Rattle.wire_msg.specs.Faults.{PAIR_BYTES, has_host_at}
 
 -- a reader takes so many of these bytes, of which what it reads is known, or finds too few
 pub record Takes {A : Type 0} (reader : Reader A) (count : ℕ) (P : A → List ℕ → Type 0) (bytes : List ℕ) : Type 0 where
@@ -157,7 +158,7 @@ token_sized =
 abbrev pub Named : {A : Type 0} → (A → Bool) → Option ℕ → A → List ℕ → Type 0
 Named has place x bytes = has x ≡ has_host_at place bytes
 
-abbrev has_message_host : Message → Bool
+abbrev pub has_message_host : Message → Bool
 has_message_host sent = has_host (frame.Message sent)
 
 -- a place behind so many bytes
@@ -188,113 +189,87 @@ named_token : (f : Token → Message) → ((x : Token) → has_message_host (f x
 named_token f is =
     sized_last f (Named has_message_host (Some 0)) token_sized (λ x bytes p. is x ∙ ap (λ byte. nat_lt byte HOSTS) p)
 
-get_sized : Sized get_at 24 (Named has_message_host None)
+pub get_sized : Sized get_at 24 (Named has_message_host None)
 unfolding get_at
 get_sized =
     named_then None request_sized (λ request. named_then None field_sized (λ field.
     named_last _ integer_sized (λ index. refl)))
 
-set_sized : Sized set_at 32 (Named has_message_host None)
+pub set_sized : Sized set_at 32 (Named has_message_host None)
 unfolding set_at
 set_sized =
     named_then None request_sized (λ request. named_then None field_sized (λ field.
     named_then None integer_sized (λ index. named_last _ integer_sized (λ value. refl))))
 
-forward_sized : Sized forward_at 36 (Named has_message_host None)
+pub forward_sized : Sized forward_at 36 (Named has_message_host None)
 unfolding forward_at
 forward_sized =
     named_then None request_sized (λ request. named_then None frame_id_sized (λ id.
     named_then None variable_sized (λ variable. named_last _ integer_sized (λ value. refl))))
 
-sync_sized : Sized sync_at 69 (Named has_message_host (Some 28))
+pub sync_sized : Sized sync_at 69 (Named has_message_host (Some 28))
 unfolding sync_at
 sync_sized =
     named_then (Some 16) request_sized (λ request. named_then (Some 4) frame_id_sized (λ id.
     named_then (Some 0) entry_sized (λ entry. named_token _ (λ token. refl))))
 
-rgoto_sized : Sized rgoto_at 57 (Named has_message_host (Some 16))
+pub rgoto_sized : Sized rgoto_at 57 (Named has_message_host (Some 16))
 unfolding rgoto_at
 rgoto_sized =
     named_then (Some 4) frame_id_sized (λ id. named_then (Some 0) entry_sized (λ entry.
     named_token _ (λ token. refl)))
 
-lgoto_sized : Sized lgoto_at 41 (Named has_message_host (Some 0))
+pub lgoto_sized : Sized lgoto_at 41 (Named has_message_host (Some 0))
 unfolding lgoto_at
 lgoto_sized = named_token _ (λ token. refl)
 
-value_sized : Sized value_at 20 (Named has_message_host None)
+pub value_sized : Sized value_at 20 (Named has_message_host None)
 unfolding value_at
 value_sized = named_then None request_sized (λ request. named_last _ integer_sized (λ value. refl))
 
-ack_sized : Sized ack_at 12 (Named has_message_host None)
+pub ack_sized : Sized ack_at 12 (Named has_message_host None)
 unfolding ack_at
 ack_sized = named_last _ request_sized (λ request. refl)
 
-answer_sized : Sized answer_at 53 (Named has_message_host (Some 12))
+pub answer_sized : Sized answer_at 53 (Named has_message_host (Some 12))
 unfolding answer_at
 answer_sized = named_then (Some 0) request_sized (λ request. named_token _ (λ token. refl))
 
--- ---- layouts
+-- ---- what rides
 
--- a reader takes bytes of this layout, or refuses the kind
-abbrev pub IsLayout : {A : Type 0} → (A → Bool) → Option Layout → Reader A → List ℕ → Type 0
-IsLayout has None reader bytes = reader bytes ≡ Err refusal.BadKind
-IsLayout has (Some layout) reader bytes = Takes reader layout.0 (Named has layout.1) bytes
+-- the host of the token and the count stand at these places
+abbrev pub Counted : ℕ → ℕ → Riding → List ℕ → Type 0
+Counted host count riding bytes =
+    (riding.token.host.0 ≡ slice_index bytes host) × (riding.count ≡ slice_index bytes count)
 
-pub record HasLayout {A : Type 0} (has : A → Bool) (layout : Option Layout) (reader : Reader A) (bytes : List ℕ) :
-    Type 0 where
-  pub is : IsLayout has layout reader bytes
+pub riding_sized : Sized riding_at 58 (Counted 16 57)
+unfolding riding_at
+riding_sized =
+    sized_then (Counted 16 57) frame_id_sized (λ id.
+    sized_then (Counted 4 45) entry_sized (λ entry.
+    sized_then (Counted 0 41) token_sized (λ token.
+    sized_last _ (CountedWith token) byte_sized (λ count bytes p. (refl, p)))
+    (λ token riding bytes p q. (q.0 ∙ p, q.1 ∙ get_or-drop 41 bytes 0 0)))
+    (λ entry riding bytes p q. (q.0 ∙ get_or-drop 4 bytes 0 0, q.1 ∙ get_or-drop 4 bytes 41 0)))
+    (λ id riding bytes p q. (q.0 ∙ get_or-drop 12 bytes 4 0, q.1 ∙ get_or-drop 12 bytes 45 0))
+  where
+    CountedWith : Token → Riding → List ℕ → Type 0
+    CountedWith token riding bytes =
+        (riding.token.host.0 ≡ token.host.0) × (riding.count ≡ slice_index bytes 0)
 
-layout_if : {A : Type 0} {has : A → Bool} {one other : Option Layout} {first second : Reader A} {bytes : List ℕ}
-    (test : Bool) → HasLayout has one first bytes → HasLayout has other second bytes →
-    HasLayout has (if test then one else other) (if test then first else second) bytes
-layout_if true yes' no' = yes'
-layout_if false yes' no' = no'
+rider_sized : Sized rider_at 12 Any
+unfolding rider_at
+rider_sized = any_then variable_sized (λ variable. any_last _ integer_sized)
 
-laid_out : {reader : Reader Message} {bytes : List ℕ} (count : ℕ) (place : Option ℕ) →
-    Sized reader count (Named has_message_host place) → HasLayout has_message_host (Some (count, place)) reader bytes
-laid_out {bytes = bytes} count place sized = record { is = sized bytes }
-
-message_sized : (kind : ℕ) (bytes : List ℕ) →
-    HasLayout has_message_host (message_layout kind bytes) (message_at kind) bytes
-unfolding message_at refused
-message_sized kind bytes =
-    layout_if (kind == 1) (laid_out 24 None get_sized)
-    (layout_if (kind == 2) (laid_out 32 None set_sized)
-    (layout_if (kind == 3) (laid_out 36 None forward_sized)
-    (layout_if (kind == 4) (laid_out 69 (Some 28) sync_sized)
-    (layout_if (kind == 5) (laid_out 57 (Some 16) rgoto_sized)
-    (layout_if (kind == 6) (laid_out 41 (Some 0) lgoto_sized)
-    (layout_if (kind == 7) (laid_out 20 None value_sized)
-    (layout_if (kind == 8) (laid_out 12 None ack_sized)
-    (layout_if (kind == 9) (laid_out 53 (Some 12) answer_sized) (record { is = refl })))))))))
-
-abbrev as_frame : Message → Reader Frame
-as_frame sent = given (frame.Message sent)
-
-some_message_sized : (layout : Option Layout) (reader : Reader Message) (bytes : List ℕ) →
-    IsLayout has_message_host layout reader bytes → IsLayout has_host layout (sequel reader as_frame) bytes
-unfolding sequel given
-some_message_sized None reader bytes is = ap (λ reading. handed_on reading as_frame) is
-some_message_sized (Some layout) reader bytes is = record {
-  short = λ lt. ap (λ reading. handed_on reading as_frame) (is.short lt);
-  long = λ le.
-      let found = is.long le in
-      (frame.Message found.0, ap (λ reading. handed_on reading as_frame) found.1, found.2);
-}
-
-nothing_sized : Sized (given frame.Done) 0 (Named has_host None)
+nothing_more : (before : List Rider) → Sized (given before) 0 Any
 unfolding given
-nothing_sized bytes = record {
-  short = λ lt. absurd (omega arith);
-  long = λ le. (frame.Done, refl, refl);
-}
+nothing_more before bytes = record { short = λ lt. absurd (omega arith); long = λ le. (before, refl, tt) }
 
-pub fields_sized : (kind : ℕ) (bytes : List ℕ) → HasLayout has_host (layout_of kind bytes) (fields_at kind) bytes
-unfolding fields_at some_message_at
-fields_sized kind bytes =
-    layout_if (kind == 10) (record { is = nothing_sized bytes })
-    (record {
-      is = some_message_sized (message_layout kind bytes) (message_at kind) bytes
-          (message_sized kind bytes).is;
-    })
+pub riders_sized : (before : List Rider) (count : ℕ) →
+    Sized (items_at (λ _. rider_at) before count) (PAIR_BYTES * count) Any
+unfolding items_at
+riders_sized before zero bytes = nothing_more before bytes
+riders_sized before (suc count) bytes =
+    let all : 12 + PAIR_BYTES * count ≡ PAIR_BYTES * suc count = omega arith in
+    subst (λ n. Takes (items_at (λ _. rider_at) before (suc count)) n Any bytes) all
+    (any_then rider_sized (λ next. riders_sized (before ++ next ∷ []) count) bytes)

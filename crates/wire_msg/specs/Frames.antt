@@ -1,6 +1,7 @@
 -- Which frames there are.
-use Rattle.std.specs.Prelude.{◌≡◌, ℕ, ◌<◌, ◌^◌, Bool, true, List, length, nat_lt, FitsSigned, ⊤}
+use Rattle.std.specs.Prelude.{◌≡◌, ℕ, ◌<◌, ◌^◌, Bool, true, ◌&&◌, List, length, nat_lt, nat_le, FitsSigned, ⊤}
 use Rattle.std.specs.Prelude.{Option, Some, None}
+use Rattle.std.specs.List.{AllByRecursion}
 use Rattle.std.specs.Option.{option_map_or}
 use Rattle.std.specs.Int.{w64}
 use Rattle.js_base.specs.declared.ids.HostId.{HostId}
@@ -11,6 +12,8 @@ use Rattle.capability.specs.declared.tags.TheConstants.{TAG_BYTES}
 use Rattle.capability.specs.declared.token.Token.{Token}
 use Rattle.host_code.specs.declared.message.Message.{Message}
 use Rattle.host_code.specs.declared.message.Message.TheVariants as message
+use Rattle.host_code.specs.declared.riders.TheConstants.{MOST_RIDERS}
+use Rattle.host_code.specs.Riders.{Rider, AreFew}
 use Rattle.byte_format.specs.Numbers.{AreBytes}
 use Rattle.wire_msg.specs.declared.frame.Frame.{Frame}
 use Rattle.wire_msg.specs.declared.frame.Frame.TheVariants as frame
@@ -21,6 +24,7 @@ use Rattle.wire_msg.specs.declared.frame.Frame.TheVariants as frame
 abbrev pub token_in : Message → Option Token
 token_in (message.Sync request id entry token) = Some token
 token_in (message.Rgoto id entry token) = Some token
+token_in (message.RgotoWith id entry token riders) = Some token
 token_in (message.Lgoto token) = Some token
 token_in (message.Token request token) = Some token
 token_in _ = None
@@ -29,6 +33,10 @@ token_in _ = None
 abbrev pub has_host : Frame → Bool
 has_host (frame.Message sent) = option_map_or (λ token. nat_lt token.host.0 HOSTS) (token_in sent) true
 has_host frame.Done = true
+
+-- so many values may ride with a message
+abbrev pub may_ride : ℕ → Bool
+may_ride count = nat_le 1 count && nat_le count MOST_RIDERS
 
 -- ---- what the types of a frame keep
 
@@ -46,6 +54,12 @@ IsToken token =
     (token.host.0 < 256)
     × (IsFrameId token.frame × ((token.entry.0 < 2 ^ 32) × ((token.serial < 2 ^ 64) × IsTag token.tag)))
 
+abbrev pub IsRider : Rider → Type 0
+IsRider rider = (rider.0.0 < 2 ^ 32) × FitsSigned w64 rider.1
+
+abbrev pub AreRiders : List Rider → Type 0
+AreRiders riders = AreFew riders × AllByRecursion IsRider riders
+
 abbrev pub IsMessage : Message → Type 0
 IsMessage (message.Get request field index) = IsRequest request × ((field.0 < 2 ^ 32) × FitsSigned w64 index)
 IsMessage (message.Set request field index value) =
@@ -55,12 +69,14 @@ IsMessage (message.Forward request id variable value) =
 IsMessage (message.Sync request id entry token) =
     IsRequest request × (IsFrameId id × ((entry.0 < 2 ^ 32) × IsToken token))
 IsMessage (message.Rgoto id entry token) = IsFrameId id × ((entry.0 < 2 ^ 32) × IsToken token)
+IsMessage (message.RgotoWith id entry token riders) =
+    IsFrameId id × ((entry.0 < 2 ^ 32) × (IsToken token × AreRiders riders))
 IsMessage (message.Lgoto token) = IsToken token
 IsMessage (message.Value request value) = IsRequest request × FitsSigned w64 value
 IsMessage (message.Ack request) = IsRequest request
 IsMessage (message.Token request token) = IsRequest request × IsToken token
 
--- each number fits its type, as in every frame in memory
+-- each number fits its type, and 1 to 8 values ride where some do, as in every frame in memory
 abbrev pub IsFrame : Frame → Type 0
 IsFrame (frame.Message sent) = IsMessage sent
 IsFrame frame.Done = ⊤

@@ -1,6 +1,7 @@
 -- Which frame bytes spell, or what is wrong with them. Each item is read in the order of the bytes. The sender is
--- tested once the kind is there, the host of a token once all fields are, and what is left is refused last.
-use Rattle.std.specs.Prelude.{ℕ, ◌==◌, if◌then◌else◌, List, nat_lt, nat_le, Result}
+-- tested once the kind is there, the host of a token once all fields are, and what is left is refused last. Where
+-- values ride, the host of the token and then their count are tested before they are read.
+use Rattle.std.specs.Prelude.{ℕ, ◌==◌, if◌then◌else◌, List, [], nat_lt, nat_le, Result}
 use Rattle.std.specs.Int.{w32, w64}
 use Rattle.js_base.specs.declared.ids.HostId.{HostId}
 use Rattle.js_base.specs.declared.ids.FieldId.{FieldId}
@@ -13,12 +14,14 @@ use Rattle.capability.specs.declared.tags.TheConstants.{TAG_BYTES}
 use Rattle.capability.specs.declared.token.Token.{Token}
 use Rattle.host_code.specs.declared.message.Message.{Message}
 use Rattle.host_code.specs.declared.message.Message.TheVariants as message
-use Rattle.byte_format.specs.Reader.{◌>>=◌, given, refused, require}
+use Rattle.host_code.specs.Riders.{Rider}
+use Rattle.byte_format.specs.Reader.{◌>>=◌, given, refused, require, items_at}
 use Rattle.wire_msg.specs.declared.error.WireError.{WireError}
 use Rattle.wire_msg.specs.declared.error.WireError.TheVariants as refusal
 use Rattle.wire_msg.specs.declared.frame.Frame.{Frame}
 use Rattle.wire_msg.specs.declared.frame.Frame.TheVariants as frame
-use Rattle.wire_msg.specs.Frames.{has_host}
+use Rattle.wire_msg.specs.declared.riding.Riding.{Riding}
+use Rattle.wire_msg.specs.Frames.{has_host, may_ride}
 use Rattle.wire_msg.specs.Reader.{Reader, known, byte_at, bytes_at, number_at}
 use Rattle.wire_msg.specs.Reader.{integer_at, whole}
 
@@ -122,6 +125,30 @@ answer_at = do
   token ← token_at
   given (message.Token request token)
 
+-- an rgoto, and how many values are said to ride with it
+unfoldable pub riding_at : Reader Riding
+riding_at = do
+  id ← frame_id_at
+  entry ← entry_at
+  token ← token_at
+  count ← byte_at
+  given (record { frame = id; entry = entry; token = token; count = count })
+
+-- a variable, and the value that rides for it
+unfoldable pub rider_at : Reader Rider
+rider_at = do
+  variable ← variable_at
+  value ← integer_at
+  given (variable, value)
+
+unfoldable pub rgoto_with_at : Reader Message
+rgoto_with_at = do
+  riding ← riding_at
+  _ ← require (nat_lt riding.token.host.0 HOSTS) refusal.BadField
+  _ ← require (may_ride riding.count) refusal.BadField
+  riders ← items_at (λ _. rider_at) [] riding.count
+  given (message.RgotoWith riding.frame riding.entry riding.token riders)
+
 -- the fields of a message, by its kind
 unfoldable pub message_at : ℕ → Reader Message
 message_at kind =
@@ -134,7 +161,8 @@ message_at kind =
     else (if kind == 7 then value_at
     else (if kind == 8 then ack_at
     else (if kind == 9 then answer_at
-    else refused refusal.BadKind))))))))
+    else (if kind == 11 then rgoto_with_at
+    else refused refusal.BadKind)))))))))
 
 -- ---- frames
 

@@ -1,11 +1,13 @@
 -- The bytes of a frame: one spelling for each.
 use Rattle.std.specs.Prelude.{ℕ, List, [], ◌∷◌, ◌++◌, length}
+use Rattle.std.specs.List.{flat_map}
 use Rattle.js_base.specs.declared.ids.HostId.{HostId}
 use Rattle.js_base.specs.declared.ids.FrameId.{FrameId}
 use Rattle.js_base.specs.declared.ids.RequestId.{RequestId}
 use Rattle.capability.specs.declared.token.Token.{Token}
 use Rattle.host_code.specs.declared.message.Message.{Message}
 use Rattle.host_code.specs.declared.message.Message.TheVariants as message
+use Rattle.host_code.specs.Riders.{Rider}
 use Rattle.byte_format.specs.Numbers.{number_bytes, word_bytes, integer_bytes}
 use Rattle.wire_msg.specs.declared.frame.Frame.{Frame}
 use Rattle.wire_msg.specs.declared.frame.Frame.TheVariants as frame
@@ -22,6 +24,10 @@ abbrev pub token_bytes : Token → List ℕ
 token_bytes token =
     token.host.0
     ∷ (frame_id_bytes token.frame ++ (number_bytes token.entry.0 ++ (word_bytes token.serial ++ token.tag)))
+
+-- a variable, and the value that rides for it
+abbrev pub rider_bytes : Rider → List ℕ
+rider_bytes rider = number_bytes rider.0.0 ++ integer_bytes rider.1
 
 -- ---- frames
 
@@ -40,6 +46,10 @@ message_bytes (message.Lgoto token) = 6 ∷ token_bytes token
 message_bytes (message.Value request value) = 7 ∷ (request_bytes request ++ integer_bytes value)
 message_bytes (message.Ack request) = 8 ∷ request_bytes request
 message_bytes (message.Token request token) = 9 ∷ (request_bytes request ++ token_bytes token)
+message_bytes (message.RgotoWith id entry token riders) =
+    11
+    ∷ (frame_id_bytes id
+    ++ (number_bytes entry.0 ++ (token_bytes token ++ (length riders ∷ flat_map rider_bytes riders))))
 
 -- the kind and the fields
 abbrev pub kinded_bytes : Frame → List ℕ

@@ -11,7 +11,7 @@ pub enum WireError {
     /// There is no such kind of message.
     #[error("bad kind")]
     BadKind,
-    /// The number of the sender or of a token's host is above 15.
+    /// The number of the sender or of a token's host is above 15, or not 1 to 8 values ride.
     #[error("bad field")]
     BadField,
     /// The body is said to have more than 4096 bytes.

@@ -1,6 +1,7 @@
 //! Laws of frames.
 
-ghost use Rattle.std.specs.Prelude.{◌≡◌, ◌≢◌, ◌≤◌, true, ℕ, ℤ, ◌⊎◌, ◌∷◌, [], List, length, replicate, Ok, Err};
+ghost use Rattle.std.specs.Prelude.{◌≡◌, ◌≢◌, ◌≤◌, ◌*◌, ◌+◌, true, ℕ, ℤ, ◌⊎◌, ◌∷◌, [], ◌++◌, List, length, replicate};
+ghost use Rattle.std.specs.Prelude.{Ok, Err};
 ghost use Rattle.js_base.specs.declared.limits.TheConstants.{HOSTS};
 ghost use Rattle.js_base.specs.declared.ids.HostId.{HostId};
 ghost use Rattle.js_base.specs.declared.ids.FieldId.{FieldId};
@@ -11,6 +12,7 @@ ghost use Rattle.js_base.specs.declared.ids.RequestId.{RequestId};
 ghost use Rattle.capability.specs.declared.token.Token.{Token};
 ghost use Rattle.host_code.specs.declared.message.Message.{Message};
 ghost use Rattle.host_code.specs.declared.message.Message.TheVariants as message;
+ghost use Rattle.host_code.specs.Riders.{Rider};
 ghost use Rattle.host_code.specs.Code.{CodeShape};
 ghost use Rattle.host_code.specs.Messages.{MessageFits};
 ghost use Rattle.byte_format.specs.Numbers.{AreBytes};
@@ -22,7 +24,7 @@ ghost use Rattle.wire_msg.specs.Frames.{has_host, IsTag, IsSent};
 ghost use Rattle.wire_msg.specs.Faults.{first_fault, fault_in};
 ghost use Rattle.wire_msg.specs.Spelling.{frame_bytes};
 ghost use Rattle.wire_msg.specs.Reading.{reading_of};
-ghost use Rattle.wire_msg.specs.Examples.{first_host, last_host, small_request};
+ghost use Rattle.wire_msg.specs.Examples.{first_host, last_host, small_request, riding_seven, riding_fields};
 
 /// Laws of frames, for who reasons about them. The call does nothing.
 pub fn wire_laws()
@@ -61,6 +63,9 @@ pub fn wire_laws()
         IsTag token.tag → length (frame_bytes from (frame.Message (message.Sync request id entry token))) ≡ 75 }
     ensures worked_rgoto { (from : HostId) (id : FrameId) (entry : EntryId) (token : Token) →
         IsTag token.tag → length (frame_bytes from (frame.Message (message.Rgoto id entry token))) ≡ 63 }
+    ensures worked_rgoto_with { (from : HostId) (id : FrameId) (entry : EntryId) (token : Token) (riders : List Rider) →
+        IsTag token.tag →
+        length (frame_bytes from (frame.Message (message.RgotoWith id entry token riders))) ≡ 64 + 12 * length riders }
     ensures worked_lgoto { (from : HostId) (token : Token) → IsTag token.tag →
         length (frame_bytes from (frame.Message (message.Lgoto token))) ≡ 47 }
     ensures worked_value { (from : HostId) (request : RequestId) (value : ℤ) →
@@ -75,6 +80,10 @@ pub fn wire_laws()
     ensures worked_bytes { frame_bytes first_host (frame.Message (message.Ack small_request))
         ≡ 0 ∷ 0 ∷ 0 ∷ 14 ∷ 0 ∷ 8 ∷ 0 ∷ 0 ∷ 1 ∷ 2 ∷ 0 ∷ 0 ∷ 0 ∷ 0 ∷ 0 ∷ 0 ∷ 3 ∷ 4 ∷ [] }
 
+    // An rgoto with which one value rides.
+    ensures worked_riding { frame_bytes first_host (frame.Message riding_seven)
+        ≡ 0 ∷ 0 ∷ 0 ∷ 72 ∷ 0 ∷ 11 ∷ (riding_fields 0 1 ++ replicate 11 0 ++ 7 ∷ []) }
+
     // Refusals in their order.
     ensures worked_nothing { reading_of [] ≡ Err refusal.Short }
     ensures worked_length { reading_of (255 ∷ 255 ∷ 255 ∷ []) ≡ Err refusal.Short }
@@ -85,10 +94,20 @@ pub fn wire_laws()
     ensures worked_no_kind { reading_of (0 ∷ 0 ∷ 0 ∷ 1 ∷ 99 ∷ []) ≡ Err refusal.Short }
     ensures worked_sender { reading_of (0 ∷ 0 ∷ 0 ∷ 2 ∷ 16 ∷ 0 ∷ []) ≡ Err refusal.BadField }
     ensures worked_first_kind { reading_of (0 ∷ 0 ∷ 0 ∷ 2 ∷ 15 ∷ 0 ∷ []) ≡ Err refusal.BadKind }
-    ensures worked_last_kind { reading_of (0 ∷ 0 ∷ 0 ∷ 3 ∷ 15 ∷ 11 ∷ 0 ∷ []) ≡ Err refusal.BadKind }
+    ensures worked_last_kind { reading_of (0 ∷ 0 ∷ 0 ∷ 3 ∷ 15 ∷ 12 ∷ 0 ∷ []) ≡ Err refusal.BadKind }
     ensures worked_fields { reading_of (0 ∷ 0 ∷ 0 ∷ 3 ∷ 15 ∷ 6 ∷ 16 ∷ []) ≡ Err refusal.Short }
     ensures worked_cut_token { reading_of (0 ∷ 0 ∷ 0 ∷ 42 ∷ 15 ∷ 6 ∷ 16 ∷ replicate 39 0) ≡ Err refusal.Short }
     ensures worked_token_host { reading_of (0 ∷ 0 ∷ 0 ∷ 44 ∷ 15 ∷ 6 ∷ 16 ∷ replicate 41 0) ≡ Err refusal.BadField }
+    ensures worked_cut_count { reading_of (0 ∷ 0 ∷ 0 ∷ 59 ∷ 15 ∷ 11 ∷ replicate 16 0 ++ 16 ∷ replicate 40 0)
+        ≡ Err refusal.Short }
+    ensures worked_riding_host { reading_of (0 ∷ 0 ∷ 0 ∷ 60 ∷ 15 ∷ 11 ∷ riding_fields 16 1) ≡ Err refusal.BadField }
+    ensures worked_none_ride { reading_of (0 ∷ 0 ∷ 0 ∷ 60 ∷ 15 ∷ 11 ∷ riding_fields 0 0) ≡ Err refusal.BadField }
+    ensures worked_nine_ride { reading_of (0 ∷ 0 ∷ 0 ∷ 60 ∷ 15 ∷ 11 ∷ riding_fields 0 9) ≡ Err refusal.BadField }
+    ensures worked_eight_ride { reading_of (0 ∷ 0 ∷ 0 ∷ 60 ∷ 15 ∷ 11 ∷ riding_fields 0 8) ≡ Err refusal.Short }
+    ensures worked_cut_pair { reading_of (0 ∷ 0 ∷ 0 ∷ 72 ∷ 15 ∷ 11 ∷ riding_fields 0 2 ++ replicate 12 0)
+        ≡ Err refusal.Short }
+    ensures worked_pair_left { reading_of (0 ∷ 0 ∷ 0 ∷ 73 ∷ 15 ∷ 11 ∷ riding_fields 0 1 ++ replicate 13 0)
+        ≡ Err refusal.Trailing }
     ensures worked_left { reading_of (0 ∷ 0 ∷ 0 ∷ 3 ∷ 15 ∷ 10 ∷ 0 ∷ []) ≡ Err refusal.Trailing }
     ensures worked_behind { reading_of (0 ∷ 0 ∷ 0 ∷ 2 ∷ 15 ∷ 10 ∷ 0 ∷ []) ≡ Err refusal.Trailing }
     ensures worked_read { reading_of (0 ∷ 0 ∷ 0 ∷ 2 ∷ 15 ∷ 10 ∷ []) ≡ Ok (last_host, frame.Done) }

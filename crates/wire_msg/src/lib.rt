@@ -18,12 +18,13 @@
 //! | 8 | ack | the request |
 //! | 9 | token | the request, the token |
 //! | 10 | done | none |
+//! | 11 | rgoto with | the frame, the entry, the token, the count of pairs, the pairs |
 //!
 //! A field, a variable and an entry are numbers of four bytes, and an index and a value signed numbers of eight. A
 //! request is the place that asks, in four bytes, and a count of eight. A frame of the program is its call site, in
 //! four bytes, and a count of eight. A token is its host, a byte below 16, its frame, its entry, its serial number of
-//! eight bytes, and the 16 bytes of its tag. All numbers have their highest byte first, signed ones in two's
-//! complement.
+//! eight bytes, and the 16 bytes of its tag. A pair is a variable and the value that rides for it, and their count is a
+//! byte, 1 to 8. All numbers have their highest byte first, signed ones in two's complement.
 #![tactic(auto)]
 
 mod appending;
@@ -36,6 +37,7 @@ mod messages;
 mod numbers;
 mod ranges;
 mod reading;
+mod riding;
 mod writing;
 
 pub use error::WireError;

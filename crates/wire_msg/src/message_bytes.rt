@@ -2,13 +2,14 @@
 #![tactic(auto, using(crate::proofs::Appends::appends))]
 
 ghost use Rattle.std.specs.Prelude.{◌≡◌, ◌++◌, OnOk};
+ghost use Rattle.std.specs.List.{flat_map};
 ghost use Rattle.host_code.specs.declared.message.Message.TheVariants as message;
-ghost use Rattle.wire_msg.specs.Spelling.{message_bytes};
+ghost use Rattle.wire_msg.specs.Spelling.{rider_bytes, message_bytes};
 
 use crate::appending::{put_frame_id, put_request, put_token};
 use byte_format::{put_byte, put_integer, put_number};
 use capability::Token;
-use host_code::Message;
+use host_code::{Message, Riders};
 use js_base::{EntryId, FieldId, FrameId, OutOfMemory, RequestId, VarId};
 
 /// Adds a get.
@@ -127,6 +128,37 @@ fn put_answer(out: &mut Vec<u8>, request: RequestId, token: &Token) -> Result<()
     put_token(out, token)
 }
 
+/// Adds variables, and the values that ride for them.
+fn put_riders(out: &mut Vec<u8>, riders: &[(VarId, i64)]) -> Result<(), OutOfMemory>
+    ensures { OnOk result (out.new.items ≡ out.old.items ++ flat_map rider_bytes riders.now) }
+{
+    for (var, value) in riders {
+        put_number(out, var.0)?;
+        put_integer(out, *value)?;
+    }
+    Ok(())
+}
+
+/// Adds an rgoto with which values ride.
+fn put_rgoto_with(
+    out: &mut Vec<u8>,
+    frame: FrameId,
+    entry: EntryId,
+    token: &Token,
+    pairs: &Riders,
+) -> Result<(), OutOfMemory>
+    ensures { OnOk result
+        (out.new.items ≡ out.old.items ++ message_bytes (message.RgotoWith frame entry token.now pairs.now)) }
+{
+    let riders = pairs.pairs();
+    put_byte(out, 11)?;
+    put_frame_id(out, frame)?;
+    put_number(out, entry.0)?;
+    put_token(out, token)?;
+    put_byte(out, riders.len() as u8)?;
+    put_riders(out, riders)
+}
+
 /// Adds a message, behind its kind.
 pub fn put_message(out: &mut Vec<u8>, message: &Message) -> Result<(), OutOfMemory>
     ensures { OnOk result (out.new.items ≡ out.old.items ++ message_bytes message.now) }
@@ -160,6 +192,12 @@ pub fn put_message(out: &mut Vec<u8>, message: &Message) -> Result<(), OutOfMemo
             entry,
             token,
         } => put_rgoto(out, *frame, *entry, token),
+        Message::RgotoWith {
+            frame,
+            entry,
+            token,
+            pairs,
+        } => put_rgoto_with(out, *frame, *entry, token, pairs),
         Message::Lgoto { token } => put_lgoto(out, token),
         Message::Value { request, value } => put_value(out, *request, *value),
         Message::Ack { request } => put_ack(out, *request),

@@ -8,6 +8,7 @@ ghost use Rattle.wire_msg.specs.Reading.{answer_at, message_at};
 use crate::error::WireError;
 use crate::fields::{entry_of, field_of, frame_id_of, request_of, token_of, var_of};
 use crate::numbers::i64_of;
+use crate::riding::rgoto_with_of;
 use host_code::Message;
 
 /// What a get asks for.
@@ -139,6 +140,7 @@ pub fn message_of(kind: u8, bytes: &[u8]) -> Result<(Message, &[u8]), WireError>
         7 => value_of(bytes),
         8 => ack_of(bytes),
         9 => answer_of(bytes),
+        11 => rgoto_with_of(bytes),
         _ => Err(WireError::BadKind),
     }
 }

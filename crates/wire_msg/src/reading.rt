@@ -29,6 +29,7 @@ fn token_in(message: &Message) -> Option<Token>
     match message {
         Message::Sync { token, .. }
         | Message::Rgoto { token, .. }
+        | Message::RgotoWith { token, .. }
         | Message::Lgoto { token }
         | Message::Token { token, .. } => Some(*token),
         Message::Get { .. }
@@ -59,8 +60,10 @@ fn fields_of(kind: u8, bytes: &[u8]) -> Result<(Frame, &[u8]), WireError>
     if kind == DONE {
         return Ok((Frame::Done, bytes));
     }
-    let (message, rest) = message_of(kind, bytes)?;
-    Ok((Frame::Message(message), rest))
+    match message_of(kind, bytes) {
+        Ok((message, rest)) => Ok((Frame::Message(message), rest)),
+        Err(error) => Err(error),
+    }
 }
 
 /// Who sent a body, and what it says.
@@ -72,7 +75,10 @@ fn sent_of(body: &[u8]) -> Result<(HostId, Frame), WireError>
     if from as usize >= HOSTS {
         return Err(WireError::BadField);
     }
-    let (frame, rest) = fields_of(kind, rest)?;
+    let (frame, rest) = match fields_of(kind, rest) {
+        Ok(read) => read,
+        Err(error) => return Err(error),
+    };
     if !has_host(&frame) {
         return Err(WireError::BadField);
     }
@@ -115,9 +121,11 @@ fn frame_of(bytes: &[u8]) -> Result<(HostId, Frame), WireError>
 /// 3. `Short`: fewer bytes follow than the length says, or the body has fewer than two;
 /// 4. `BadField`: the sender's number is above 15;
 /// 5. `BadKind`: there is no such kind;
-/// 6. `Short`: the body ends before the fields of its kind do;
+/// 6. `Short`: the body ends before the fields of its kind do, the pairs of an rgoto with values aside;
 /// 7. `BadField`: the number of a token's host is above 15;
-/// 8. `Trailing`: bytes are left in the body or behind the frame.
+/// 8. `BadField`: the count of pairs is not 1 to 8;
+/// 9. `Short`: the body ends before the pairs do;
+/// 10. `Trailing`: bytes are left in the body or behind the frame.
 pub fn read(bytes: &[u8]) -> Result<(HostId, Frame), WireError>
     // What is read is spelled so.
     ensures found { IfOk result (λ x. IsSent x.0 x.1 × (bytes.now ≡ frame_bytes x.0 x.1)) }

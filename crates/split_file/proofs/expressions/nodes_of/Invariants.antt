@@ -1,5 +1,5 @@
 use Rattle.std.proofs.Common.{◌≡◌, ◌-◌, [], length}
-use Rattle.split_file.specs.Reader.{items_at}
+use Rattle.byte_format.specs.Reader.{items_at}
 use Rattle.split_file.specs.Reading.{node_at}
 use Rattle.split_file.proofs.expressions.nodes_of.Given as goal
 

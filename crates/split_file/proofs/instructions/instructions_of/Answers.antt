@@ -5,9 +5,10 @@ use Rattle.std.proofs.lemmas.List.{length_push}
 use Rattle.host_code.specs.declared.instruction.Instr.{Instr}
 use Rattle.host_code.specs.CodeParts.{shape_of}
 use Rattle.host_code.specs.Sound.{is_entrance, temporaries_at, temporaries_after}
+use Rattle.byte_format.proofs.Items.{items_more}
 use Rattle.split_file.specs.Reader.{Reader, Fails}
 use Rattle.split_file.specs.Reading.{next_instruction_at}
-use Rattle.split_file.proofs.Items.{items_more, items_fail}
+use Rattle.split_file.proofs.Items.{items_fail}
 use Rattle.split_file.proofs.NextItems.{next_instruction}
 use Rattle.split_file.proofs.Temporaries.{temporaries_more, temporaries_few}
 use Rattle.split_file.proofs.instructions.instructions_of.Goals as goal

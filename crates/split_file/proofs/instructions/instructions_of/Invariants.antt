@@ -1,7 +1,7 @@
 use Rattle.std.proofs.Common.{◌≡◌, ◌-◌, ◌≤◌, [], length}
 use Rattle.host_code.specs.CodeParts.{shape_of}
 use Rattle.host_code.specs.Sound.{temporaries_at}
-use Rattle.split_file.specs.Reader.{items_at}
+use Rattle.byte_format.specs.Reader.{items_at}
 use Rattle.split_file.specs.Reading.{next_instruction_at}
 use Rattle.split_file.proofs.instructions.instructions_of.Given as goal
 

@@ -3,9 +3,10 @@ use Rattle.std.proofs.lemmas.Result.{err_from_is_err_and}
 use Rattle.std.proofs.lemmas.List.{length_push}
 use Rattle.host_code.specs.declared.instruction.Instr.{Instr}
 use Rattle.host_code.specs.CodeParts.{shape_of}
+use Rattle.byte_format.proofs.Items.{items_more}
 use Rattle.split_file.specs.Reader.{Reader, Fails}
 use Rattle.split_file.specs.Reading.{next_part_at}
-use Rattle.split_file.proofs.Items.{items_more, items_fail}
+use Rattle.split_file.proofs.Items.{items_fail}
 use Rattle.split_file.proofs.NextItems.{next_part}
 use Rattle.split_file.proofs.instructions.parts_of.Goals as goal
 

@@ -1,6 +1,6 @@
 use Rattle.std.proofs.Common.{◌≡◌, ◌-◌, [], length}
 use Rattle.host_code.specs.CodeParts.{shape_of}
-use Rattle.split_file.specs.Reader.{items_at}
+use Rattle.byte_format.specs.Reader.{items_at}
 use Rattle.split_file.specs.Reading.{next_part_at}
 use Rattle.split_file.proofs.instructions.parts_of.Given as goal
 

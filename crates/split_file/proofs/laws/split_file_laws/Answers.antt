@@ -1,8 +1,8 @@
 use Rattle.std.proofs.Common.{refl}
 use Rattle.byte_format.specs.Numbers.{number_bytes, word_bytes}
-use Rattle.byte_format.specs.Reader.{bytes_at, number_at, require, given, sequel}
+use Rattle.byte_format.specs.Reader.{bytes_at, number_at, require, given, sequel, items_at, list_at}
 use Rattle.split_file.specs.Spelling.{split_file}
-use Rattle.split_file.specs.Reader.{text_at, in_range, place, items_at, list_at}
+use Rattle.split_file.specs.Reader.{text_at, in_range, place}
 use Rattle.split_file.specs.Reading.{code_at, front_at, magic_at, version_at, tables_at, hosts_at, host_row_at, name_at}
 use Rattle.split_file.specs.Reading.{label_at}
 use Rattle.split_file.specs.File.{file_code}

@@ -2,9 +2,10 @@ use Rattle.std.proofs.Common.{◌≡◌, List, Ok, ◌+◌, length, subst, sym, 
 use Rattle.std.proofs.lemmas.Result.{err_from_is_err_and}
 use Rattle.std.proofs.lemmas.List.{length_push}
 use Rattle.host_code.specs.declared.code.Entry.{Entry}
+use Rattle.byte_format.proofs.Items.{items_more, items_done}
 use Rattle.split_file.specs.Reader.{Reader, Fails}
 use Rattle.split_file.specs.Reading.{entry_row_at, is_empty}
-use Rattle.split_file.proofs.Items.{items_more, items_fail, items_done, some_pushed}
+use Rattle.split_file.proofs.Items.{items_fail, some_pushed}
 use Rattle.split_file.proofs.starts.entry_rows_of.Goals as goal
 
 pub returns-in_err-entry-clause-entries : goal.returns-in_err-entry-clause-entries

@@ -1,6 +1,7 @@
 use Rattle.std.proofs.Common.{◌≡◌, ◌-◌, List, [], length}
 use Rattle.host_code.specs.declared.code.Entry.{Entry}
-use Rattle.split_file.specs.Reader.{Reader, items_at}
+use Rattle.byte_format.specs.Reader.{items_at}
+use Rattle.split_file.specs.Reader.{Reader}
 use Rattle.split_file.specs.Reading.{entry_row_at, is_empty}
 use Rattle.split_file.proofs.starts.entry_rows_of.Given as goal
 

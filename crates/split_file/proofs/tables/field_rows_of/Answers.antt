@@ -2,9 +2,10 @@ use Rattle.std.proofs.Common.{◌≡◌, subst, refl, List, Ok}
 use Rattle.std.proofs.lemmas.Result.{err_from_is_err_and}
 use Rattle.std.proofs.lemmas.List.Sums.{sum_by_push}
 use Rattle.host_code.specs.Code.{CodeFieldShape}
+use Rattle.byte_format.proofs.Items.{items_more, items_done}
 use Rattle.split_file.specs.Reader.{Reader, Fails}
 use Rattle.split_file.specs.Reading.{field_row_at, elements_of}
-use Rattle.split_file.proofs.Items.{items_more, items_fail, items_done}
+use Rattle.split_file.proofs.Items.{items_fail}
 use Rattle.split_file.proofs.tables.field_rows_of.Goals as goal
 
 pub returns-in_err-field : goal.returns-in_err-field

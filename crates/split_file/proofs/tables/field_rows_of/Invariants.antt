@@ -1,7 +1,8 @@
 use Rattle.std.proofs.Common.{◌≡◌, ◌-◌, ◌≤◌, List, []}
 use Rattle.js_base.specs.declared.limits.TheConstants.{ELEMENTS}
 use Rattle.host_code.specs.Code.{CodeFieldShape}
-use Rattle.split_file.specs.Reader.{Reader, items_at}
+use Rattle.byte_format.specs.Reader.{items_at}
+use Rattle.split_file.specs.Reader.{Reader}
 use Rattle.split_file.specs.Reading.{field_row_at, elements_of}
 use Rattle.split_file.proofs.tables.field_rows_of.Given as goal
 

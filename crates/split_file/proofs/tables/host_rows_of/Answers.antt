@@ -1,8 +1,9 @@
 use Rattle.std.proofs.Common.{◌+◌, length, ap, ◌∙◌}
 use Rattle.std.proofs.lemmas.Result.{err_from_is_err_and}
 use Rattle.std.proofs.lemmas.List.{length_push}
+use Rattle.byte_format.proofs.Items.{items_more, items_done}
 use Rattle.split_file.specs.Reading.{host_row_at}
-use Rattle.split_file.proofs.Items.{items_more, items_fail, items_done}
+use Rattle.split_file.proofs.Items.{items_fail}
 use Rattle.split_file.proofs.tables.host_rows_of.Goals as goal
 
 pub returns-in_err-host-clause-hosts : goal.returns-in_err-host-clause-hosts

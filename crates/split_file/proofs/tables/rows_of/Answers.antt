@@ -3,8 +3,9 @@ use Rattle.std.specs.Int.{w64}
 use Rattle.std.proofs.lemmas.Result.{err_from_is_err_and}
 use Rattle.std.proofs.lemmas.List.{take_more_set, take_all, length-set}
 use Rattle.js_base.specs.declared.limits.TheConstants.{PRINCIPALS}
+use Rattle.byte_format.proofs.Items.{items_more, items_done}
 use Rattle.split_file.specs.Reader.{number_at}
-use Rattle.split_file.proofs.Items.{items_more, items_fail, items_done}
+use Rattle.split_file.proofs.Items.{items_fail}
 use Rattle.split_file.proofs.tables.rows_of.Goals as goal
 
 pub returns-in_err-row : goal.returns-in_err-row

@@ -1,7 +1,8 @@
 use Rattle.std.proofs.Common.{◌≡◌, ◌-◌, [], take, length}
 use Rattle.std.specs.Int.{w64}
 use Rattle.js_base.specs.declared.limits.TheConstants.{PRINCIPALS}
-use Rattle.split_file.specs.Reader.{items_at, number_at}
+use Rattle.byte_format.specs.Reader.{items_at}
+use Rattle.split_file.specs.Reader.{number_at}
 use Rattle.split_file.proofs.tables.rows_of.Given as goal
 
 abbrev pub invariant-loop-owner : goal.invariant-loop-owner

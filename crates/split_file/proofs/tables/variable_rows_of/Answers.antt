@@ -1,5 +1,6 @@
 use Rattle.std.proofs.lemmas.Result.{err_from_is_err_and}
-use Rattle.split_file.proofs.Items.{items_more, items_fail, items_done}
+use Rattle.byte_format.proofs.Items.{items_more, items_done}
+use Rattle.split_file.proofs.Items.{items_fail}
 use Rattle.split_file.specs.Reading.{variable_row_at}
 use Rattle.split_file.proofs.tables.variable_rows_of.Goals as goal
 

@@ -1,5 +1,5 @@
 use Rattle.std.proofs.Common.{◌≡◌, ◌-◌, []}
-use Rattle.split_file.specs.Reader.{items_at}
+use Rattle.byte_format.specs.Reader.{items_at}
 use Rattle.split_file.specs.Reading.{variable_row_at}
 use Rattle.split_file.proofs.tables.variable_rows_of.Given as goal
 

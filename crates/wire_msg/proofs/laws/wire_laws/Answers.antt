@@ -1,11 +1,14 @@
 use Rattle.std.proofs.Common.{refl, arith}
 use Rattle.byte_format.specs.Numbers.{number_bytes, word_bytes}
-use Rattle.byte_format.specs.Reader.{sequel, given, refused, require, byte_at, bytes_at, number_at}
+use Rattle.byte_format.specs.Reader.{sequel, given, refused, require, byte_at, bytes_at, number_at, integer_at}
+use Rattle.byte_format.specs.Reader.{items_at}
 use Rattle.wire_msg.specs.Spelling.{frame_bytes}
 use Rattle.wire_msg.specs.Reader.{known, whole}
 use Rattle.wire_msg.specs.Reading.{entry_at, frame_id_at, token_at, lgoto_at, message_at, some_message_at, fields_at}
-use Rattle.wire_msg.specs.Reading.{sent_at, body_at, frame_at, reading_of}
+use Rattle.wire_msg.specs.Reading.{sent_at, body_at, frame_at, reading_of, riding_at, rider_at, variable_at}
+use Rattle.wire_msg.specs.Reading.{rgoto_with_at}
 use Rattle.wire_msg.proofs.FrameLaws.{fitting, spelled_once, read_again, frame_read, frame_or_refusal}
+use Rattle.wire_msg.proofs.RiderLaws.{spelled_length}
 use Rattle.wire_msg.proofs.FaultLaws.{first_fault_is}
 use Rattle.wire_msg.proofs.laws.wire_laws.Goals as goal
 
@@ -47,6 +50,11 @@ pub returns-clause-worked_rgoto : goal.returns-clause-worked_rgoto
 unfolding number_bytes word_bytes frame_bytes
 returns-clause-worked_rgoto c from id entry token is = omega (arith, is.0)
 
+pub returns-clause-worked_rgoto_with : goal.returns-clause-worked_rgoto_with
+unfolding number_bytes word_bytes frame_bytes
+returns-clause-worked_rgoto_with c from id entry token riders is =
+    omega (arith, spelled_length id entry token riders is.0)
+
 pub returns-clause-worked_lgoto : goal.returns-clause-worked_lgoto
 unfolding number_bytes word_bytes frame_bytes
 returns-clause-worked_lgoto c from token is = omega (arith, is.0)
@@ -70,6 +78,10 @@ returns-clause-worked_done c from = refl
 pub returns-clause-worked_bytes : goal.returns-clause-worked_bytes
 unfolding number_bytes word_bytes frame_bytes
 returns-clause-worked_bytes c = refl
+
+pub returns-clause-worked_riding : goal.returns-clause-worked_riding
+unfolding number_bytes word_bytes frame_bytes
+returns-clause-worked_riding c = refl
 
 pub returns-clause-worked_nothing : goal.returns-clause-worked_nothing
 unfolding reading_of frame_at body_at whole sequel number_at
@@ -127,6 +139,48 @@ pub returns-clause-worked_token_host : goal.returns-clause-worked_token_host
 unfolding reading_of frame_at body_at whole sequel number_at require bytes_at known sent_at byte_at fields_at
     some_message_at message_at refused lgoto_at token_at frame_id_at entry_at given
 returns-clause-worked_token_host c = refl
+
+pub returns-clause-worked_cut_count : goal.returns-clause-worked_cut_count
+unfolding reading_of frame_at body_at whole sequel number_at require bytes_at known sent_at byte_at fields_at
+    some_message_at message_at refused rgoto_with_at riding_at token_at frame_id_at entry_at rider_at variable_at
+    integer_at items_at given
+returns-clause-worked_cut_count c = refl
+
+pub returns-clause-worked_riding_host : goal.returns-clause-worked_riding_host
+unfolding reading_of frame_at body_at whole sequel number_at require bytes_at known sent_at byte_at fields_at
+    some_message_at message_at refused rgoto_with_at riding_at token_at frame_id_at entry_at rider_at variable_at
+    integer_at items_at given
+returns-clause-worked_riding_host c = refl
+
+pub returns-clause-worked_none_ride : goal.returns-clause-worked_none_ride
+unfolding reading_of frame_at body_at whole sequel number_at require bytes_at known sent_at byte_at fields_at
+    some_message_at message_at refused rgoto_with_at riding_at token_at frame_id_at entry_at rider_at variable_at
+    integer_at items_at given
+returns-clause-worked_none_ride c = refl
+
+pub returns-clause-worked_nine_ride : goal.returns-clause-worked_nine_ride
+unfolding reading_of frame_at body_at whole sequel number_at require bytes_at known sent_at byte_at fields_at
+    some_message_at message_at refused rgoto_with_at riding_at token_at frame_id_at entry_at rider_at variable_at
+    integer_at items_at given
+returns-clause-worked_nine_ride c = refl
+
+pub returns-clause-worked_eight_ride : goal.returns-clause-worked_eight_ride
+unfolding reading_of frame_at body_at whole sequel number_at require bytes_at known sent_at byte_at fields_at
+    some_message_at message_at refused rgoto_with_at riding_at token_at frame_id_at entry_at rider_at variable_at
+    integer_at items_at given
+returns-clause-worked_eight_ride c = refl
+
+pub returns-clause-worked_cut_pair : goal.returns-clause-worked_cut_pair
+unfolding reading_of frame_at body_at whole sequel number_at require bytes_at known sent_at byte_at fields_at
+    some_message_at message_at refused rgoto_with_at riding_at token_at frame_id_at entry_at rider_at variable_at
+    integer_at items_at given
+returns-clause-worked_cut_pair c = refl
+
+pub returns-clause-worked_pair_left : goal.returns-clause-worked_pair_left
+unfolding reading_of frame_at body_at whole sequel number_at require bytes_at known sent_at byte_at fields_at
+    some_message_at message_at refused rgoto_with_at riding_at token_at frame_id_at entry_at rider_at variable_at
+    integer_at items_at given
+returns-clause-worked_pair_left c = refl
 
 pub returns-clause-worked_left : goal.returns-clause-worked_left
 unfolding reading_of frame_at body_at whole sequel number_at require bytes_at known sent_at byte_at fields_at

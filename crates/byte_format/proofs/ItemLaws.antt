@@ -6,10 +6,10 @@ use Rattle.std.specs.List.{flat_map, AllByRecursion}
 use Rattle.std.proofs.lemmas.List.{append-nil}
 use Rattle.std.proofs.lemmas.List.Elements.{All-from_recursion, recursion_from_All}
 use Rattle.byte_format.specs.Numbers.{number_bytes}
+use Rattle.byte_format.specs.Lists.{list_bytes}
+use Rattle.byte_format.specs.Reader.{Reader, items_at, list_at}
 use Rattle.byte_format.proofs.NumberLaws.{number_reads, number_again}
 use Rattle.byte_format.proofs.Sequels.{Reads, Again, reads_then, reads_given, reads_weaker, again_then, again_given}
-use Rattle.split_file.specs.Spelling.{list_bytes}
-use Rattle.split_file.specs.Reader.{Reader, items_at, list_at}
 
 -- a fact for each item of a list behind some others, which may speak of what stands before it
 abbrev pub AllIn : {A : Type 0} → (List A → A → Type 0) → List A → List A → Type 0
@@ -21,7 +21,7 @@ pub all_weaker : {A : Type 0} (P Q : List A → A → Type 0) → ((before : Lis
 all_weaker P Q step before [] all = tt
 all_weaker P Q step before (x ∷ xs) all = (step before x all.0, all_weaker P Q step (before ++ x ∷ []) xs all.1)
 
-each_by_recursion : {A : Type 0} (P : A → Type 0) (before xs : List A) → AllIn (λ _ x. P x) before xs →
+pub each_by_recursion : {A : Type 0} (P : A → Type 0) (before xs : List A) → AllIn (λ _ x. P x) before xs →
     AllByRecursion P xs
 each_by_recursion P before [] all = tt
 each_by_recursion P before (x ∷ xs) all = (all.0, each_by_recursion P (before ++ x ∷ []) xs all.1)
@@ -29,7 +29,7 @@ each_by_recursion P before (x ∷ xs) all = (all.0, each_by_recursion P (before 
 pub all_of : {A : Type 0} (P : A → Type 0) (before xs : List A) → AllIn (λ _ x. P x) before xs → All P xs
 all_of P before xs all = All-from_recursion P xs (each_by_recursion P before xs all)
 
-in_by_recursion : {A : Type 0} (P : A → Type 0) (before xs : List A) → AllByRecursion P xs →
+pub in_by_recursion : {A : Type 0} (P : A → Type 0) (before xs : List A) → AllByRecursion P xs →
     AllIn (λ _ x. P x) before xs
 in_by_recursion P before [] all = tt
 in_by_recursion P before (x ∷ xs) all = (all.0, in_by_recursion P (before ++ x ∷ []) xs all.1)
@@ -67,7 +67,7 @@ pub record NewItems {A : Type 0} (s : A → List ℕ) (P : List A → A → Type
   pub text_is : text ≡ flat_map s new
   pub each : AllIn P before new
 
-pub items_read : {A : Type 0} (item : List A → Reader A) (s : A → List ℕ) (P : List A → A → Type 0) →
+pub items_read : {E A : Type 0} (item : List A → Reader E A) (s : A → List ℕ) (P : List A → A → Type 0) →
     ((before : List A) → Reads (item before) (λ x text. (text ≡ s x) × P before x)) → (before : List A) (count : ℕ) →
     Reads (items_at item before count) (NewItems s P before count)
 unfolding items_at
@@ -90,7 +90,7 @@ items_read item s P one before (suc count) =
       each = (is, rest.each);
     }))
 
-pub all_read : {A : Type 0} (item : List A → Reader A) (s : A → List ℕ) (P : List A → A → Type 0) →
+pub all_read : {E A : Type 0} (item : List A → Reader E A) (s : A → List ℕ) (P : List A → A → Type 0) →
     ((before : List A) → Reads (item before) (λ x text. (text ≡ s x) × P before x)) → (count : ℕ) →
     Reads (items_at item [] count) (λ all text. (text ≡ flat_map s all) × ((length all ≡ count) × AllIn P [] all))
 all_read item s P one count =
@@ -99,19 +99,19 @@ all_read item s P one count =
       (ap length new.whole ∙ new.count_is, subst (λ xs. AllIn P [] xs) (sym new.whole) new.each),
     ))
 
-pub list_read : {A : Type 0} (item : List A → Reader A) (s : A → List ℕ) (P : List A → A → Type 0) →
+pub list_read : {E A : Type 0} (short : E) (item : List A → Reader E A) (s : A → List ℕ) (P : List A → A → Type 0) →
     ((before : List A) → Reads (item before) (λ x text. (text ≡ s x) × P before x)) →
-    Reads (list_at item) (λ all text. (text ≡ list_bytes s all) × ((length all < 2 ^ 32) × AllIn P [] all))
+    Reads (list_at short item) (λ all text. (text ≡ list_bytes s all) × ((length all < 2 ^ 32) × AllIn P [] all))
 unfolding list_at
-list_read item s P one =
-    reads_then (number_reads _) (λ count few. reads_weaker (all_read item s P one count) (λ all text is. (
+list_read short item s P one =
+    reads_then (number_reads short) (λ count few. reads_weaker (all_read item s P one count) (λ all text is. (
       ap (λ t. number_bytes count ++ t) is.0 ∙ ap (λ n. number_bytes n ++ flat_map s all) (sym is.1.0),
       (subst (λ n. n < 2 ^ 32) (sym is.1.0) few, is.1.1),
     )))
 
 -- ---- reading again
 
-pub items_again : {A : Type 0} (item : List A → Reader A) (s : A → List ℕ) (before xs : List A) →
+pub items_again : {E A : Type 0} (item : List A → Reader E A) (s : A → List ℕ) (before xs : List A) →
     AllIn (λ front x. Again (item front) x (s x)) before xs →
     Again (items_at item before (length xs)) (before ++ xs) (flat_map s xs)
 unfolding items_at
@@ -123,8 +123,9 @@ items_again item s before (x ∷ xs) all =
     (again_then (λ next. items_at item (before ++ next ∷ []) (length xs)) all.0
     (items_again item s (before ++ x ∷ []) xs all.1))
 
-pub list_again : {A : Type 0} (item : List A → Reader A) (s : A → List ℕ) (xs : List A) → length xs < 2 ^ 32 →
-    AllIn (λ front x. Again (item front) x (s x)) [] xs → Again (list_at item) xs (list_bytes s xs)
+pub list_again : {E A : Type 0} (short : E) (item : List A → Reader E A) (s : A → List ℕ) (xs : List A) →
+    length xs < 2 ^ 32 →
+    AllIn (λ front x. Again (item front) x (s x)) [] xs → Again (list_at short item) xs (list_bytes s xs)
 unfolding list_at
-list_again item s xs few all =
-    again_then (λ count. items_at item [] count) (number_again _ (length xs) few) (items_again item s [] xs all)
+list_again short item s xs few all =
+    again_then (λ count. items_at item [] count) (number_again short (length xs) few) (items_again item s [] xs all)
