@@ -131,6 +131,8 @@ entries_count counts (instruction one ∷ others) =
     same (op.Call number to) = refl
     same (op.Ret variable value) = refl
     same op.Back = refl
+    same (op.GoWith number to riders) = refl
+    same (op.CallWith number to riders) = refl
 entries_count counts (entry named ∷ others) =
     entries_count (record { entries = suc counts.entries; branches = counts.branches }) others ∙ omega arith
 entries_count counts (stands on number ∷ others) = entries_count counts others

@@ -209,6 +209,8 @@ settled_one counts labels emissions host one there within same on =
     operation (op.Call number to) on = refl
     operation (op.Ret variable value) on = refl
     operation op.Back on = refl
+    operation (op.GoWith number to riders) on = refl
+    operation (op.CallWith number to riders) on = refl
 
 settled_list : (counts : Counts) (labels : List Label) (emissions : List Emission) (host : HostId) (count : ℕ)
     (list : List Emitted) → count ≡ length (emitted_on host emissions) → host.0 < HOST_NUMBERS →

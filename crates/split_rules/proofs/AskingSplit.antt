@@ -172,6 +172,8 @@ op_granted placed emissions table asks me place pc (op.Arg x value) well due typ
 op_granted placed emissions table asks me place pc (op.Push there) well due typed = tt
 op_granted placed emissions table asks me place pc op.Back well due typed = tt
 op_granted placed emissions table asks me place pc (op.Branch guard target) well due typed = tt
+op_granted placed emissions table asks me place pc (op.GoWith there on riders) well due typed = absurd typed
+op_granted placed emissions table asks me place pc (op.CallWith there on riders) well due typed = absurd typed
 
 -- the host of a field that is read or set is told
 field_seen : (placed : PlacedProgram) (emissions : List Emission) (me : HostId) (label : ℕ) (field : FieldId)
@@ -230,6 +232,8 @@ op_tells placed emissions me label pc is what well = by what well
     by (op.Push there) own = tt
     by op.Back own = tt
     by (op.Branch guard target) own = tt
+    by (op.GoWith there on riders) own = seen on own.receiver
+    by (op.CallWith there on riders) own = seen on own.receiver
 
 -- ---- the laws
 

@@ -79,6 +79,10 @@ module _ (planned : PlannedShape) (code : CodeShape) (table : Table) (sound : Is
       at_entry there thread.chain next fits.0.0 law chain runs.1
   op_stays thread count (op.Call there on) steps next fits law chain runs =
       at_entry there thread.chain next fits.0.0 law chain runs.1
+  op_stays thread count (op.GoWith there on riders) steps next fits law chain runs =
+      at_entry there thread.chain next fits.0.0 law.0 chain runs.1
+  op_stays thread count (op.CallWith there on riders) steps next fits law chain runs =
+      at_entry there thread.chain next fits.0.0 law.0 chain runs.1
   op_stays thread count op.Back steps next fits law chain runs = goes_back thread.chain next chain runs.1
   op_stays thread count (op.Send x to) steps next fits law chain runs =
       subst IsOpen (sym runs.1) (record { here = law.1; chain = chain })
@@ -123,6 +127,8 @@ module _ (planned : PlannedShape) (code : CodeShape) (table : Table) (need : ℕ
   names_within thread (op.Ask there on) law = within there law.0
   names_within thread (op.Go there on) law = within there law
   names_within thread (op.Call there on) law = within there law
+  names_within thread (op.GoWith there on riders) law = within there law.0
+  names_within thread (op.CallWith there on riders) law = within there law.0
   names_within thread (op.Read field index) law = tt
   names_within thread (op.Let x value) law = tt
   names_within thread (op.Put field index value) law = tt

@@ -1,9 +1,11 @@
 -- What fits a walk fits a code that has what the walk speaks of.
-use Rattle.std.proofs.Common.{◌≡◌, ◌∙◌, ℕ, ◌<◌, ◌≤◌, List, length, ap, arith}
+use Rattle.std.proofs.Common.{◌≡◌, ◌∙◌, ℕ, ◌<◌, ◌≤◌, List, [], ◌∷◌, length, ap, arith}
 use Rattle.std.proofs.lemmas.List.Elements.{All-weaker}
 use Rattle.std.specs.Prelude.{⊤}
+use Rattle.std.specs.List.{AllByRecursion}
 use Rattle.js_base.specs.declared.ids.HostId.{HostId}
 use Rattle.js_base.specs.declared.ids.EntryId.{EntryId}
+use Rattle.js_base.specs.declared.ids.VarId.{VarId}
 use Rattle.host_code.specs.declared.code_expr.Node.{Node}
 use Rattle.host_code.specs.declared.code_expr.Node.TheVariants as node
 use Rattle.host_code.specs.declared.instruction.Op.{Op}
@@ -12,7 +14,7 @@ use Rattle.host_code.specs.Code.{CodeShape, host_of_site, part_of}
 use Rattle.host_code.specs.Sound as sound
 use Rattle.split_rules.specs.Emissions.{Emission}
 use Rattle.split_rules.specs.SplitCode.{emitted_on, before_landing, landed}
-use Rattle.split_rules.specs.Flow.{Scope, State, NodeFits, ExpressionFits, IsOther, IsEntryOn}
+use Rattle.split_rules.specs.Flow.{Scope, State, NodeFits, ExpressionFits, IsVariable, IsOther, IsEntryOn}
 use Rattle.split_rules.specs.Flow.{OperationFits}
 
 -- the code has what the scope says
@@ -42,6 +44,14 @@ below few many number same less = omega arith
 other_fits : (scope : Scope) (code : CodeShape) (me host : HostId) → HasScope scope code → IsOther scope me host →
     sound.IsOther code me host
 other_fits scope code me host has other = (below (length code.hosts) scope.hosts host.0 has.hosts other.0, other.1)
+
+variables_fit : (scope : Scope) (code : CodeShape) (variables : List VarId) → HasScope scope code →
+    AllByRecursion (IsVariable scope) variables → AllByRecursion (sound.IsVariable code) variables
+variables_fit scope code [] has fit = tt
+variables_fit scope code (variable ∷ variables) has fit = (
+  below (length code.variables) scope.variables variable.0 has.variables fit.0,
+  variables_fit scope code variables has fit.1,
+)
 
 -- the instruction to which a branch leads is there
 abbrev pub Leads : CodeShape → List Emission → HostId → State → Op → Type 0
@@ -97,3 +107,13 @@ operation_fits scope code emissions state me count larger (op.Ret variable value
 operation_fits scope code emissions state me count larger op.Back has more entries leads fits = tt
 operation_fits scope code emissions state me count larger (op.Branch guard number) has more entries leads fits =
     (expression_fits scope code count larger guard has more fits.0, leads fits.1)
+operation_fits scope code emissions state me count larger (op.GoWith there on riders) has more entries leads fits = (
+  entries on there fits.0,
+  other_fits scope code me on has fits.1,
+  (fits.2.0, variables_fit scope code riders has fits.2.1),
+)
+operation_fits scope code emissions state me count larger (op.CallWith there on riders) has more entries leads fits = (
+  entries on there fits.0,
+  other_fits scope code me on has fits.1,
+  (fits.2.0, variables_fit scope code riders has fits.2.1),
+)

@@ -204,6 +204,8 @@ module _ (placed : PlacedProgram) (table : Table)
   op_opens me place count (op.Branch guard target) fits law open_here =
       branch_open placed label known table.entries me (table.at me.0 place)
       (table.at me.0 (suc place)) (table.at me.0 target) guard law.0 law.1 law.2.due open_here law.4
+  op_opens me place count (op.GoWith there on riders) fits law open_here = absurd law
+  op_opens me place count (op.CallWith there on riders) fits law open_here = absurd law
 
 -- ---- the laws
 

@@ -3,6 +3,8 @@ use Rattle.std.proofs.Common.{◌≡◌, ℕ, zero, suc, ◌≤◌, List, [], �
 use Rattle.std.specs.Prelude.{Option, Some, None, IsSomeAnd}
 use Rattle.std.specs.Int.{bit_at}
 use Rattle.std.proofs.lemmas.Nat.Bits.{bit_at_or}
+use Rattle.js_base.specs.declared.ids.EntryId.{EntryId}
+use Rattle.js_base.specs.declared.ids.VarId.{VarId}
 use Rattle.label_lattice.specs.declared.label.Label.{Label}
 use Rattle.label_lattice.specs.Label.{IsTrustedBy}
 use Rattle.label_lattice.specs.Lattice.{empty_label}
@@ -100,6 +102,16 @@ sent =
       record { due = ((none_needed trusted_by_first, own), tt); sent = tt; calls = tt; params = tt },
     )
 
+-- ---- a variable that rides
+
+pub riding_denied : (there : EntryId) (others : List VarId) →
+    ¬ FirstOpens sent_local sent_table untrusted 1 (op.GoWith there (host_id 1) (var_id 0 ∷ others))
+riding_denied there others law = not_sent law.1.0
+
+pub riding_called_denied : (there : EntryId) (first : VarId) (others : List VarId) →
+    ¬ FirstOpens sent_local sent_table untrusted 1 (op.CallWith there (host_id 1) (first ∷ var_id 0 ∷ others))
+riding_called_denied there first others law = not_sent law.1.1.0
+
 -- ---- both places behind a branch
 
 pub branch_next : IsOpenTo branched untrusted (branched_table.at 0 3)
@@ -185,6 +197,12 @@ gone_without = not_all
 
 pub called_without : ¬ NamesWithin lent_code 0 (op.Call (entry_id 2) (host_id 0))
 called_without = not_all
+
+pub gone_riding : (riders : List VarId) → ¬ NamesWithin lent_code 0 (op.GoWith (entry_id 2) (host_id 0) riders)
+gone_riding riders = not_all
+
+pub called_riding : (riders : List VarId) → ¬ NamesWithin lent_code 0 (op.CallWith (entry_id 2) (host_id 0) riders)
+called_riding riders = not_all
 
 pub due_without : ¬ IsCoveredBy lent_back lent_code lent_table 0 (thread_on_first 0)
 due_without covered = one_lacks 1 refl (covered.due.1.0 0 (lit< tt))

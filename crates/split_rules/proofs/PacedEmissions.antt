@@ -27,6 +27,7 @@ at_op (op.Branch guard number) called behind = 20
 at_op (op.Push there) called behind = cond called 3 (behind + 2)
 at_op (op.Ask there on) called behind = behind + 2
 at_op (op.Call there on) called behind = 513
+at_op (op.CallWith there on riders) called behind = 513
 at_op op.Back called behind = 512
 at_op other called behind = behind + 1
 
@@ -54,6 +55,7 @@ OpPaces (op.Put field index value) others = ahead others ≤ 530
 OpPaces (op.Ret x value) others = ahead others ≤ 530
 OpPaces (op.Branch guard number) others = ahead others ≤ 530
 OpPaces (op.Go there on) others = StandsNext there.0 others
+OpPaces (op.GoWith there on riders) others = StandsNext there.0 others
 OpPaces other others = ⊤
 
 abbrev pub Paces : List Emission → Type 0

@@ -93,12 +93,16 @@ numbered_from there Holds not_halt others = by there.0 refl
 abbrev pub NamesNoHalt : Op → Type 0
 NamesNoHalt (op.Go there on) = there ≢ halt
 NamesNoHalt (op.Call there on) = there ≢ halt
+NamesNoHalt (op.GoWith there on riders) = there ≢ halt
+NamesNoHalt (op.CallWith there on riders) = there ≢ halt
 NamesNoHalt other = ⊤
 
 fits_no_halt : (scope : Scope) (state : State) (me : HostId) (read : ℕ) (what : Op) →
     OperationFits scope state me read what → NamesNoHalt what
 fits_no_halt scope state me read (op.Go there on) fits = fits.0.0
 fits_no_halt scope state me read (op.Call there on) fits = fits.0.0
+fits_no_halt scope state me read (op.GoWith there on riders) fits = fits.0.0
+fits_no_halt scope state me read (op.CallWith there on riders) fits = fits.0.0
 fits_no_halt scope state me read other fits = tt
 
 no_halt : (scope : Scope) (state : State) (one : Emitted) (flow : Flow) → InstructionFits scope state one flow →

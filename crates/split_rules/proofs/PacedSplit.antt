@@ -138,6 +138,7 @@ call_ahead (instruction one ∷ xs) calls = by one.op calls
   where
     by : (what : Op) → is_call what ≡ true → at_op what (calls_first xs) (ahead xs) ≡ 513
     by (op.Call there on) is = refl
+    by (op.CallWith there on riders) is = refl
     by other is = absurd (cc)
 call_ahead (entry named ∷ xs) calls = absurd (cc)
 call_ahead (stands host number ∷ xs) calls = absurd (cc)
@@ -270,6 +271,11 @@ op_paced labelled hosts planned main emissions walk before one behind is me with
         go_enters labelled hosts planned main emissions walk before one behind is me place there spot.names spot.paces
         spot.here
     by (op.Call there on) it_is spot =
+        call_enters labelled hosts planned main emissions walk me place there spot.names spot.here
+    by (op.GoWith there on riders) it_is spot =
+        go_enters labelled hosts planned main emissions walk before one behind is me place there spot.names spot.paces
+        spot.here
+    by (op.CallWith there on riders) it_is spot =
         call_enters labelled hosts planned main emissions walk me place there spot.names spot.here
     by op.Back it_is spot = let here = spot.here in rw here (omega arith)
     by other it_is spot = moves (not_leaving spot.next) spot.here

@@ -119,6 +119,7 @@ behind_within : (hosts : ℕ) (me : HostId) (count : ℕ) (what : Op) → me.0 <
     FlowIsWithin hosts (flow_behind me count what)
 behind_within hosts me count op.Back within = tt
 behind_within hosts me count (op.Go there on) within = tt
+behind_within hosts me count (op.GoWith there on riders) within = tt
 behind_within hosts me count other within = within
 
 flow_within : (hosts : ℕ) (one : Emitted) (flow : Flow) → one.host.0 < hosts → FlowIsWithin hosts flow →

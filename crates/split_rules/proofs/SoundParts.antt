@@ -1,5 +1,5 @@
 -- Each part of the code that is read off a walk fits.
-use Rattle.std.proofs.Common.{◌≡◌, ◌∙◌, ℕ, suc, ◌+◌, ◌-◌, ◌<◌, ◌⊎◌, inl, inr, Bool, true, false, List}
+use Rattle.std.proofs.Common.{◌≡◌, ◌∙◌, ℕ, suc, ◌+◌, ◌-◌, ◌<◌, ◌⊎◌, inl, inr, Bool, true, List}
 use Rattle.std.proofs.Common.{[], ◌∷◌, ◌++◌, map, length, Some, slice_get, refl, ap, sym, subst, arith}
 use Rattle.std.proofs.Common.{option_map, IsSomeAnd, ◌&&◌, ◌==◌}
 use Rattle.std.specs.Prelude.{unwrap_or}

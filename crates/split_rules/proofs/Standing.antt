@@ -62,6 +62,7 @@ leaves_more one (next ∷ others) leaves either = leaves
 leaves_or_goes : (me : HostId) (count : ℕ) (what : Op) → IsLeaving what ⊎ GoesOn me (flow_behind me count what)
 leaves_or_goes me count op.Back = inl tt
 leaves_or_goes me count (op.Go there on) = inl tt
+leaves_or_goes me count (op.GoWith there on riders) = inl tt
 leaves_or_goes me count other = inr refl
 
 pub behind_instruction : (scope : Scope) (state : State) (one : Emitted) (flow : Flow) →

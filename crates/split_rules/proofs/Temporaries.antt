@@ -81,6 +81,8 @@ under_behind : (host me : HostId) (count fewer : ℕ) (what : Op) →
 under_behind host me count fewer op.Back so = tt
 under_behind host me count fewer (op.Go there on) so = tt
 under_behind host me count fewer (op.Call there on) so = tt
+under_behind host me count fewer (op.GoWith there on riders) so = tt
+under_behind host me count fewer (op.CallWith there on riders) so = tt
 under_behind host me count fewer other so = so
 
 under_instruction : (host : HostId) (scope : Scope) (state : State) (one : Emitted) (count : ℕ) (flow : Flow) →

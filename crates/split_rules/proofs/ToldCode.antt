@@ -44,7 +44,7 @@ use Rattle.split_rules.proofs.SoundInstructions.{instruction_made, get_left}
 use Rattle.split_rules.proofs.WalkedMoves.{no_halt}
 use Rattle.split_rules.proofs.WalkedCalls.{nothing_there}
 use Rattle.split_rules.proofs.ToldEmissions.{Sees, Affects, AffectsVariable, ReadsWell, PutsWell, HandsWell}
-use Rattle.split_rules.proofs.ToldEmissions.{TellsWell, AreTold, told_on, counted_after, entry_of, IsBegun}
+use Rattle.split_rules.proofs.ToldEmissions.{CallsWell, TellsWell, AreTold, told_on, counted_after, entry_of, IsBegun}
 use Rattle.split_rules.proofs.ToldWalks.{MethodTellsWell, methods_told}
 use Rattle.split_rules.proofs.SeenPrograms.{zip_at}
 
@@ -127,15 +127,9 @@ hands_more planned named more host pc there on well = record {
   receiver = well.receiver;
 }
 
--- with more entries behind those that are named
-tells_more : (labelled : Labelled) (planned : PlannedShape) (named more : List Named) (host : HostId) (pc : Label)
-    (what : Op) → TellsWell labelled planned named host pc what →
-    TellsWell labelled planned (named ++ more) host pc what
-tells_more labelled planned named more host pc (op.Ask there on) well =
-    hands_more planned named more host pc there on well
-tells_more labelled planned named more host pc (op.Go there on) well =
-    hands_more planned named more host pc there on well
-tells_more labelled planned named more host pc (op.Call there on) well = record {
+calls_more : (planned : PlannedShape) (named more : List Named) (host : HostId) (pc : Label) (there : EntryId)
+    (on : HostId) → CallsWell planned named host pc there on → CallsWell planned (named ++ more) host pc there on
+calls_more planned named more host pc there on well = record {
   no_halt = well.no_halt;
   one = well.one;
   is = get_left named more there.0 well.one well.is;
@@ -144,6 +138,21 @@ tells_more labelled planned named more host pc (op.Call there on) well = record 
   trusted = well.trusted;
   receiver = well.receiver;
 }
+
+-- with more entries behind those that are named
+tells_more : (labelled : Labelled) (planned : PlannedShape) (named more : List Named) (host : HostId) (pc : Label)
+    (what : Op) → TellsWell labelled planned named host pc what →
+    TellsWell labelled planned (named ++ more) host pc what
+tells_more labelled planned named more host pc (op.Ask there on) well =
+    hands_more planned named more host pc there on well
+tells_more labelled planned named more host pc (op.Go there on) well =
+    hands_more planned named more host pc there on well
+tells_more labelled planned named more host pc (op.Call there on) well =
+    calls_more planned named more host pc there on well
+tells_more labelled planned named more host pc (op.GoWith there on riders) well =
+    hands_more planned named more host pc there on well
+tells_more labelled planned named more host pc (op.CallWith there on riders) well =
+    calls_more planned named more host pc there on well
 tells_more labelled planned named more host pc (op.Read field index) well = well
 tells_more labelled planned named more host pc (op.Let x value) well = well
 tells_more labelled planned named more host pc (op.Put field index value) well = well

@@ -83,6 +83,8 @@ TellsWell labelled planned named host pc (op.Pass x to) =
 TellsWell labelled planned named host pc (op.Ask there on) = HandsWell planned named host pc there on
 TellsWell labelled planned named host pc (op.Go there on) = HandsWell planned named host pc there on
 TellsWell labelled planned named host pc (op.Call there on) = CallsWell planned named host pc there on
+TellsWell labelled planned named host pc (op.GoWith there on riders) = HandsWell planned named host pc there on
+TellsWell labelled planned named host pc (op.CallWith there on riders) = CallsWell planned named host pc there on
 TellsWell labelled planned named host pc (op.Ret x value) = AffectsVariable labelled planned host x
 TellsWell labelled planned named host pc other = ⊤
 

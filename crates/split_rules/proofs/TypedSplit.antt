@@ -377,6 +377,8 @@ op_typed labelled hosts planned main emissions walk before one behind is me own 
         rw here_is (ends_more planned so.known.entries walk.last.entries so.entries so.from (op.Call there on) law.0)
     by op.Back it_is law =
         rw here_is (ends_more planned so.known.entries walk.last.entries so.entries so.from op.Back law.0)
+    by (op.GoWith there on riders) it_is law = absurd law.1
+    by (op.CallWith there on riders) it_is law = absurd law.1
     by other it_is law =
         rw (here_is, next_is law.0 (ap (λ known. known.place) law.2))
         (follows_more planned so.known.entries walk.last.entries so.entries me so.from other law.0 law.1)

@@ -14,7 +14,7 @@ use Rattle.host_code.specs.declared.instruction.Op.{Op}
 use Rattle.host_code.specs.declared.instruction.Op.TheVariants as op
 use Rattle.host_code.specs.Code.{CodeShape, field_at, instruction_at}
 use Rattle.entry_check.specs.declared.ask.Ask.TheVariants as ask
-use Rattle.entry_check.specs.Checks.{May, MaySee, label_at, label_of_host}
+use Rattle.entry_check.specs.Checks.{May, MayRide, MaySee, label_at, label_of_host}
 
 -- the field is there, and this holds of it where it stands on another host
 abbrev pub IfElsewhere : CodeShape → HostId → FieldId → (HostId → Type 0) → Type 0
@@ -30,6 +30,8 @@ IsGranted code me (op.Pass x to) = May code to (ask.Forward x) me
 IsGranted code me (op.Ask there on) = May code on (ask.Enter there) me
 IsGranted code me (op.Go there on) = May code on (ask.Enter there) me
 IsGranted code me (op.Call there on) = on ≢ me → May code on (ask.Enter there) me
+IsGranted code me (op.GoWith there on riders) = May code on (ask.Enter there) me × MayRide code on me riders
+IsGranted code me (op.CallWith there on riders) = May code on (ask.Enter there) me × MayRide code on me riders
 IsGranted code me (op.Ret x value) = (to : HostId) → May code to (ask.Forward x) me
 IsGranted code me other = ⊤
 
@@ -47,6 +49,8 @@ TellsWell code me label (op.Pass x to) = IsSeenBy code label to
 TellsWell code me label (op.Ask there on) = IsSeenBy code label on
 TellsWell code me label (op.Go there on) = IsSeenBy code label on
 TellsWell code me label (op.Call there on) = on ≢ me → IsSeenBy code label on
+TellsWell code me label (op.GoWith there on riders) = IsSeenBy code label on
+TellsWell code me label (op.CallWith there on riders) = IsSeenBy code label on
 TellsWell code me label other = ⊤
 
 -- each request between hosts is granted

@@ -7,6 +7,7 @@
 -- blocks shows that walks obey it, and all that is promised of code follows from it.
 use Rattle.std.specs.Prelude.{◌≡◌, ◌≢◌, ℕ, ◌<◌, suc, List, [], ◌∷◌, ◌++◌, All, length, drop, Some}
 use Rattle.std.specs.Prelude.{slice_get, ⊤}
+use Rattle.std.specs.List.{AllByRecursion}
 use Rattle.js_base.specs.declared.ids.HostId.{HostId}
 use Rattle.js_base.specs.declared.ids.FieldId.{FieldId}
 use Rattle.js_base.specs.declared.ids.VarId.{VarId}
@@ -16,6 +17,7 @@ use Rattle.host_code.specs.declared.code_expr.Node.TheVariants as node
 use Rattle.host_code.specs.declared.instruction.Op.{Op}
 use Rattle.host_code.specs.declared.instruction.Op.TheVariants as op
 use Rattle.host_code.specs.Code.{halt, host_of_site}
+use Rattle.host_code.specs.Riders.{AreFew}
 use Rattle.host_code.specs.Sound.{temporaries_after}
 use Rattle.split_rules.specs.Emissions.{Emission, instruction, entry, stands, lands, Emitted, Counts}
 
@@ -76,6 +78,10 @@ IsOther scope me host = (host.0 < scope.hosts) × (host ≢ me)
 abbrev pub IsEntryOn : List HostId → HostId → EntryId → Type 0
 IsEntryOn named host there = (there ≢ halt) × (slice_get named there.0 ≡ Some host)
 
+-- variables of the program, 1 to 8
+abbrev pub AreRiding : Scope → List VarId → Type 0
+AreRiding scope variables = AreFew variables × AllByRecursion (IsVariable scope) variables
+
 -- An instruction of a host, behind so many entries and branches. A branch has the next number.
 abbrev pub OperationFits : Scope → State → HostId → ℕ → Op → Type 0
 OperationFits scope state me count (op.Read field index) = IsField scope field × ExpressionFits scope count index
@@ -97,6 +103,10 @@ OperationFits scope state me count (op.Ret variable value) =
 OperationFits scope state me count op.Back = ⊤
 OperationFits scope state me count (op.Branch guard number) =
     ExpressionFits scope count guard × (number ≡ state.branches)
+OperationFits scope state me count (op.GoWith there on riders) =
+    IsEntryOn state.named on there × IsOther scope me on × AreRiding scope riders
+OperationFits scope state me count (op.CallWith there on riders) =
+    IsEntryOn state.named on there × IsOther scope me on × AreRiding scope riders
 
 -- ---- one emission
 
@@ -105,6 +115,8 @@ abbrev pub flow_behind : HostId → ℕ → Op → Flow
 flow_behind me count op.Back = stopped
 flow_behind me count (op.Go there on) = stopped
 flow_behind me count (op.Call there on) = awaited me
+flow_behind me count (op.GoWith there on riders) = stopped
+flow_behind me count (op.CallWith there on riders) = awaited me
 flow_behind me count other = at me (temporaries_after other count)
 
 abbrev pub flow_after : Flow → Emitted → Flow

@@ -117,8 +117,9 @@ pub record OpensStatement (planned : PlannedShape) (code : CodeShape) (label : L
   pub stores : (field : FieldId) → StoresTo statement field → MayChangeField code label field
   pub starts : MayRunAll planned label (started planned statement)
 
--- What a host may bring about, if an instruction of some host at a place does: it may change what is changed, is
--- trusted for the entries that are pushed, asked for or gone to, and finds the places behind the instruction open.
+-- What a host may bring about, if an instruction of some host at a place does: it may change what is changed and what
+-- rides, is trusted for the entries that are pushed, asked for or gone to, and finds the places behind the instruction
+-- open.
 abbrev pub OpensOp : PlannedShape → CodeShape → Table → Label → HostId → ℕ → Op → Type 0
 OpensOp planned code table label me place (op.Let x value) =
     MayChange code label x × IsOpenTo planned label (table.at me.0 (suc place))
@@ -138,6 +139,10 @@ OpensOp planned code table label me place (op.Ask there on) =
     HasNeed code label there × IsOpenTo planned label (table.at me.0 (suc place))
 OpensOp planned code table label me place (op.Go there on) = HasNeed code label there
 OpensOp planned code table label me place (op.Call there on) = HasNeed code label there
+OpensOp planned code table label me place (op.GoWith there on riders) =
+    HasNeed code label there × AllByRecursion (MayChange code label) riders
+OpensOp planned code table label me place (op.CallWith there on riders) =
+    HasNeed code label there × AllByRecursion (MayChange code label) riders
 OpensOp planned code table label me place op.Back = ⊤
 OpensOp planned code table label me place (op.Branch guard target) =
     IsOpenTo planned label (table.at me.0 (suc place)) × IsOpenTo planned label (table.at me.0 target)
@@ -187,6 +192,8 @@ NamesWithin code need (op.Push there) = HasAllOf code need there
 NamesWithin code need (op.Ask there on) = HasAllOf code need there
 NamesWithin code need (op.Go there on) = HasAllOf code need there
 NamesWithin code need (op.Call there on) = HasAllOf code need there
+NamesWithin code need (op.GoWith there on riders) = HasAllOf code need there
+NamesWithin code need (op.CallWith there on riders) = HasAllOf code need there
 NamesWithin code need other = ⊤
 
 -- A thread is where a need has all who have to trust the hosts of what is due there, and who enters at what is pushed,

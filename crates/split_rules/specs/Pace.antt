@@ -48,6 +48,7 @@ FallsWithStep left me place next = left me.0 next + 1 < left me.0 place + PACE
 -- the instruction enters a method
 abbrev pub is_call : Op → Bool
 is_call (op.Call there on) = true
+is_call (op.CallWith there on riders) = true
 is_call other = false
 
 abbrev pub is_call_there : Option Instr → Bool
@@ -77,6 +78,8 @@ IsPacedOp code left me place (op.Push there) = Pushes left me place (calls_at co
 IsPacedOp code left me place (op.Ask there on) = FallsWithEntry left me place (suc place)
 IsPacedOp code left me place (op.Go there on) = EntersLower code left me place there
 IsPacedOp code left me place (op.Call there on) = EntersLower code left me place there
+IsPacedOp code left me place (op.GoWith there on riders) = EntersLower code left me place there
+IsPacedOp code left me place (op.CallWith there on riders) = EntersLower code left me place there
 -- where an entry is taken off the chain, no more than this is left behind it
 IsPacedOp code left me place op.Back = PACE ≤ left me.0 place
 IsPacedOp code left me place other = Falls left me place (suc place)

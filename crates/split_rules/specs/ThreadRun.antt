@@ -46,6 +46,8 @@ RunsOp code here (op.Ask there on) steps next =
     (steps ≡ 0) × (next ≡ thread_at here (suc here.place) (there ∷ here.chain))
 RunsOp code here (op.Go there on) steps next = (steps ≡ 0) × IsAtEntry code there here.chain next
 RunsOp code here (op.Call there on) steps next = (steps ≡ 0) × IsAtEntry code there here.chain next
+RunsOp code here (op.GoWith there on riders) steps next = (steps ≡ 0) × IsAtEntry code there here.chain next
+RunsOp code here (op.CallWith there on riders) steps next = (steps ≡ 0) × IsAtEntry code there here.chain next
 RunsOp code here op.Back steps next = (steps ≡ 0) × GoesBack code here.chain next
 RunsOp code here other steps next = (steps ≡ 0) × (next ≡ thread_at here (suc here.place) here.chain)
 

@@ -23,6 +23,8 @@ ghost use Rattle.split_rules.specs.Settled.{AreSettled};
 ghost use Rattle.split_rules.specs.Walk.{program_emissions};
 ghost use Rattle.std.specs.Prelude.{◌≡◌, ℕ, ◌+◌, ◌*◌, ◌≤◌, List, ◌∷◌, [], length, pos};
 ghost use Rattle.js_base.specs.declared.ids.HostId.{HostId};
+ghost use Rattle.js_base.specs.declared.ids.EntryId.{EntryId};
+ghost use Rattle.js_base.specs.declared.ids.VarId.{VarId};
 ghost use Rattle.label_lattice.specs.declared.label.Label.{Label};
 ghost use Rattle.js_base.specs.declared.binary_operator.BinOp.TheVariants as operator;
 ghost use Rattle.host_code.specs.declared.instruction.Op.{Op};
@@ -193,6 +195,11 @@ pub fn opening_examples()
     ensures behind_sent { IsOpenTo sent_local untrusted (sent_table.at 0 2) }
     ensures sent_denied { ¬ FirstOpens sent_local sent_table untrusted 1 (op.Send (var_id 0) (host_id 1)) }
     ensures sent { FirstOpens sent_local sent_table trusted_by_first 1 (op.Send (var_id 0) (host_id 1)) }
+    // Nor is it open to that one to hand a thread over with the variable, in whatever frame and whatever else rides.
+    ensures riding_denied { (there : EntryId) (others : List VarId) →
+        ¬ FirstOpens sent_local sent_table untrusted 1 (op.GoWith there (host_id 1) (var_id 0 ∷ others)) }
+    ensures riding_called_denied { (there : EntryId) (first : VarId) (others : List VarId) →
+        ¬ FirstOpens sent_local sent_table untrusted 1 (op.CallWith there (host_id 1) (first ∷ var_id 0 ∷ others)) }
     // Both places behind a branch have to be open: here the one where the guard holds is, and the target is not.
     ensures branch_next { IsOpenTo branched untrusted (branched_table.at 0 3) }
     ensures branch_denied { (guard : List Node) →
@@ -212,5 +219,9 @@ pub fn opening_examples()
     ensures asked_without { ¬ NamesWithin (code_of lent_back) 0 (op.Ask (entry_id 2) (host_id 0)) }
     ensures gone_without { ¬ NamesWithin (code_of lent_back) 0 (op.Go (entry_id 2) (host_id 0)) }
     ensures called_without { ¬ NamesWithin (code_of lent_back) 0 (op.Call (entry_id 2) (host_id 0)) }
+    ensures gone_riding { (riders : List VarId) →
+        ¬ NamesWithin (code_of lent_back) 0 (op.GoWith (entry_id 2) (host_id 0) riders) }
+    ensures called_riding { (riders : List VarId) →
+        ¬ NamesWithin (code_of lent_back) 0 (op.CallWith (entry_id 2) (host_id 0) riders) }
     ensures due_without { ¬ IsCoveredBy lent_back (code_of lent_back) lent_table 0 (thread_on_first 0) }
 {}

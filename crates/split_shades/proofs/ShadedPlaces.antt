@@ -68,6 +68,8 @@ op_keeps scene known me shade (op.Branch guard number) after law = record {
   entries = kept_same known.entries after.entries (ap (λ one. one.entries) law.6);
   branches = kept_longer known.branches (law.1 ∷ []) after.branches (ap (λ one. one.branches) law.6);
 }
+op_keeps scene known me shade (op.GoWith there on riders) after law = absurd law.1
+op_keeps scene known me shade (op.CallWith there on riders) after law = absurd law.1
 
 pub step_keeps : (scene : Scene) (known : Known) (x : Emission) (after : Known) → Shaded scene known x after →
     BothKept known after

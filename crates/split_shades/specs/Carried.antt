@@ -49,6 +49,7 @@ IsOwn basis planned host label statement =
 -- Entries are pushed for either.
 abbrev pub CarriesWell : Basis → PlannedShape → HostId → Label → StmtId → Op → Type 0
 CarriesWell basis planned host label statement (op.Go there on) = IsBlockOf basis statement label
+CarriesWell basis planned host label statement (op.GoWith there on riders) = IsBlockOf basis statement label
 CarriesWell basis planned host label statement (op.Ask there on) = IsBlockOf basis statement label
 CarriesWell basis planned host label statement op.Back = IsBlockOf basis statement label
 CarriesWell basis planned host label statement (op.Push there) =
@@ -84,10 +85,13 @@ EntersWell there other = ⊥
 -- the entry of a number has.
 abbrev pub NamesWell : (ℕ → Label → Type 0) → Basis → Label → StmtId → Op → Type 0
 NamesWell has basis label statement (op.Go there on) = has there.0 label × IsBlockOf basis statement label
+NamesWell has basis label statement (op.GoWith there on riders) = has there.0 label × IsBlockOf basis statement label
 NamesWell has basis label statement (op.Ask there on) = has there.0 label × IsBlockOf basis statement label
 NamesWell has basis label statement (op.Push there) =
     (own : Label) × has there.0 own × IsPushedFor basis statement own
 NamesWell has basis label statement (op.Call there on) =
+    (own : BlockTree) × IsOf basis.labelled.program own × (number_of own ≡ statement) × EntersWell there own
+NamesWell has basis label statement (op.CallWith there on riders) =
     (own : BlockTree) × IsOf basis.labelled.program own × (number_of own ≡ statement) × EntersWell there own
 NamesWell has basis label statement other = ⊤
 

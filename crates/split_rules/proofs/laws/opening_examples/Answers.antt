@@ -12,6 +12,8 @@ returns c = record {
   behind_sent = example.behind_sent;
   sent_denied = example.sent_denied;
   sent = example.sent;
+  riding_denied = example.riding_denied;
+  riding_called_denied = example.riding_called_denied;
   branch_next = example.branch_next;
   branch_denied = example.branch_denied;
   loop_target = example.loop_target;
@@ -24,5 +26,7 @@ returns c = record {
   asked_without = example.asked_without;
   gone_without = example.gone_without;
   called_without = example.called_without;
+  gone_riding = example.gone_riding;
+  called_riding = example.called_riding;
   due_without = example.due_without;
 }
