@@ -168,6 +168,7 @@ tokens_fit code (message.Set request field index value) fits = tt
 tokens_fit code (message.Forward request frame variable value) fits = tt
 tokens_fit code (message.Sync request frame entry token) fits = fits
 tokens_fit code (message.Rgoto frame entry token) fits = fits
+tokens_fit code (message.RgotoWith frame entry token riders) fits = fits.0
 tokens_fit code (message.Lgoto token) fits = fits
 tokens_fit code (message.Value request value) fits = tt
 tokens_fit code (message.Ack request) fits = tt
@@ -214,6 +215,7 @@ token_fits code (message.Set request field index value) fits = tt
 token_fits code (message.Forward request frame variable value) fits = tt
 token_fits code (message.Sync request frame entry token) fits = fits
 token_fits code (message.Rgoto frame entry token) fits = fits
+token_fits code (message.RgotoWith frame entry token riders) fits = fits.0
 token_fits code (message.Lgoto token) fits = fits
 token_fits code (message.Value request value) fits = tt
 token_fits code (message.Ack request) fits = tt
@@ -264,6 +266,9 @@ made_fits code world (bad.Sync request frame entry token) m count all own is =
     (token_presented (tokens_sent world) token) m (presented_fits code world token count all own) is
 made_fits code world (bad.Rgoto frame entry token) m count all own is =
     with_presented code (λ t. message.Rgoto frame entry t) (λ t fits. fits)
+    (token_presented (tokens_sent world) token) m (presented_fits code world token count all own) is
+made_fits code world (bad.RgotoWith frame entry token riders) m count all own is =
+    with_presented code (λ t. message.RgotoWith frame entry t riders) (λ t fits. fits)
     (token_presented (tokens_sent world) token) m (presented_fits code world token count all own) is
 made_fits code world (bad.Lgoto token) m count all own is =
     with_presented code (λ t. message.Lgoto t) (λ t fits. fits)

@@ -48,6 +48,7 @@ module _ (code : CodeShape) (store : List (List ℤ)) (word : ℕ) where
     message_at_start (bad.Forward request frame variable value) own = tt
     message_at_start (bad.Sync request frame entry token) own = token_at_start token own
     message_at_start (bad.Rgoto frame entry token) own = token_at_start token own
+    message_at_start (bad.RgotoWith frame entry token riders) own = token_at_start token own
     message_at_start (bad.Lgoto token) own = token_at_start token own
     message_at_start (bad.Value request value) own = tt
     message_at_start (bad.Ack request) own = tt

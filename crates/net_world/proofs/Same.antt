@@ -15,12 +15,14 @@ use Rattle.host_code.specs.declared.instruction.Op.{Op}
 use Rattle.host_code.specs.declared.instruction.Op.TheVariants as op
 use Rattle.host_code.specs.declared.message.Message.{Message}
 use Rattle.host_code.specs.declared.message.Message.TheVariants as message
+use Rattle.host_code.specs.Riders.{Rider}
 use Rattle.host_code.specs.Thread.{ThreadShape}
 use Rattle.host_code.specs.Code.{CodeShape, CodeFieldShape, halt, field_at, entry_at, instruction_at}
 use Rattle.host_core.specs.Host.{HostShape, Outcome, with_running, after_pop, after_entering}
+use Rattle.host_core.specs.Host.{with_variable_set, with_variables_set}
 use Rattle.host_core.specs.Taking.{IsTaking, after_taking, after_passing, after_answer}
 use Rattle.host_core.specs.Turn.{IsTurn, IsTurnOf, IsRunning, after_operation, after_read, after_put, after_own_push}
-use Rattle.host_core.specs.Turn.{after_ask, after_go, after_own_call, after_return, after_back}
+use Rattle.host_core.specs.Turn.{after_ask, after_go, after_go_with, after_own_call, after_return, after_back}
 
 -- ---- the number of a host
 
@@ -58,6 +60,12 @@ me_go : (host : HostShape) (thread : ThreadShape) (frame : FrameId) (entry : Ent
 me_go host thread frame entry on None = refl
 me_go host thread frame entry on (Some held) = refl
 
+me_go_with : (host : HostShape) (thread : ThreadShape) (frame : FrameId) (entry : EntryId) (on : HostId)
+    (riders : List VarId) (held : Option Token) →
+    (after_go_with host thread frame entry on riders held).state.me ≡ host.me
+me_go_with host thread frame entry on riders None = refl
+me_go_with host thread frame entry on riders (Some held) = refl
+
 me_own_call : (host : HostShape) (thread : ThreadShape) (there : Option Entry) →
     (after_own_call host thread there).state.me ≡ host.me
 me_own_call host thread None = refl
@@ -68,6 +76,11 @@ me_return : (host : HostShape) (thread : ThreadShape) (variable : VarId) (value 
 me_return host thread variable value None passes = refl
 me_return host thread variable value (Some held) passes =
     either (held.host.0 == host.me.0) _ _ host.me refl (either passes _ _ host.me refl refl)
+
+me_riders : (host : HostShape) (frame : FrameId) (riders : List Rider) →
+    (with_variables_set host frame riders).me ≡ host.me
+me_riders host frame [] = refl
+me_riders host frame (rider ∷ riders) = me_riders (with_variable_set host frame rider.0 rider.1) frame riders
 
 pub me_entering : (host : HostShape) (there : Option Entry) (frame : FrameId) (token : Token) →
     (after_entering host there frame token).me ≡ host.me
@@ -107,6 +120,10 @@ me_operation code host thread (op.Call entry on) passes =
 me_operation code host thread (op.Ret variable value) passes = me_return host thread variable value thread.held passes
 me_operation code host thread op.Back passes = me_back code host thread thread.held passes
 me_operation code host thread (op.Branch guard target) passes = either _ _ _ host.me refl refl
+me_operation code host thread (op.GoWith entry on riders) passes =
+    me_go_with host thread thread.frame entry on riders thread.held
+me_operation code host thread (op.CallWith entry on riders) passes =
+    me_go_with host thread thread.new_frame entry on riders thread.held
 
 me_running : (code : CodeShape) (host : HostShape) (thread : ThreadShape) (instruction : Option Instr)
     (outcome : Outcome) → IsRunning code host thread instruction outcome → outcome.state.me ≡ host.me
@@ -136,6 +153,8 @@ me_passing code host from (message.Set request field index value) = refl
 me_passing code host from (message.Forward request frame variable value) = refl
 me_passing code host from (message.Sync request frame entry token) = refl
 me_passing code host from (message.Rgoto frame entry token) = me_entering host (entry_at code entry) frame token
+me_passing code host from (message.RgotoWith frame entry token riders) =
+    me_entering (with_variables_set host frame riders) (entry_at code entry) frame token ∙ me_riders host frame riders
 me_passing code host from (message.Lgoto token) = me_pop code host host.entries
 me_passing code host from (message.Value request value) = me_answer host _ _
 me_passing code host from (message.Ack request) = me_answer host _ _
@@ -160,6 +179,7 @@ to_sender_passing code host from (message.Set request field index value) = refl
 to_sender_passing code host from (message.Forward request frame variable value) = refl
 to_sender_passing code host from (message.Sync request frame entry token) = refl
 to_sender_passing code host from (message.Rgoto frame entry token) = tt
+to_sender_passing code host from (message.RgotoWith frame entry token riders) = tt
 to_sender_passing code host from (message.Lgoto token) = tt
 to_sender_passing code host from (message.Value request value) = tt
 to_sender_passing code host from (message.Ack request) = tt

@@ -253,6 +253,8 @@ own_in_kept world after (bad.Set request field index value) same own = tt
 own_in_kept world after (bad.Forward request frame variable value) same own = tt
 own_in_kept world after (bad.Sync request frame entry token) same own = own_token_kept world after token same own
 own_in_kept world after (bad.Rgoto frame entry token) same own = own_token_kept world after token same own
+own_in_kept world after (bad.RgotoWith frame entry token riders) same own =
+    own_token_kept world after token same own
 own_in_kept world after (bad.Lgoto token) same own = own_token_kept world after token same own
 own_in_kept world after (bad.Value request value) same own = tt
 own_in_kept world after (bad.Ack request) same own = tt

@@ -95,6 +95,7 @@ OwnToken world _ = ⊤
 abbrev pub OwnTokenIn : WorldShape → BadMessage → Type 0
 OwnTokenIn world (bad.Sync request frame entry token) = OwnToken world token
 OwnTokenIn world (bad.Rgoto frame entry token) = OwnToken world token
+OwnTokenIn world (bad.RgotoWith frame entry token riders) = OwnToken world token
 OwnTokenIn world (bad.Lgoto token) = OwnToken world token
 OwnTokenIn world (bad.Token request token) = OwnToken world token
 OwnTokenIn world _ = ⊤

@@ -35,6 +35,7 @@ number_in_token (Own token) = 0
 abbrev pub number_in_message : BadMessage → ℕ
 number_in_message (bad.Sync request frame entry token) = number_in_token token
 number_in_message (bad.Rgoto frame entry token) = number_in_token token
+number_in_message (bad.RgotoWith frame entry token riders) = number_in_token token
 number_in_message (bad.Lgoto token) = number_in_token token
 number_in_message (bad.Token request token) = number_in_token token
 number_in_message _ = 0

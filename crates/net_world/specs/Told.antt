@@ -19,6 +19,7 @@ SentMessage = HostId × HostId × Message
 abbrev pub token_in : Message → Option Token
 token_in (message.Sync request frame entry token) = Some token
 token_in (message.Rgoto frame entry token) = Some token
+token_in (message.RgotoWith frame entry token riders) = Some token
 token_in (message.Lgoto token) = Some token
 token_in (message.Token request token) = Some token
 token_in _ = None
@@ -45,6 +46,8 @@ message_made tokens (bad.Sync request frame entry token) =
     option_map (λ known. message.Sync request frame entry known) (token_presented tokens token)
 message_made tokens (bad.Rgoto frame entry token) =
     option_map (λ known. message.Rgoto frame entry known) (token_presented tokens token)
+message_made tokens (bad.RgotoWith frame entry token riders) =
+    option_map (λ known. message.RgotoWith frame entry known riders) (token_presented tokens token)
 message_made tokens (bad.Lgoto token) = option_map (λ known. message.Lgoto known) (token_presented tokens token)
 message_made tokens (bad.Value request value) = Some (message.Value request value)
 message_made tokens (bad.Ack request) = Some (message.Ack request)

@@ -60,10 +60,10 @@ impl World {
         &self,
         from: HostId,
         to: HostId,
-        made: BadMessage,
+        made: &BadMessage,
     ) -> Result<Message, EventError>
-        ensures ok { IfOk result (IsActable self.now from to made) }
-        ensures err { IfErr result (IsRefused self.now (Event.Act from to made)) }
+        ensures ok { IfOk result (IsActable self.now from to made.now) }
+        ensures err { IfErr result (IsRefused self.now (Event.Act from to made.now)) }
     {
         if !self.is_bad(from) {
             return Err(EventError::NotBad);

@@ -93,6 +93,7 @@ fn number_in_message(made: &BadMessage) -> u64
     match made {
         BadMessage::Sync { token, .. }
         | BadMessage::Rgoto { token, .. }
+        | BadMessage::RgotoWith { token, .. }
         | BadMessage::Lgoto { token }
         | BadMessage::Token { token, .. } => number_in_token(token),
         _ => 0,

@@ -48,10 +48,10 @@ impl World {
         ensures made { OnOk result ((n : ℕ) → HaveMade n self.old.hosts → HaveMade (n + 1) self.new.hosts) }
         ensures fits { WorldFits code.now self.new }
     {
-        match *event {
-            Event::Take(from, to, place) => self.take(code, from, to, place),
-            Event::Turn(host) => self.turn(code, host),
-            Event::Act(from, to, made) => self.act(code, from, to, made),
+        match event {
+            Event::Take(from, to, place) => self.take(code, *from, *to, *place),
+            Event::Turn(host) => self.turn(code, *host),
+            Event::Act(from, to, made) => self.act(code, *from, *to, made),
         }
     }
 
@@ -103,11 +103,11 @@ impl World {
         code: &Code,
         from: HostId,
         to: HostId,
-        made: BadMessage,
+        made: &BadMessage,
     ) -> Result<(), EventError>
         requires fits { WorldFits code.now self.old }
-        requires own { HasOwnToken (world_of self.old) (Event.Act from to made) }
-        ensures answer { IsAnswer code.now self.old (Event.Act from to made) result self.new }
+        requires own { HasOwnToken (world_of self.old) (Event.Act from to made.now) }
+        ensures answer { IsAnswer code.now self.old (Event.Act from to made.now) result self.new }
         ensures counted { OnOk result (HasCounted to self.old.hosts self.new.hosts) }
         ensures others { ChangesOnly to self.old.hosts self.new.hosts }
         ensures fits { WorldFits code.now self.new }

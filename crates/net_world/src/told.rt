@@ -92,10 +92,10 @@ impl Told {
     }
 
     /// The message that a misbehaving host makes, where its token is one that it may come by.
-    pub fn made(&self, made: BadMessage) -> Option<Message>
-        ensures { result ≡ message_made (tokens_in self.now.sent) made }
+    pub fn made(&self, made: &BadMessage) -> Option<Message>
+        ensures { result ≡ message_made (tokens_in self.now.sent) made.now }
     {
-        match made {
+        match *made {
             BadMessage::Get {
                 request,
                 field,
@@ -155,6 +155,20 @@ impl Told {
                     token,
                 })
             }
+            BadMessage::RgotoWith {
+                frame,
+                entry,
+                token,
+                pairs,
+            } => {
+                let token = self.presented(token)?;
+                Some(Message::RgotoWith {
+                    frame,
+                    entry,
+                    token,
+                    pairs,
+                })
+            }
             BadMessage::Lgoto { token } => {
                 let token = self.presented(token)?;
                 Some(Message::Lgoto { token })
@@ -185,6 +199,7 @@ fn token_in(message: &Message) -> Option<Token>
     match message {
         Message::Sync { token, .. }
         | Message::Rgoto { token, .. }
+        | Message::RgotoWith { token, .. }
         | Message::Lgoto { token }
         | Message::Token { token, .. } => Some(*token),
         _ => None,

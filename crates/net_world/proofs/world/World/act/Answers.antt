@@ -22,13 +22,13 @@ move_host-requires-clause-move_fits c =
         bad_within world a.from (length code.hosts) count actable.bad,
         bad_differs world a.from a.to there.0 actable.bad there.1,
       ),
-      made_tokens_fit code world a.made c.in_ok-message.message count c.requires.fits.mail c.requires.own actable.makes,
+      made_tokens_fit code world a.made.now c.in_ok-message.message count c.requires.fits.mail c.requires.own actable.makes,
     )
 
 pub returns-in_default-clause-answer : goal.returns-in_default-clause-answer
 returns-in_default-clause-answer c =
     let a = c.args in (
-      act_due a.self.now a.from a.to a.made c.in_ok-message.message c.in_ok-message.ensures.ok,
+      act_due a.self.now a.from a.to a.made.now c.in_ok-message.message c.in_ok-message.ensures.ok,
       c.in_default.ensures.err ∙ c.reserve_told.ensures.world,
       inr c.in_default.ensures.stopped,
     )
@@ -37,9 +37,9 @@ pub returns-clause-answer : goal.returns-clause-answer
 returns-clause-answer c =
     let a = c.args in
     let actable = c.in_ok-message.ensures.ok in (
-      act_due a.self.now a.from a.to a.made c.in_ok-message.message actable,
+      act_due a.self.now a.from a.to a.made.now c.in_ok-message.message actable,
       acted a.code.now (world_of a.self.now) (world_of c.reserve_told.new.self) (world_of c.move_host.new.self)
-          (world_of c.tell.new.self) a.from a.to a.made c.in_ok-message.message c.move_host.new.sent actable.bad
+          (world_of c.tell.new.self) a.from a.to a.made.now c.in_ok-message.message c.move_host.new.sent actable.bad
           actable.makes (state_rests a.self.now a.to actable.host) c.reserve_told.ensures.world c.in-Ok.ensures.ok
           c.tell.ensures.world,
     )
