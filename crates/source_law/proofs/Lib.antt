@@ -1,0 +1,17 @@
+pub mod Lists
+pub mod CleanValues
+pub mod KeptCalls
+pub mod AlignedItems
+pub mod IdleSteps
+pub mod CallPairs
+pub mod PairedStatements
+pub mod PairedItems
+pub mod PlainSteps
+pub mod AlteredSteps
+pub mod RelatedStart
+pub mod Moments
+pub mod AffectedLabels
+pub mod IdleBlocks
+pub mod LeftBlocks
+pub mod SteadyBlocks
+pub mod SteadyPrograms
