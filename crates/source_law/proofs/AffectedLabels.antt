@@ -66,62 +66,8 @@ unfolding meet_of
 integ_crossed first second p within trusts =
     other_bit (join_of first empty_label).trust second.trust p (nobody_joins first p) trusts
 
--- ---- what an exposure shows
+-- ---- each is decided
 
--- the labels of a program's fields, and those of its variables behind all of it
-pub record Shows (program : ProgramTree) (final : VariableLabels) (exposure : Exposure) : Type 0 where
-  pub fields : exposure.fields ≡ map (λ field. field.label) program.fields
-  pub variables : exposure.variables ≡ map (λ label. unwrap_or label empty_label) final
-
-shown_variable : (program : ProgramTree) (final labels : VariableLabels) (exposure : Exposure) →
-    Shows program final exposure → Stay labels final → (x : VarId) → IsLabelled labels x →
-    slice_get exposure.variables x.0 ≡ Some (variable_label labels x)
-shown_variable program final labels exposure shows stay x (label, there) =
-    let own : Option Label → Label = λ it. unwrap_or it empty_label in
-    let here : label ≡ variable_label labels x =
-    ap (λ it. unwrap_or (unwrap_or it None) empty_label) (sym there) in
-    ap (λ list. slice_get list x.0) shows.variables ∙ slice_get-map own final x.0
-    ∙ ap (option_map own) (stay.kept x.0 label there) ∙ ap Some here
-
-pub variable_affected : (program : ProgramTree) (final labels : VariableLabels) (exposure : Exposure) →
-    Shows program final exposure → Stay labels final → (x : VarId) → IsLabelled labels x →
-    IsAffected exposure.bad (variable_label labels x) → VariableIsAffected exposure x
-variable_affected program final labels exposure shows stay x has far =
-    let P : Option Label → Type 0 = λ found. IsSomeAnd found (IsAffected exposure.bad) in
-    subst P (sym (shown_variable program final labels exposure shows stay x has)) far
-
-pub label_affected : (program : ProgramTree) (final labels : VariableLabels) (exposure : Exposure) →
-    Shows program final exposure → Stay labels final → (x : VarId) → IsLabelled labels x →
-    VariableIsAffected exposure x → IsAffected exposure.bad (variable_label labels x)
-label_affected program final labels exposure shows stay x has far =
-    let P : Option Label → Type 0 = λ found. IsSomeAnd found (IsAffected exposure.bad) in
-    subst P (shown_variable program final labels exposure shows stay x has) far
-
-shown_field : (program : ProgramTree) (final : VariableLabels) (exposure : Exposure) → Shows program final exposure →
-    (array : _) (field : FieldId) → HasField program array field →
-    slice_get exposure.fields field.0 ≡ Some (field_label program field)
-shown_field program final exposure shows array field (tree, there, is_array) =
-    let own : FieldTree → Label = λ it. it.label in
-    let here : tree.label ≡ field_label program field =
-    ap (λ found. unwrap_or (option_map own found) empty_label) (sym there) in
-    ap (λ list. slice_get list field.0) shows.fields ∙ slice_get-map own program.fields field.0
-    ∙ ap (option_map own) there ∙ ap Some here
-
-pub field_affected : (program : ProgramTree) (final : VariableLabels) (exposure : Exposure) →
-    Shows program final exposure → (array : _) (field : FieldId) → HasField program array field →
-    IsAffected exposure.bad (field_label program field) → FieldIsAffected exposure field
-field_affected program final exposure shows array field has far =
-    let P : Option Label → Type 0 = λ found. IsSomeAnd found (IsAffected exposure.bad) in
-    subst P (sym (shown_field program final exposure shows array field has)) far
-
-pub field_label_affected : (program : ProgramTree) (final : VariableLabels) (exposure : Exposure) →
-    Shows program final exposure → (array : _) (field : FieldId) → HasField program array field →
-    FieldIsAffected exposure field → IsAffected exposure.bad (field_label program field)
-field_label_affected program final exposure shows array field has far =
-    let P : Option Label → Type 0 = λ found. IsSomeAnd found (IsAffected exposure.bad) in
-    subst P (shown_field program final exposure shows array field has) far
-
--- each is decided
 pub variable_decided : (exposure : Exposure) (x : VarId) → Decided (VariableIsAffected exposure x)
 variable_decided exposure x = by (slice_get exposure.variables x.0)
   where

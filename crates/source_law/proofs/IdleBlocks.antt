@@ -30,7 +30,8 @@ use Rattle.jif_tree.specs.WellNumbered.{HasVariable, HasMethod, IsBlockIn, is_so
 use Rattle.jif_tree.proofs.LabelsKept.{Stay, stay_then, assignment_stays, block_stays, assigned_labelled}
 use Rattle.source_law.specs.Steady.{AreIdle, BeginIsAffected}
 use Rattle.source_law.proofs.Lists.{all_first, all_second}
-use Rattle.source_law.proofs.AffectedLabels.{Shows, affected_up, integ_first, integ_second, variable_affected, field_affected}
+use Rattle.source_law.proofs.AffectedLabels.{affected_up, integ_first, integ_second}
+use Rattle.source_law.proofs.ExposedPrograms.{ExposedProgram, OwnMethod, variable_affected, field_affected}
 
 -- ---- what is found
 
@@ -100,8 +101,22 @@ called_keeps program method params into has =
     let P : Option VarId → Type 0 = λ result. KeepsOne result into in
     subst P (sym same) (keeps_one has.0.result into has.3)
 
-module _ (principals : Declared) (program : Program) (exposure : Exposure) (final : VariableLabels)
-    (shows : Shows (program_tree program) final exposure) (tree : MethodTree) (method : MethodId) (gives : Bool) where
+module _ (principals : Declared) (program : Program) (scene : ExposedProgram program) (own : OwnMethod program) where
+  abbrev exposure : Exposure
+  exposure = scene.exposure
+
+  abbrev final : VariableLabels
+  final = scene.final
+
+  abbrev tree : MethodTree
+  tree = own.tree
+
+  abbrev method : MethodId
+  method = own.id
+
+  abbrev gives : Bool
+  gives = is_some own.tree.result
+
   abbrev setting : MethodSetting
   setting = setting_of principals (program_tree program) tree
 
@@ -119,7 +134,7 @@ module _ (principals : Declared) (program : Program) (exposure : Exposure) (fina
   into_affected pc labels stay result None is_kept has holds far = tt
   into_affected pc labels stay None (Some x) is_kept has holds far = absurd is_kept
   into_affected pc labels stay (Some result) (Some x) is_kept has holds far =
-      variable_affected (program_tree program) final labels exposure shows stay x has
+      variable_affected program scene labels stay x has
       (flow_affected pc (variable_label labels result) (variable_label labels x) holds.0 far)
 
   pub row_idle : (pc : Label) (labels : VariableLabels) → length labels ≡ length (program_tree program).vars →
@@ -136,13 +151,13 @@ module _ (principals : Declared) (program : Program) (exposure : Exposure) (fina
       let found = variable_found (program_tree program) method x labels many there.0 in
       let own = assigned_labelled labels x (join_of from pc) found.0 found.1 in
       let flows = (all_second (Holds principals) (expr_constraints setting pc labels (expr_tree value)) _ met.0).0 in (
-        variable_affected (program_tree program) final after exposure shows later x own
+        variable_affected program scene after later x own
             (flow_affected pc from (variable_label after x) flows far),
         row_idle pc after ((assignment_stays labels x (join_of from pc)).many ∙ many) rest stay there.2 has met.1 far,
       )
   row_idle pc labels many (kind.more_of-Stmt id line (kind.SetField field value) rest) stay there has met far =
       let flows = (all_second (Holds principals) (expr_constraints setting pc labels (expr_tree value)) _ met.0).0 in (
-        field_affected (program_tree program) final exposure shows _ field there.0
+        field_affected program scene _ field there.0
             (flow_affected pc _ (field_label (program_tree program) field) flows far),
         row_idle pc labels many rest stay there.2 has met.1 far,
       )
@@ -150,7 +165,7 @@ module _ (principals : Declared) (program : Program) (exposure : Exposure) (fina
       let one = expr_constraints setting pc labels (expr_tree index) in
       let two = expr_constraints setting pc labels (expr_tree value) in
       let flows = (all_second (Holds principals) (one ++ two) _ met.0).0 in (
-        field_affected (program_tree program) final exposure shows _ field there.0
+        field_affected program scene _ field there.0
             (flow_affected pc _ (field_label (program_tree program) field) flows far),
         row_idle pc labels many rest stay there.3 has met.1 far,
       )
@@ -224,5 +239,5 @@ module _ (principals : Declared) (program : Program) (exposure : Exposure) (fina
           let P : Option VarId → Type 0 = λ it. IsLabelledIfAny labels it in
           let Q : Option VarId → Type 0 = λ it. AllByRecursion (Holds principals)
           (return_flows pc labels it (expr_label setting pc labels (expr_tree value))) in
-          rw is (variable_affected (program_tree program) final labels exposure shows stays x (subst P is own)
+          rw is (variable_affected program scene labels stays x (subst P is own)
           (flow_affected pc _ (variable_label labels x) (subst Q is holds).0 far))

@@ -5,6 +5,7 @@ use Rattle.std.proofs.Common.{Option, Some, None, IsSomeAnd, IfSome, slice_get}
 use Rattle.std.specs.Prelude.{unwrap_or}
 use Rattle.std.specs.Option.{option_map}
 use Rattle.std.proofs.lemmas.Option.{slice_get-map}
+use Rattle.std.proofs.lemmas.List.{length-map}
 use Rattle.std.proofs.lemmas.List.Concat.{flat_map-append}
 use Rattle.js_base.specs.declared.ids.VarId.{VarId}
 use Rattle.js_base.specs.declared.ids.MethodId.{MethodId}
@@ -21,7 +22,7 @@ use Rattle.jif_tree.specs.Trees.{Heading, BlockTree, ExprTree, MethodTree, expr_
 use Rattle.jif_tree.specs.Trees.{program_tree}
 use Rattle.jif_tree.specs.LabelRules.{MethodSetting, VariableLabels, setting_of, field_label, method_at, begin_label}
 use Rattle.jif_tree.specs.LabelRules.{params_of}
-use Rattle.jif_tree.specs.WellNumbered.{HasVariable, HasOptionalVariable, IsBlockIn}
+use Rattle.jif_tree.specs.WellNumbered.{HasVariable, HasOptionalVariable, IsBlockIn, is_some}
 use Rattle.need_labels.specs.Labelled.{Labelled, all_labels}
 use Rattle.need_labels.specs.Needs.{Backing, for_label, Backs, StatementUse, for_releases, block_uses, all_backing}
 use Rattle.need_labels.specs.Needs.{label_of}
@@ -29,7 +30,7 @@ use Rattle.need_labels.specs.Needs.{labels_of, IsNeed}
 use Rattle.need_labels.proofs.Somewhere.{any_here, any_later, any_first, any_none, any_left, any_right}
 use Rattle.source_law.specs.Steady.{IsIdle, AreIdle}
 use Rattle.source_law.proofs.Lists.{any_also}
-use Rattle.source_law.proofs.AffectedLabels.{Shows, field_affected}
+use Rattle.source_law.proofs.ExposedPrograms.{ExposedProgram, OwnMethod, labelled_in, field_affected}
 use Rattle.source_law.proofs.IdleBlocks.{begin_affected, variable_found}
 
 -- ---- who affects what
@@ -59,48 +60,51 @@ label_in principals bad backing label inside far =
 
 -- ---- blocks
 
-module _ (principals : Declared) (program : Program) (var_labels pc : List Label) (exposure : Exposure)
-    (final : VariableLabels) (shows : Shows (program_tree program) final exposure)
-    (variables : exposure.variables ≡ var_labels)
-    (many : length var_labels ≡ length (program_tree program).vars) (tree : MethodTree) (method : MethodId)
-    (gives : Bool) where
-  abbrev pub labelled : Labelled
-  labelled = record { program = program_tree program; var_labels = var_labels; pc = pc }
+module _ (principals : Declared) (program : Program) (scene : ExposedProgram program) (own : OwnMethod program) where
+  abbrev exposure : Exposure
+  exposure = scene.exposure
 
-  abbrev pub setting : MethodSetting
+  abbrev final : VariableLabels
+  final = scene.final
+
+  abbrev tree : MethodTree
+  tree = own.tree
+
+  abbrev method : MethodId
+  method = own.id
+
+  abbrev gives : Bool
+  gives = is_some own.tree.result
+
+  abbrev labelled : Labelled
+  labelled = labelled_in program scene
+
+  abbrev setting : MethodSetting
   setting = setting_of principals (program_tree program) tree
 
-  abbrev pub Far : List Backing → Type 0
+  abbrev Far : List Backing → Type 0
   Far backing = AffectsAll principals exposure.bad backing
 
   shown : (x : VarId) → HasVariable (program_tree program) method x →
       IsAffected exposure.bad (label_of labelled x) → VariableIsAffected exposure x
   shown x has far =
-      let found = variable_found (program_tree program) method x (all_labels labelled) all_many has in
-      by found.0 found.1
+      let found = variable_found (program_tree program) method x (all_labels labelled)
+      (length-map exposure.variables Some ∙ scene.many) has in
+      at found.0 found.1 (slice_get exposure.variables x.0) refl
     where
-      all_many : length (all_labels labelled) ≡ length (program_tree program).vars
-      all_many = mapped var_labels ∙ many
-        where
-          mapped : (labels : List Label) → length (map Some labels) ≡ length labels
-          mapped [] = refl
-          mapped (label ∷ labels) = ap ℕ.suc (mapped labels)
-
-      by : (found : Option Label) → slice_get (all_labels labelled) x.0 ≡ Some found → VariableIsAffected exposure x
-      by found is = at (slice_get var_labels x.0) refl
-        where
-          at : (it : Option Label) → slice_get var_labels x.0 ≡ it → VariableIsAffected exposure x
-          at None none =
-              let never : None ≡ Some found =
-              sym (slice_get-map Some var_labels x.0 ∙ ap (option_map Some) none) ∙ is in
-              absurd (cc)
-          at (Some label) there =
-              let own : label_of labelled x ≡ label =
-              ap (λ it. unwrap_or (unwrap_or it None) empty_label)
-              (slice_get-map Some var_labels x.0 ∙ ap (option_map Some) there) in
-              let P : Option Label → Type 0 = λ it. IsSomeAnd it (IsAffected exposure.bad) in
-              let Q : Label → Type 0 = λ it. IsAffected exposure.bad it in
-              subst P (sym (ap (λ list. slice_get list x.0) variables ∙ there)) (subst Q own far)
+      at : (found : Option Label) → slice_get (all_labels labelled) x.0 ≡ Some found → (it : Option Label) →
+          slice_get exposure.variables x.0 ≡ it → VariableIsAffected exposure x
+      at found is None none =
+          let never : None ≡ Some found =
+          sym (slice_get-map Some exposure.variables x.0 ∙ ap (option_map Some) none) ∙ is in
+          absurd (cc)
+      at found is (Some label) there =
+          let same : label_of labelled x ≡ label =
+          ap (λ it. unwrap_or (unwrap_or it None) empty_label)
+          (slice_get-map Some exposure.variables x.0 ∙ ap (option_map Some) there) in
+          let P : Option Label → Type 0 = λ it. IsSomeAnd it (IsAffected exposure.bad) in
+          let Q : Label → Type 0 = λ it. IsAffected exposure.bad it in
+          subst P (sym there) (subst Q same far)
 
   -- ---- what backs a statement
 
@@ -217,12 +221,12 @@ module _ (principals : Declared) (program : Program) (var_labels pc : List Label
         shown x there.0 (changes (label_of labelled x ∷ []) (expr_tree value ∷ []) [] (label_of labelled x)
         (λ p trusts. any_here (λ it. Trusts it p) (label_of labelled x) [] trusts) far)
     what_left (kind.SetField field value) heading rest there result far =
-        field_affected (program_tree program) final exposure shows _ field there.0
+        field_affected program scene _ field there.0
         (changes (field_label (program_tree program) field ∷ []) (expr_tree value ∷ []) [] (field_label (program_tree
         program) field)
         (λ p trusts. any_here (λ it. Trusts it p) (field_label (program_tree program) field) [] trusts) far)
     what_left (kind.SetElement field index value) heading rest there result far =
-        field_affected (program_tree program) final exposure shows _ field there.0
+        field_affected program scene _ field there.0
         (changes (field_label (program_tree program) field ∷ []) (expr_tree index ∷ expr_tree value ∷ []) []
         (field_label (program_tree program) field)
         (λ p trusts. any_here (λ it. Trusts it p) (field_label (program_tree program) field) [] trusts) far)

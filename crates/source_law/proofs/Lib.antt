@@ -11,6 +11,7 @@ pub mod AlteredSteps
 pub mod RelatedStart
 pub mod Moments
 pub mod AffectedLabels
+pub mod ExposedPrograms
 pub mod IdleBlocks
 pub mod LeftBlocks
 pub mod SteadyBlocks

@@ -31,18 +31,19 @@ use Rattle.jif_tree.specs.LabelRules.{block_labels, method_at, params_of, result
 use Rattle.jif_tree.specs.LabelRules.{declared_labels}
 use Rattle.jif_tree.specs.Labelling.{IsLabelled, IsLabelledIfAny, AreLabelled}
 use Rattle.jif_tree.specs.ValueLabels.{IsExprLabelled, AreValuesLabelled}
-use Rattle.jif_tree.specs.WellNumbered.{HasOptionalVariable, IsExprIn, IsBlockIn}
+use Rattle.jif_tree.specs.WellNumbered.{IsExprIn, IsBlockIn, is_some}
 use Rattle.jif_tree.proofs.LabelsKept.{Stay, stay_then, assignment_stays, block_stays, assigned_labelled}
 use Rattle.jif_tree.proofs.LabelsKept.{labelled_later_if_any}
 use Rattle.need_labels.specs.Needs.{StatementUse, block_uses, IsNeed}
 use Rattle.source_law.specs.Steady.{IsClean, IsIdle, AreSteady, SetsWell, ArePassedWell, IsKeptWell}
 use Rattle.source_law.specs.Unendorsed.{IsUnendorsed, IsUnendorsedBlock}
-use Rattle.source_law.proofs.AffectedLabels.{Shows, affected_up, integ_first, integ_second, integ_crossed, variable_affected}
-use Rattle.source_law.proofs.AffectedLabels.{label_affected, field_affected, field_label_affected, variable_decided}
+use Rattle.source_law.proofs.AffectedLabels.{affected_up, integ_first, integ_second, integ_crossed, variable_decided}
 use Rattle.source_law.proofs.AffectedLabels.{field_decided}
+use Rattle.source_law.proofs.ExposedPrograms.{ExposedProgram, OwnMethod, labelled_in, variable_affected, label_affected}
+use Rattle.source_law.proofs.ExposedPrograms.{field_affected, field_label_affected}
 use Rattle.source_law.proofs.Lists.{all_first, all_second}
 use Rattle.source_law.proofs.IdleBlocks.{IsMet, variable_found, row_idle}
-use Rattle.source_law.proofs.LeftBlocks.{from_need, what_left, own_backing, labelled}
+use Rattle.source_law.proofs.LeftBlocks.{from_need, what_left, own_backing}
 
 -- ---- methods
 
@@ -68,14 +69,22 @@ result_same program method =
 
 -- ---- blocks
 
-module _ (principals : Declared) (program : Program) (var_labels pcs : List Label) (exposure : Exposure)
-    (final : VariableLabels) (shows : Shows (program_tree program) final exposure)
-    (variables : exposure.variables ≡ var_labels)
-    (few : length var_labels ≡ length (program_tree program).vars)
-    (results : (place : ℕ) (it : MethodTree) → slice_get (program_tree program).methods place ≡ Some it →
-    IsLabelledIfAny (declared_labels (program_tree program)) it.result)
-    (tree : MethodTree) (method : MethodId) (gives : Bool)
-    (own : HasOptionalVariable (program_tree program) method tree.result) where
+module _ (principals : Declared) (program : Program) (scene : ExposedProgram program) (own : OwnMethod program) where
+  abbrev exposure : Exposure
+  exposure = scene.exposure
+
+  abbrev final : VariableLabels
+  final = scene.final
+
+  abbrev tree : MethodTree
+  tree = own.tree
+
+  abbrev method : MethodId
+  method = own.id
+
+  abbrev gives : Bool
+  gives = is_some own.tree.result
+
   abbrev setting : MethodSetting
   setting = setting_of principals (program_tree program) tree
 
@@ -92,13 +101,13 @@ module _ (principals : Declared) (program : Program) (var_labels pcs : List Labe
     where
       by : Decided (VariableIsAffected exposure x) →
           (¬ VariableIsAffected exposure x) ⊎ IsAffected exposure.bad (variable_label labels x)
-      by (inl far) = inr (label_affected (program_tree program) final labels exposure shows stay x has far)
+      by (inl far) = inr (label_affected program scene labels stay x has far)
       by (inr never) = inl never
   clean_or_far pc labels stay (expr.Scalar field) pure there has = by (field_decided exposure field)
     where
       by : Decided (FieldIsAffected exposure field) →
           (¬ FieldIsAffected exposure field) ⊎ IsAffected exposure.bad (field_label (program_tree program) field)
-      by (inl far) = inr (field_label_affected (program_tree program) final exposure shows _ field there far)
+      by (inl far) = inr (field_label_affected program scene _ field there far)
       by (inr never) = inl never
   clean_or_far pc labels stay (expr.Element' field p index) pure there has =
       by (field_decided exposure field) (clean_or_far pc labels stay index pure there.1 has)
@@ -112,7 +121,7 @@ module _ (principals : Declared) (program : Program) (var_labels pcs : List Labe
       by (inl far) other = inr (affected_up exposure.bad (field_label (program_tree program) field) (join_of
           (field_label (program_tree program) field) asked)
           (integ_first (field_label (program_tree program) field) asked)
-          (field_label_affected (program_tree program) final exposure shows _ field there.0 far))
+          (field_label_affected program scene _ field there.0 far))
       by (inr never) (inl clean) = inl (never, clean)
       by (inr never) (inr far) = inr (affected_up exposure.bad asked (join_of (field_label (program_tree program)
           field) asked)
@@ -157,7 +166,7 @@ module _ (principals : Declared) (program : Program) (var_labels pcs : List Labe
       Holds principals (flow_of pc (expr_label setting pc labels (expr_tree e)) (variable_label later x)) →
       SetsWell exposure x e
   sets_well pc labels later stay stays x x_has e pure there has flows =
-      ⊎_elim (λ clean. inr clean) (λ far. inl (variable_affected (program_tree program) final later exposure shows
+      ⊎_elim (λ clean. inr clean) (λ far. inl (variable_affected program scene later
       stays x
       x_has (flow_reaches pc (expr_label setting pc labels (expr_tree e)) (variable_label later x) flows far)))
       (clean_or_far pc labels stay e pure there has)
@@ -184,9 +193,9 @@ module _ (principals : Declared) (program : Program) (var_labels pcs : List Labe
     where
       by : Decided (VariableIsAffected exposure result) →
           VariableIsAffected exposure x ⊎ (¬ VariableIsAffected exposure result)
-      by (inl far) = inl (variable_affected (program_tree program) final labels exposure shows stay x has
+      by (inl far) = inl (variable_affected program scene labels stay x has
           (flow_reaches pc (variable_label labels result) (variable_label labels x) holds.0
-          (label_affected (program_tree program) final labels exposure shows stay result also far)))
+          (label_affected program scene labels stay result also far)))
       by (inr never) = inr never
 
   result_labelled : (labels : VariableLabels) → Stay (declared_labels (program_tree program)) labels →
@@ -197,22 +206,19 @@ module _ (principals : Declared) (program : Program) (var_labels pcs : List Labe
           IsLabelledIfAny labels (result_of found)
       by None is = tt
       by (Some it) is = labelled_later_if_any (declared_labels (program_tree program)) labels since it.result
-          (results called.0 it is)
+          (scene.results called.0 it is)
 
   left : (id : StmtId) (line : ℕ) (what : StmtKind) (rest : BlockTree) →
       IsBlockIn (program_tree program) method gives (statement_tree what (record { id = id; line = line }) rest) →
-      IsNeed principals (own_backing principals program var_labels pcs exposure final shows variables few tree method
-      gives
-      what) (slice_index exposure.needs id.0) →
+      IsNeed principals (own_backing principals program scene own what) (slice_index exposure.needs id.0) →
       StatementIsAffected exposure id → IsIdle program exposure tree.result what
   left id line what rest there need far =
-      what_left principals program var_labels pcs exposure final shows variables few tree method gives what
-      (record { id = id; line = line }) rest there own
+      what_left principals program scene own what
+      (record { id = id; line = line }) rest there own.result
       (from_need principals exposure.bad _ (slice_index exposure.needs id.0) need far)
 
   abbrev Uses : BlockTree → List StatementUse
-  Uses block = block_uses (labelled principals program var_labels pcs exposure final shows variables few tree method
-      gives)
+  Uses block = block_uses (labelled_in program scene)
       setting block
 
   pub row_steady : (pc : Label) (labels : VariableLabels) → length labels ≡ length (program_tree program).vars →
@@ -251,7 +257,7 @@ module _ (principals : Declared) (program : Program) (var_labels pcs : List Labe
       (block_stays setting pc labels (row_tree rest)) stay in
       let flows = (all_second (Holds principals) (expr_constraints setting pc labels (expr_tree value)) _ met.0).0 in (
         left id line (kind.SetField field value) (row_tree rest) there uses.0,
-        ⊎_elim (λ clean. inr clean) (λ far. inl (field_affected (program_tree program) final exposure shows _ field
+        ⊎_elim (λ clean. inr clean) (λ far. inl (field_affected program scene _ field
             there.0
             (flow_reaches pc from to flows far))) (clean_or_far pc labels stays value pure.0 there.1 values.0),
         row_steady pc labels many since rest stay there.2 has values.1 pure.1 met.1 uses.1,
@@ -267,7 +273,7 @@ module _ (principals : Declared) (program : Program) (var_labels pcs : List Labe
       (block_stays setting pc labels (row_tree rest)) stay in
       let flows = (all_second (Holds principals) (one ++ two) _ met.0).0 in
       let reached = λ (far : IsAffected exposure.bad (join_of first second)).
-      field_affected (program_tree program) final exposure shows _ field there.0
+      field_affected program scene _ field there.0
       (flow_reaches pc (join_of first second) to flows far) in (
         left id line (kind.SetElement field index value) (row_tree rest) there uses.0,
         ⊎_elim (λ clean. ⊎_elim (λ also. inr (clean, also))
@@ -307,9 +313,9 @@ module _ (principals : Declared) (program : Program) (var_labels pcs : List Labe
           ⊎_elim (λ clean. inl clean) (λ far.
               let up = affected_up exposure.bad own_label inside (integ_second pc own_label) far in
               inr (
-                row_idle principals program exposure final shows tree method gives inside labels many first from_second
+                row_idle principals program scene own inside labels many first from_second
                     there.1 has.0 one_met up,
-                row_idle principals program exposure final shows tree method gives inside between
+                row_idle principals program scene own inside between
                     (first_stays.many ∙ many) second rest_stays there.2 has.1 two_met up,
               )) (clean_or_far pc labels from_first guard pure.0 there.0 values.0),
           row_steady inside labels many since first from_second there.1 has.0 values.1 pure.1 one_met
@@ -339,7 +345,7 @@ module _ (principals : Declared) (program : Program) (var_labels pcs : List Labe
         left id line (kind.While' guard m body) (row_tree rest) there uses.0,
         (
           ⊎_elim (λ clean. inl clean) (λ far. inr
-              (row_idle principals program exposure final shows tree method gives inside labels many body rest_stays
+              (row_idle principals program scene own inside labels many body rest_stays
               there.1 has.0 one_met (affected_up exposure.bad own_label inside (integ_second pc own_label) far)))
               (clean_or_far pc labels from_body guard pure.0 there.0 values.0),
           row_steady inside labels many since body rest_stays there.1 has.0 values.1 pure.1 one_met

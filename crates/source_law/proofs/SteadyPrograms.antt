@@ -32,7 +32,7 @@ use Rattle.need_labels.proofs.Ordered.{use_numbered}
 use Rattle.source_law.specs.Checked.{IsChecked, exposed_to}
 use Rattle.source_law.specs.Steady.{AreIdle, AreSteady, AllIdle, AllSteady, IsSteadyProgram}
 use Rattle.source_law.specs.Unendorsed.{IsUnendorsedBlock, EndorsesNothing}
-use Rattle.source_law.proofs.AffectedLabels.{Shows}
+use Rattle.source_law.proofs.ExposedPrograms.{ExposedProgram, OwnMethod, labelled_in}
 use Rattle.source_law.proofs.Lists.{all_first, all_second, each_there, one_there, zipped_there}
 use Rattle.source_law.proofs.IdleBlocks.{IsMet, row_idle}
 use Rattle.source_law.proofs.SteadyBlocks.{row_steady}
@@ -97,69 +97,68 @@ IsSteadyMethod program exposure method =
     AllSteady program exposure method.result method.body.items
     × (IsAffected exposure.bad method.begin → AllIdle program exposure method.result method.body.items)
 
-methods_steady : (principals : Declared) (program : Program) (var_labels pcs : List Label) (exposure : Exposure)
-    (final : VariableLabels) → Shows (program_tree program) final exposure → exposure.variables ≡ var_labels →
-    length var_labels ≡ length (program_tree program).vars →
-    ((place : ℕ) (it : MethodTree) → slice_get (program_tree program).methods place ≡ Some it →
-    IsLabelledIfAny (declared_labels (program_tree program)) it.result) →
-    let labelled : Labelled = record { program = program_tree program; var_labels = var_labels; pc = pcs } in
-    (place : ℕ) (methods : List Method) (labels : VariableLabels) →
-    length labels ≡ length (program_tree program).vars → Stay (declared_labels (program_tree program)) labels →
-    labels_after_methods principals (program_tree program) labels (map method_tree methods) ≡ final →
-    AreMethodsIn (program_tree program) place (map method_tree methods) →
-    AreLabelledMethods principals (program_tree program) labels (map method_tree methods) →
-    AreAllValuesLabelled principals (program_tree program) labels (map method_tree methods) →
-    AllByRecursion (λ (method : MethodTree). IsUnendorsedBlock method.body) (map method_tree methods) →
-    AllByRecursion (IsMet principals) (methods_labels principals (program_tree program) labels (map method_tree
-    methods)) →
-    AllByRecursion (λ (one : StatementUse). IsNeed principals one.backing (slice_index exposure.needs one.id.0))
-    (flat_map (method_uses principals labelled) (map method_tree methods)) →
-    AllByRecursion (IsSteadyMethod program exposure) methods
-methods_steady principals program var_labels pcs exposure final shows variables few results place [] labels many since
-    end
-    there has values pure met uses = tt
-methods_steady principals program var_labels pcs exposure final shows variables few results place (method ∷ methods)
-    labels
-    many since end there has values pure met uses =
-    let labelled : Labelled = record { program = program_tree program; var_labels = var_labels; pc = pcs } in
-    let tree = method_tree method in
-    let setting = setting_of principals (program_tree program) tree in
-    let after = labels_after setting method.begin labels tree.body in
-    let stays = block_stays setting method.begin labels tree.body in
-    let stay = subst (Stay after) end (methods_stay principals (program_tree program) after (map method_tree methods))
-    in
-    let own = block_labels setting method.begin labels tree.body in
-    let own_uses = block_uses labelled setting tree.body in
-    let Needed : StatementUse → Type 0 = λ one. IsNeed principals one.backing (slice_index exposure.needs one.id.0) in
-    let own_met = all_first (IsMet principals) own _ met.1 in
-    let own_needed = all_first Needed own_uses _ uses.1 in
-    let back = sym (same_tree method.body.items) in
-    let A : BlockTree → Type 0 = λ block. Stay (labels_after setting method.begin labels block) final in
-    let B : BlockTree → Type 0 = λ block. IsBlockIn (program_tree program) (record { 0 = place }) (is_some tree.result)
-    block in
-    let C : BlockTree → Type 0 = λ block. AreLabelled setting method.begin labels block in
-    let D : BlockTree → Type 0 = λ block. AreValuesLabelled setting method.begin labels block in
-    let E : BlockTree → Type 0 = λ block. IsUnendorsedBlock block in
-    let F : BlockTree → Type 0 = λ block. AllByRecursion (IsMet principals) (block_labels setting method.begin labels
-    block)
-    in
-    let G : BlockTree → Type 0 = λ block. AllByRecursion Needed (block_uses labelled setting block) in (
-      (
-        steady_body program exposure method.result method.body.items
-            (row_steady principals program var_labels pcs exposure final shows variables few results tree
-            (record { 0 = place }) (is_some tree.result) there.0.result method.begin labels many since
-            (row_from method.body.items).1 (subst A back stay) (subst B back there.0.body) (subst C back has.0.labelled)
-            (subst D back values.0) (subst E back pure.0) (subst F back own_met) (subst G back own_needed)),
-        λ far. idle_body program exposure method.result method.body.items
-            (row_idle principals program exposure final shows tree (record { 0 = place }) (is_some tree.result)
-            method.begin labels many (row_from method.body.items).1 (subst A back stay) (subst B back there.0.body)
-            (subst C back has.0.labelled) (subst F back own_met) far),
-      ),
-      methods_steady principals program var_labels pcs exposure final shows variables few results (suc place) methods
-          after
-          (stays.many ∙ many) (stay_then (declared_labels (program_tree program)) labels after since stays) end there.1
-          has.1 values.1 pure.1 (all_second (IsMet principals) own _ met.1) (all_second Needed own_uses _ uses.1),
-    )
+module _ (principals : Declared) (program : Program) (scene : ExposedProgram program) where
+  abbrev exposure : Exposure
+  exposure = scene.exposure
+
+  abbrev labelled : Labelled
+  labelled = labelled_in program scene
+
+  abbrev IsNeeded : StatementUse → Type 0
+  IsNeeded one = IsNeed principals one.backing (slice_index exposure.needs one.id.0)
+
+  -- of the methods from a place on, and the labels that variables have there
+  methods_steady : (place : ℕ) (methods : List Method) (labels : VariableLabels) →
+      length labels ≡ length (program_tree program).vars → Stay (declared_labels (program_tree program)) labels →
+      labels_after_methods principals (program_tree program) labels (map method_tree methods) ≡ scene.final →
+      AreMethodsIn (program_tree program) place (map method_tree methods) →
+      AreLabelledMethods principals (program_tree program) labels (map method_tree methods) →
+      AreAllValuesLabelled principals (program_tree program) labels (map method_tree methods) →
+      AllByRecursion (λ (method : MethodTree). IsUnendorsedBlock method.body) (map method_tree methods) →
+      AllByRecursion (IsMet principals)
+      (methods_labels principals (program_tree program) labels (map method_tree methods)) →
+      AllByRecursion IsNeeded (flat_map (method_uses principals labelled) (map method_tree methods)) →
+      AllByRecursion (IsSteadyMethod program exposure) methods
+  methods_steady place [] labels many since end there has values pure met uses = tt
+  methods_steady place (method ∷ methods) labels many since end there has values pure met uses =
+      let tree = method_tree method in
+      let setting = setting_of principals (program_tree program) tree in
+      let after = labels_after setting method.begin labels tree.body in
+      let stays = block_stays setting method.begin labels tree.body in
+      let stay = subst (Stay after) end
+      (methods_stay principals (program_tree program) after (map method_tree methods)) in
+      let row = row_from method.body.items in
+      let labels_here = block_labels setting method.begin labels tree.body in
+      let uses_here = block_uses labelled setting tree.body in
+      let met_here = all_first (IsMet principals) labels_here _ met.1 in
+      let needed_here = all_first IsNeeded uses_here _ uses.1 in
+      let own : OwnMethod program = record { tree = tree; id = record { 0 = place }; result = there.0.result } in
+      let back = sym (same_tree method.body.items) in
+      let A : BlockTree → Type 0 = λ block. Stay (labels_after setting method.begin labels block) scene.final in
+      let B : BlockTree → Type 0 = λ block.
+      IsBlockIn (program_tree program) (record { 0 = place }) (is_some tree.result) block in
+      let C : BlockTree → Type 0 = λ block. AreLabelled setting method.begin labels block in
+      let D : BlockTree → Type 0 = λ block. AreValuesLabelled setting method.begin labels block in
+      let E : BlockTree → Type 0 = λ block. IsUnendorsedBlock block in
+      let F : BlockTree → Type 0 = λ block.
+      AllByRecursion (IsMet principals) (block_labels setting method.begin labels block) in
+      let G : BlockTree → Type 0 = λ block. AllByRecursion IsNeeded (block_uses labelled setting block) in
+      let stays_in = subst A back stay in
+      let is_in = subst B back there.0.body in
+      let has_labels = subst C back has.0.labelled in
+      let met_in = subst F back met_here in (
+        (
+          steady_body program exposure method.result method.body.items
+              (row_steady principals program scene own method.begin labels many since row.1 stays_in is_in has_labels
+              (subst D back values.0) (subst E back pure.0) met_in (subst G back needed_here)),
+          λ far. idle_body program exposure method.result method.body.items
+              (row_idle principals program scene own method.begin labels many row.1 stays_in is_in has_labels met_in
+              far),
+        ),
+        methods_steady (suc place) methods after (stays.many ∙ many)
+            (stay_then (declared_labels (program_tree program)) labels after since stays) end there.1 has.1 values.1
+            pure.1 (all_second (IsMet principals) labels_here _ met.1) (all_second IsNeeded uses_here _ uses.1),
+      )
 
 -- ---- programs
 
@@ -187,25 +186,27 @@ steady_there principals program var_labels pcs needs bad checked pure =
     let declared = declared_labels tree in
     let exposure = exposed_to labelled needs bad in
     let final = labels_after_methods principals tree declared tree.methods in
-    let shows : Shows tree final exposure = record { fields = refl; variables = checked.var_labels } in
     let stays = methods_stay principals tree declared tree.methods in
     let many : length declared ≡ length tree.vars = length-map tree.vars (λ variable. variable.label) in
-    let few : length var_labels ≡ length tree.vars =
-    ap length checked.var_labels ∙ length-map final _ ∙ stays.many ∙ many in
+    let scene : ExposedProgram program = record {
+      exposure = exposure;
+      pc = pcs;
+      final = final;
+      fields = refl;
+      variables = checked.var_labels;
+      many = ap length checked.var_labels ∙ length-map final _ ∙ stays.many ∙ many;
+      results = checked.results;
+    } in
     let met = met_from principals (program_labels principals tree)
     (recursion_from_All (Meets principals) (obligations_of (program_labels principals tree)) checked.well_labelled) in
-    let all = methods_steady principals program var_labels pcs exposure final shows refl few checked.results 0
-    program.methods.items declared many (stay_same declared) refl checked.numbered.methods checked.methods
-    checked.values
-    pure met
-    (each_there (λ (one : StatementUse). IsNeed principals one.backing (slice_index needs.need one.id.0))
-    (statement_uses principals labelled) (use_needed principals labelled needs checked)) in
+    let all = methods_steady principals program scene 0 program.methods.items declared many (stay_same declared) refl
+    checked.numbered.methods checked.methods checked.values pure met
+    (each_there (IsNeeded principals program scene) (statement_uses principals labelled)
+    (use_needed principals labelled needs checked)) in
+    let each = one_there (IsSteadyMethod program exposure) program.methods.items all in
     record {
-      steady = λ number method there. (one_there (IsSteadyMethod program exposure) program.methods.items all number
-          method
-          there).0;
-      idle = λ number method there. (one_there (IsSteadyMethod program exposure) program.methods.items all number method
-          there).1;
+      steady = λ number method there. (each number method there).0;
+      idle = λ number method there. (each number method there).1;
     }
 
 pub program_steady : (principals : Declared) (program : Program) (labelled : Labelled) (needs : NeedsShape)
