@@ -13,13 +13,13 @@ use Rattle.source_law.proofs.RelatedStart.{starts}
 
 -- ---- numbers that do not fall
 
-one_rises : (n : ℕ) → IsNonDecreasing (n ∷ [])
+pub one_rises : (n : ℕ) → IsNonDecreasing (n ∷ [])
 one_rises n zero zero d le lt = omega arith
 one_rises n zero (suc j) d le lt = absurd (omega arith)
 one_rises n (suc i) zero d le lt = absurd (omega arith)
 one_rises n (suc i) (suc j) d le lt = absurd (omega arith)
 
-rises_before : (n m : ℕ) (numbers : List ℕ) → n ≤ m → IsNonDecreasing (m ∷ numbers) →
+pub rises_before : (n m : ℕ) (numbers : List ℕ) → n ≤ m → IsNonDecreasing (m ∷ numbers) →
     IsNonDecreasing (n ∷ (m ∷ numbers))
 rises_before n m numbers on rising zero zero d le lt = omega arith
 rises_before n m numbers on rising zero (suc j) d le lt =
@@ -39,6 +39,7 @@ record Along (program : Program) (exposure : Exposure) (start : Configuration) (
   numbers : List ℕ
   many : length numbers ≡ length moments
   rising : IsNonDecreasing (n ∷ numbers)
+  within : (place : ℕ) → slice_index numbers place ≤ most
   each : (place : ℕ) (c : Configuration) → slice_get moments place ≡ Some c →
       FieldsAgree exposure c.store (after_steps program (slice_index numbers place) start).store
       × (IsAtEnd c → slice_index numbers place ≡ most)
@@ -51,6 +52,7 @@ along program exposure start most steady [] c n left sum ends r comes = record {
   numbers = [];
   many = refl;
   rising = one_rises n;
+  within = λ place. omega arith;
   each = λ place it is. absurd (cc);
 }
 along program exposure start most steady (now ∷ moments) c n left sum ends r comes =
@@ -67,10 +69,16 @@ along program exposure start most steady (now ∷ moments) c n left sum ends r c
       numbers = to ∷ rest.numbers;
       many = ap suc rest.many;
       rising = rises_before n to rest.numbers (omega arith) rest.rising;
+      within = below to rest.numbers (omega (arith, sum, total)) rest.within;
       each = there to rest.numbers related.fields
           (λ end. let none = at.ended end in omega (arith, sum, total, none)) rest.each;
     }
   where
+    below : (to : ℕ) (numbers : List ℕ) → to ≤ most → ((place : ℕ) → slice_index numbers place ≤ most) → (place : ℕ) →
+        slice_index (to ∷ numbers) place ≤ most
+    below to numbers here others zero = here
+    below to numbers here others (suc place) = others place
+
     Stands : Configuration → ℕ → Type 0
     Stands it steps = FieldsAgree exposure it.store (after_steps program steps start).store × (IsAtEnd it → steps ≡ most)
 
@@ -97,6 +105,7 @@ moments_follow program exposure store length_of moments steady length_is comes =
       steps = all.numbers;
       many = all.many;
       rising = rises_behind 0 all.numbers all.rising;
+      within = all.within;
       agrees = λ place c is. (all.each place c is).0;
       ends = λ place c is. (all.each place c is).1;
     }

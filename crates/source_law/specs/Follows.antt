@@ -2,7 +2,7 @@
 --
 -- An altered run is seen at moments. From each moment to the next it goes on by nothing, by one thing or by several, as
 -- it does while an event happens among hosts.
-use Rattle.std.specs.Prelude.{◌≡◌, ⊤, ℕ, ◌+◌, ℤ, List, [], ◌∷◌, length, Some, slice_get, slice_index}
+use Rattle.std.specs.Prelude.{◌≡◌, ⊤, ℕ, ◌+◌, ◌≤◌, ℤ, List, [], ◌∷◌, length, Some, slice_get, slice_index}
 use Rattle.std.specs.List.Sorted.{IsNonDecreasing}
 use Rattle.jif_tree.specs.declared.program.Program.{Program}
 use Rattle.jif_tree.specs.SourceRun.{Configuration, IsAtEnd, after_steps, prefix}
@@ -37,6 +37,7 @@ pub record FollowsPlain (program : Program) (exposure : Exposure) (store : List 
   pub steps : List ℕ
   pub many : length steps ≡ length moments
   pub rising : IsNonDecreasing steps
+  pub within : (place : ℕ) → slice_index steps place ≤ length_of
   pub agrees : (place : ℕ) (c : Configuration) → slice_get moments place ≡ Some c →
       FieldsAgree exposure c.store (prefix program store (slice_index steps place)).store
   pub ends : (place : ℕ) (c : Configuration) → slice_get moments place ≡ Some c → IsAtEnd c →
