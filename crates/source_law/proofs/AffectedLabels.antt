@@ -1,12 +1,9 @@
 -- What may be affected goes up along the flows of labels.
-use Rattle.std.proofs.Common.{◌≡◌, ◌∙◌, ap, refl, sym, subst, inl, inr, ◌⊎◌, arith, ℕ, zero, suc, ◌<◌, List, [], ◌∷◌}
-use Rattle.std.proofs.Common.{map, Any, bit_or}
+use Rattle.std.proofs.Common.{◌≡◌, inr, arith, ℕ, ◌<◌, List}
+use Rattle.std.proofs.Common.{bit_or}
 use Rattle.std.proofs.Common.{Option, Some, None, IsSomeAnd, slice_get}
-use Rattle.std.specs.Prelude.{unwrap_or}
-use Rattle.std.specs.Option.{option_map}
 use Rattle.std.specs.Int.{bit_at}
 use Rattle.std.proofs.lemmas.Nat.Bits.{bit_at_and, bit_at_or, bit_at-zero}
-use Rattle.std.proofs.lemmas.Option.{slice_get-map}
 use Rattle.js_base.specs.declared.ids.FieldId.{FieldId}
 use Rattle.js_base.specs.declared.ids.VarId.{VarId}
 use Rattle.js_base.proofs.BitLemmas.{is_bit}
@@ -16,11 +13,7 @@ use Rattle.label_lattice.specs.Label.{IntegFlows}
 use Rattle.label_lattice.specs.Lattice.{join_of, meet_of, empty_label}
 use Rattle.label_lattice.proofs.Decisions.{integ_flows}
 use Rattle.jif_tree.specs.Altered.{Exposure, IsAffected, FieldIsAffected, VariableIsAffected}
-use Rattle.jif_tree.specs.LabelRules.{VariableLabels, variable_label, field_label, crossed}
-use Rattle.jif_tree.specs.Labelling.{IsLabelled}
-use Rattle.jif_tree.specs.Trees.{ProgramTree, FieldTree}
-use Rattle.jif_tree.specs.WellNumbered.{HasField}
-use Rattle.jif_tree.proofs.LabelsKept.{Stay}
+use Rattle.jif_tree.specs.LabelRules.{crossed}
 use Rattle.source_law.proofs.Lists.{any_also}
 
 -- ---- labels

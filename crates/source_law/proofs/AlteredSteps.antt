@@ -154,7 +154,6 @@ module _ (program : Program) (exposure : Exposure) (steady : IsSteadyProgram pro
         ends = λ end. let none : [] ≡ item ∷ items = sym end ∙ is in absurd (cc);
       }
 
-
 -- ---- the plain run keeps up
 
 pub steps_joined : (program : Program) (more n : ℕ) (c : Configuration) →

@@ -1,22 +1,24 @@
 -- A program whose labels are followed while it is gone through: what may be affected of it by these labels, and by those
 -- that an exposure has, which are the ones behind all of it.
 use Rattle.std.proofs.Common.{◌≡◌, ◌∙◌, ap, sym, subst, ℕ, List, map, length, Option, Some, None, IsSomeAnd, slice_get}
-use Rattle.std.specs.Prelude.{unwrap_or}
+use Rattle.std.specs.Prelude.{unwrap_or, slice_index}
 use Rattle.std.specs.Option.{option_map}
 use Rattle.std.proofs.lemmas.Option.{slice_get-map}
 use Rattle.js_base.specs.declared.ids.FieldId.{FieldId}
 use Rattle.js_base.specs.declared.ids.VarId.{VarId}
 use Rattle.js_base.specs.declared.ids.MethodId.{MethodId}
+use Rattle.principals.specs.ActsFor.{Declared}
 use Rattle.label_lattice.specs.declared.label.Label.{Label}
 use Rattle.label_lattice.specs.Lattice.{empty_label}
 use Rattle.jif_tree.specs.declared.program.Program.{Program}
 use Rattle.jif_tree.specs.Altered.{Exposure, IsAffected, FieldIsAffected, VariableIsAffected}
 use Rattle.jif_tree.specs.LabelRules.{VariableLabels, declared_labels, variable_label, field_label}
 use Rattle.jif_tree.specs.Labelling.{IsLabelled, IsLabelledIfAny}
-use Rattle.jif_tree.specs.Trees.{FieldTree, MethodTree, program_tree}
-use Rattle.jif_tree.specs.WellNumbered.{HasField, HasOptionalVariable}
+use Rattle.jif_tree.specs.Trees.{BlockTree, FieldTree, MethodTree, program_tree}
+use Rattle.jif_tree.specs.WellNumbered.{HasField, HasOptionalVariable, IsBlockIn, is_some}
 use Rattle.jif_tree.proofs.LabelsKept.{Stay}
 use Rattle.need_labels.specs.Labelled.{Labelled}
+use Rattle.need_labels.specs.Needs.{StatementUse, IsNeed}
 
 -- A program with the program labels of its statements, and what some hosts may affect of it: by the labels of its
 -- fields, and by those that its variables have behind all of it. Each result has a declared label.
@@ -36,10 +38,18 @@ pub record OwnMethod (program : Program) : Type 0 where
   pub id : MethodId
   pub result : HasOptionalVariable (program_tree program) id tree.result
 
+-- a block stands in it
+abbrev pub IsBlockOf : (program : Program) → OwnMethod program → BlockTree → Type 0
+IsBlockOf program own block = IsBlockIn (program_tree program) own.id (is_some own.tree.result) block
+
 -- the program with its labels, as needs see it
 abbrev pub labelled_in : (program : Program) → ExposedProgram program → Labelled
 labelled_in program scene =
     record { program = program_tree program; var_labels = scene.exposure.variables; pc = scene.pc }
+
+-- a statement's need is what backs it
+abbrev pub IsNeeded : Declared → (program : Program) → ExposedProgram program → StatementUse → Type 0
+IsNeeded principals program scene one = IsNeed principals one.backing (slice_index scene.exposure.needs one.id.0)
 
 module _ (program : Program) (scene : ExposedProgram program) where
   -- ---- variables

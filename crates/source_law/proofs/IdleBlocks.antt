@@ -1,5 +1,5 @@
 -- Under a program label that may be affected all statements are idle.
-use Rattle.std.proofs.Common.{◌≡◌, ◌∙◌, ap, refl, sym, subst, inl, inr, ℕ, Bool, List, [], ◌∷◌, ◌++◌, length, map}
+use Rattle.std.proofs.Common.{◌≡◌, ◌∙◌, ap, refl, sym, subst, inl, inr, ℕ, Bool, ◌++◌, length, map}
 use Rattle.std.proofs.Common.{Option, Some, None, IsSomeAnd, IfSome, slice_get, arith}
 use Rattle.std.specs.Prelude.{unwrap_or, ⊤}
 use Rattle.std.proofs.Common.{true≢false}
@@ -26,12 +26,12 @@ use Rattle.jif_tree.specs.LabelRules.{labels_after, labels_after_assignment, blo
 use Rattle.jif_tree.specs.LabelRules.{params_of, result_of}
 use Rattle.jif_tree.specs.LabelRules.{flow_of, return_flows}
 use Rattle.jif_tree.specs.Labelling.{IsLabelledIfAny, AreLabelled}
-use Rattle.jif_tree.specs.WellNumbered.{HasVariable, HasMethod, IsBlockIn, is_some}
+use Rattle.jif_tree.specs.WellNumbered.{HasVariable, HasMethod, is_some}
 use Rattle.jif_tree.proofs.LabelsKept.{Stay, stay_then, assignment_stays, block_stays, assigned_labelled}
 use Rattle.source_law.specs.Steady.{AreIdle, BeginIsAffected}
 use Rattle.source_law.proofs.Lists.{all_first, all_second}
 use Rattle.source_law.proofs.AffectedLabels.{affected_up, integ_first, integ_second}
-use Rattle.source_law.proofs.ExposedPrograms.{ExposedProgram, OwnMethod, variable_affected, field_affected}
+use Rattle.source_law.proofs.ExposedPrograms.{ExposedProgram, OwnMethod, IsBlockOf, variable_affected, field_affected}
 
 -- ---- what is found
 
@@ -105,20 +105,8 @@ module _ (principals : Declared) (program : Program) (scene : ExposedProgram pro
   abbrev exposure : Exposure
   exposure = scene.exposure
 
-  abbrev final : VariableLabels
-  final = scene.final
-
-  abbrev tree : MethodTree
-  tree = own.tree
-
-  abbrev method : MethodId
-  method = own.id
-
-  abbrev gives : Bool
-  gives = is_some own.tree.result
-
   abbrev setting : MethodSetting
-  setting = setting_of principals (program_tree program) tree
+  setting = setting_of principals (program_tree program) own.tree
 
   -- what a flow under the program label reaches
   flow_affected : (pc from to : Label) → Holds principals (flow_of pc from to) → IsAffected exposure.bad pc →
@@ -127,7 +115,7 @@ module _ (principals : Declared) (program : Program) (scene : ExposedProgram pro
       affected_up exposure.bad (join_of from pc) to holds.1
       (affected_up exposure.bad pc (join_of from pc) (integ_second from pc) far)
 
-  into_affected : (pc : Label) (labels : VariableLabels) → Stay labels final → (result into : Option VarId) →
+  into_affected : (pc : Label) (labels : VariableLabels) → Stay labels scene.final → (result into : Option VarId) →
       KeepsOne result into → IsLabelledIfAny labels into → AllByRecursion (Holds principals) (result_flows pc labels
       result into) →
       IsAffected exposure.bad pc → IfSome into (VariableIsAffected exposure)
@@ -138,17 +126,17 @@ module _ (principals : Declared) (program : Program) (scene : ExposedProgram pro
       (flow_affected pc (variable_label labels result) (variable_label labels x) holds.0 far)
 
   pub row_idle : (pc : Label) (labels : VariableLabels) → length labels ≡ length (program_tree program).vars →
-      {n : _} → (row : kind.Row_of-Stmt n) → Stay (labels_after setting pc labels (row_tree row)) final →
-      IsBlockIn (program_tree program) method gives (row_tree row) → AreLabelled setting pc labels (row_tree row) →
+      {n : _} → (row : kind.Row_of-Stmt n) → Stay (labels_after setting pc labels (row_tree row)) scene.final →
+      IsBlockOf program own (row_tree row) → AreLabelled setting pc labels (row_tree row) →
       AllByRecursion (IsMet principals) (block_labels setting pc labels (row_tree row)) →
-      IsAffected exposure.bad pc → AreIdle program exposure tree.result row
+      IsAffected exposure.bad pc → AreIdle program exposure own.tree.result row
   row_idle pc labels many kind.end_of-Stmt stay there has met far = tt
   row_idle pc labels many (kind.more_of-Stmt id line (kind.Let x value) rest) stay there has met far =
       let from = expr_label setting pc labels (expr_tree value) in
       let after = labels_after_assignment labels x (join_of from pc) in
-      let later = stay_then after (labels_after setting pc after (row_tree rest)) final
+      let later = stay_then after (labels_after setting pc after (row_tree rest)) scene.final
       (block_stays setting pc after (row_tree rest)) stay in
-      let found = variable_found (program_tree program) method x labels many there.0 in
+      let found = variable_found (program_tree program) own.id x labels many there.0 in
       let own = assigned_labelled labels x (join_of from pc) found.0 found.1 in
       let flows = (all_second (Holds principals) (expr_constraints setting pc labels (expr_tree value)) _ met.0).0 in (
         variable_affected program scene after later x own
@@ -175,9 +163,9 @@ module _ (principals : Declared) (program : Program) (scene : ExposedProgram pro
       let behind = labels_after setting inside between (row_tree second) in
       let first_stays = block_stays setting inside labels (row_tree first) in
       let second_stays = block_stays setting inside between (row_tree second) in
-      let rest_stays = stay_then behind (labels_after setting pc behind (row_tree rest)) final
+      let rest_stays = stay_then behind (labels_after setting pc behind (row_tree rest)) scene.final
       (block_stays setting pc behind (row_tree rest)) stay in
-      let from_first = stay_then between behind final second_stays rest_stays in
+      let from_first = stay_then between behind scene.final second_stays rest_stays in
       let labels_one = block_labels setting inside labels (row_tree first) in
       let labels_two = block_labels setting inside between (row_tree second) in
       let both = all_first (IsMet principals) (labels_one ++ labels_two) _ met.1 in
@@ -196,7 +184,7 @@ module _ (principals : Declared) (program : Program) (scene : ExposedProgram pro
       let inside = guarded setting pc labels (expr_tree guard) in
       let behind = labels_after setting inside labels (row_tree body) in
       let body_stays = block_stays setting inside labels (row_tree body) in
-      let rest_stays = stay_then behind (labels_after setting pc behind (row_tree rest)) final
+      let rest_stays = stay_then behind (labels_after setting pc behind (row_tree rest)) scene.final
       (block_stays setting pc behind (row_tree rest)) stay in
       let labels_one = block_labels setting inside labels (row_tree body) in
       let up = affected_up exposure.bad pc inside
@@ -209,7 +197,7 @@ module _ (principals : Declared) (program : Program) (scene : ExposedProgram pro
   row_idle pc labels many (kind.more_of-Stmt id line (kind.Call site called args into) rest) stay there has met far =
       let exprs = map expr_tree args.items in
       let found = method_at (program_tree program) called in
-      let stays = stay_then labels (labels_after setting pc labels (row_tree rest)) final
+      let stays = stay_then labels (labels_after setting pc labels (row_tree rest)) scene.final
       (block_stays setting pc labels (row_tree rest)) stay in
       let asked = all_second (Holds principals) (flat_map (expr_constraints setting pc labels) exprs) _ met.0 in
       let kept = all_second (Holds principals) (argument_flows setting pc labels exprs (params_of found)) _ asked.1 in (
@@ -223,17 +211,17 @@ module _ (principals : Declared) (program : Program) (scene : ExposedProgram pro
         row_idle pc labels many rest stay there.3 has.2 met.1 far,
       )
   row_idle pc labels many (kind.more_of-Stmt id line (kind.Return value) rest) stay there has met far =
-      let stays = stay_then labels (labels_after setting pc labels (row_tree rest)) final
+      let stays = stay_then labels (labels_after setting pc labels (row_tree rest)) scene.final
       (block_stays setting pc labels (row_tree rest)) stay in
       let holds = all_second (Holds principals) (expr_constraints setting pc labels (expr_tree value)) _ met.0 in (
-        by tree.result refl has.0 stays holds,
+        by own.tree.result refl has.0 stays holds,
         row_idle pc labels many rest stay there.2 has.1 met.1 far,
       )
     where
-      by : (result : Option VarId) → tree.result ≡ result → IsLabelledIfAny labels tree.result → Stay labels final →
+      by : (result : Option VarId) → own.tree.result ≡ result → IsLabelledIfAny labels own.tree.result → Stay labels scene.final →
           AllByRecursion (Holds principals)
-          (return_flows pc labels tree.result (expr_label setting pc labels (expr_tree value))) →
-          IfSome tree.result (VariableIsAffected exposure)
+          (return_flows pc labels own.tree.result (expr_label setting pc labels (expr_tree value))) →
+          IfSome own.tree.result (VariableIsAffected exposure)
       by None none own stays holds = rw none tt
       by (Some x) is own stays holds =
           let P : Option VarId → Type 0 = λ it. IsLabelledIfAny labels it in

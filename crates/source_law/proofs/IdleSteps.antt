@@ -1,6 +1,6 @@
 -- A step of an idle item changes only what may be affected, and leaves idle items.
-use Rattle.std.proofs.Common.{◌≡◌, ◌≢◌, ap, refl, sym, subst, ℕ, zero, suc, ℤ, pos, List, [], ◌∷◌, ◌++◌}
-use Rattle.std.proofs.Common.{length, map, append_assoc, Option, Some, None, IsSomeAnd, IfSome, slice_get, slice_set}
+use Rattle.std.proofs.Common.{◌≡◌, ap, refl, sym, subst, ℕ, ℤ, pos, List, [], ◌∷◌, ◌++◌}
+use Rattle.std.proofs.Common.{length, map, append_assoc, Option, Some, None, IsSomeAnd, IfSome, slice_get}
 use Rattle.std.proofs.Common.{Bool, true, false, if◌then◌else◌}
 use Rattle.std.specs.Prelude.{unwrap_or}
 use Rattle.std.specs.List.{AllByRecursion}

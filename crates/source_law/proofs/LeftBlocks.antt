@@ -1,5 +1,5 @@
 -- A statement that may be left out is idle: whoever has to trust its host trusts all that it changes.
-use Rattle.std.proofs.Common.{◌≡◌, ◌∙◌, ap, refl, sym, subst, inl, inr, ℕ, ◌<◌, Bool, List, [], ◌∷◌, ◌++◌, length, map}
+use Rattle.std.proofs.Common.{◌≡◌, ◌∙◌, ap, refl, sym, subst, inl, inr, ℕ, ◌<◌, List, [], ◌∷◌, ◌++◌, map}
 use Rattle.std.proofs.Common.{Any}
 use Rattle.std.proofs.Common.{Option, Some, None, IsSomeAnd, IfSome, slice_get}
 use Rattle.std.specs.Prelude.{unwrap_or}
@@ -8,7 +8,6 @@ use Rattle.std.proofs.lemmas.Option.{slice_get-map}
 use Rattle.std.proofs.lemmas.List.{length-map}
 use Rattle.std.proofs.lemmas.List.Concat.{flat_map-append}
 use Rattle.js_base.specs.declared.ids.VarId.{VarId}
-use Rattle.js_base.specs.declared.ids.MethodId.{MethodId}
 use Rattle.principals.specs.ActsFor.{Declared}
 use Rattle.label_lattice.specs.declared.label.Label.{Label}
 use Rattle.label_lattice.specs.declared.label.TheConstants.{READERS}
@@ -18,11 +17,11 @@ use Rattle.jif_tree.specs.declared.program.Program.{Program}
 use Rattle.jif_tree.specs.declared.program.StmtKind.{StmtKind}
 use Rattle.jif_tree.specs.declared.program.StmtKind as kind
 use Rattle.jif_tree.specs.Altered.{Exposure, IsAffected, VariableIsAffected}
-use Rattle.jif_tree.specs.Trees.{Heading, BlockTree, ExprTree, MethodTree, expr_tree, row_tree, statement_tree}
+use Rattle.jif_tree.specs.Trees.{Heading, BlockTree, ExprTree, expr_tree, row_tree, statement_tree}
 use Rattle.jif_tree.specs.Trees.{program_tree}
-use Rattle.jif_tree.specs.LabelRules.{MethodSetting, VariableLabels, setting_of, field_label, method_at, begin_label}
+use Rattle.jif_tree.specs.LabelRules.{MethodSetting, setting_of, field_label, method_at, begin_label}
 use Rattle.jif_tree.specs.LabelRules.{params_of}
-use Rattle.jif_tree.specs.WellNumbered.{HasVariable, HasOptionalVariable, IsBlockIn, is_some}
+use Rattle.jif_tree.specs.WellNumbered.{HasVariable, HasOptionalVariable}
 use Rattle.need_labels.specs.Labelled.{Labelled, all_labels}
 use Rattle.need_labels.specs.Needs.{Backing, for_label, Backs, StatementUse, for_releases, block_uses, all_backing}
 use Rattle.need_labels.specs.Needs.{label_of}
@@ -30,7 +29,7 @@ use Rattle.need_labels.specs.Needs.{labels_of, IsNeed}
 use Rattle.need_labels.proofs.Somewhere.{any_here, any_later, any_first, any_none, any_left, any_right}
 use Rattle.source_law.specs.Steady.{IsIdle, AreIdle}
 use Rattle.source_law.proofs.Lists.{any_also}
-use Rattle.source_law.proofs.ExposedPrograms.{ExposedProgram, OwnMethod, labelled_in, field_affected}
+use Rattle.source_law.proofs.ExposedPrograms.{ExposedProgram, OwnMethod, IsBlockOf, labelled_in, field_affected}
 use Rattle.source_law.proofs.IdleBlocks.{begin_affected, variable_found}
 
 -- ---- who affects what
@@ -64,31 +63,19 @@ module _ (principals : Declared) (program : Program) (scene : ExposedProgram pro
   abbrev exposure : Exposure
   exposure = scene.exposure
 
-  abbrev final : VariableLabels
-  final = scene.final
-
-  abbrev tree : MethodTree
-  tree = own.tree
-
-  abbrev method : MethodId
-  method = own.id
-
-  abbrev gives : Bool
-  gives = is_some own.tree.result
-
   abbrev labelled : Labelled
   labelled = labelled_in program scene
 
   abbrev setting : MethodSetting
-  setting = setting_of principals (program_tree program) tree
+  setting = setting_of principals (program_tree program) own.tree
 
   abbrev Far : List Backing → Type 0
   Far backing = AffectsAll principals exposure.bad backing
 
-  shown : (x : VarId) → HasVariable (program_tree program) method x →
+  shown : (x : VarId) → HasVariable (program_tree program) own.id x →
       IsAffected exposure.bad (label_of labelled x) → VariableIsAffected exposure x
   shown x has far =
-      let found = variable_found (program_tree program) method x (all_labels labelled)
+      let found = variable_found (program_tree program) own.id x (all_labels labelled)
       (length-map exposure.variables Some ∙ scene.many) has in
       at found.0 found.1 (slice_get exposure.variables x.0) refl
     where
@@ -154,11 +141,11 @@ module _ (principals : Declared) (program : Program) (scene : ExposedProgram pro
       map for_label (begin_label found ∷ map (label_of labelled) (params_of found) ++ labels_of labelled into)
       ++ for_releases setting (map expr_tree args.items) ++ []
   own_backing (kind.Return value) =
-      map for_label (labels_of labelled tree.result) ++ for_releases setting (expr_tree value ∷ []) ++ []
+      map for_label (labels_of labelled own.tree.result) ++ for_releases setting (expr_tree value ∷ []) ++ []
 
   rest_in : (what : StmtKind) (heading : Heading) (rest : BlockTree) →
-      IsBlockIn (program_tree program) method gives (statement_tree what heading rest) →
-      IsBlockIn (program_tree program) method gives rest
+      IsBlockOf program own (statement_tree what heading rest) →
+      IsBlockOf program own rest
   rest_in (kind.Let x value) heading rest there = there.2
   rest_in (kind.SetField field value) heading rest there = there.2
   rest_in (kind.SetElement field index value) heading rest there = there.3
@@ -199,7 +186,7 @@ module _ (principals : Declared) (program : Program) (scene : ExposedProgram pro
   parts (kind.Return value) heading rest far =
       both_parts (own_backing (kind.Return value)) [] (block_uses labelled setting rest) far
 
-  if_any : (x : Option VarId) → HasOptionalVariable (program_tree program) method x →
+  if_any : (x : Option VarId) → HasOptionalVariable (program_tree program) own.id x →
       ((label : Label) → Any (λ it. it ≡ label) (labels_of labelled x) → IsAffected exposure.bad label) →
       IfSome x (VariableIsAffected exposure)
   if_any None has each = tt
@@ -214,37 +201,37 @@ module _ (principals : Declared) (program : Program) (scene : ExposedProgram pro
 
   mutual
     pub what_left : (what : StmtKind) (heading : Heading) (rest : BlockTree) →
-        IsBlockIn (program_tree program) method gives (statement_tree what heading rest) →
-        HasOptionalVariable (program_tree program) method tree.result → Far (own_backing what) →
-        IsIdle program exposure tree.result what
-    what_left (kind.Let x value) heading rest there result far =
+        IsBlockOf program own (statement_tree what heading rest) →
+        Far (own_backing what) →
+        IsIdle program exposure own.tree.result what
+    what_left (kind.Let x value) heading rest there far =
         shown x there.0 (changes (label_of labelled x ∷ []) (expr_tree value ∷ []) [] (label_of labelled x)
         (λ p trusts. any_here (λ it. Trusts it p) (label_of labelled x) [] trusts) far)
-    what_left (kind.SetField field value) heading rest there result far =
+    what_left (kind.SetField field value) heading rest there far =
         field_affected program scene _ field there.0
         (changes (field_label (program_tree program) field ∷ []) (expr_tree value ∷ []) [] (field_label (program_tree
         program) field)
         (λ p trusts. any_here (λ it. Trusts it p) (field_label (program_tree program) field) [] trusts) far)
-    what_left (kind.SetElement field index value) heading rest there result far =
+    what_left (kind.SetElement field index value) heading rest there far =
         field_affected program scene _ field there.0
         (changes (field_label (program_tree program) field ∷ []) (expr_tree index ∷ expr_tree value ∷ []) []
         (field_label (program_tree program) field)
         (λ p trusts. any_here (λ it. Trusts it p) (field_label (program_tree program) field) [] trusts) far)
-    what_left (kind.If' guard m first n second) heading rest there result far =
+    what_left (kind.If' guard m first n second) heading rest there far =
         let one = block_uses labelled setting (row_tree first) in
         let two = block_uses labelled setting (row_tree second) in
         let inside = nested_far [] (expr_tree guard ∷ []) (all_backing (one ++ two)) far in
         let P : List Backing → Type 0 = λ list. Far list in
         let both = subst P (flat_map-append (λ (it : StatementUse). it.backing) one two) inside in (
-          row_left first there.1 result (part_affected principals exposure.bad _ (all_backing one)
+          row_left first there.1 (part_affected principals exposure.bad _ (all_backing one)
               (λ p some. any_left (Backs principals p) (all_backing one) (all_backing two) some) both),
-          row_left second there.2 result (part_affected principals exposure.bad _ (all_backing two)
+          row_left second there.2 (part_affected principals exposure.bad _ (all_backing two)
               (λ p some. any_right (Backs principals p) (all_backing one) (all_backing two) some) both),
         )
-    what_left (kind.While' guard m body) heading rest there result far =
-        row_left body there.1 result
+    what_left (kind.While' guard m body) heading rest there far =
+        row_left body there.1
         (nested_far [] (expr_tree guard ∷ []) (all_backing (block_uses labelled setting (row_tree body))) far)
-    what_left (kind.Call site called args into) heading rest there result far =
+    what_left (kind.Call site called args into) heading rest there far =
         let found = method_at (program_tree program) called in
         let params = map (label_of labelled) (params_of found) in
         let changed = begin_label found ∷ params ++ labels_of labelled into in
@@ -258,19 +245,18 @@ module _ (principals : Declared) (program : Program) (scene : ExposedProgram pro
               (any_right (λ it. Trusts it p) params (labels_of labelled into)
               (among label (labels_of labelled into) some p trusts))) far),
         )
-    what_left (kind.Return value) heading rest there result far =
-        if_any tree.result result (λ label some.
-        changes (labels_of labelled tree.result) (expr_tree value ∷ []) [] label (λ p trusts. among label (labels_of
-        labelled tree.result) some p trusts) far)
+    what_left (kind.Return value) heading rest there far =
+        if_any own.tree.result own.result (λ label some.
+        changes (labels_of labelled own.tree.result) (expr_tree value ∷ []) [] label (λ p trusts. among label (labels_of
+        labelled own.tree.result) some p trusts) far)
 
     pub row_left : {n : _} → (row : kind.Row_of-Stmt n) →
-        IsBlockIn (program_tree program) method gives (row_tree row) →
-        HasOptionalVariable (program_tree program) method tree.result →
-        Far (all_backing (block_uses labelled setting (row_tree row))) → AreIdle program exposure tree.result row
-    row_left kind.end_of-Stmt there result far = tt
-    row_left (kind.more_of-Stmt id line what rest) there result far =
+        IsBlockOf program own (row_tree row) →
+        Far (all_backing (block_uses labelled setting (row_tree row))) → AreIdle program exposure own.tree.result row
+    row_left kind.end_of-Stmt there far = tt
+    row_left (kind.more_of-Stmt id line what rest) there far =
         let heading : Heading = record { id = id; line = line } in
         let split = parts what heading (row_tree rest) far in (
-          what_left what heading (row_tree rest) there result split.0,
-          row_left rest (rest_in what heading (row_tree rest) there) result split.1,
+          what_left what heading (row_tree rest) there split.0,
+          row_left rest (rest_in what heading (row_tree rest) there) split.1,
         )

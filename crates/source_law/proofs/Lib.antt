@@ -14,5 +14,6 @@ pub mod AffectedLabels
 pub mod ExposedPrograms
 pub mod IdleBlocks
 pub mod LeftBlocks
+pub mod SteadyValues
 pub mod SteadyBlocks
 pub mod SteadyPrograms

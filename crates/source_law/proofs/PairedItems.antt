@@ -1,29 +1,22 @@
 -- A step of two items that are alike: the first is idle, or the step is the same on both sides.
-use Rattle.std.proofs.Common.{◌≡◌, ◌∙◌, ap, refl, sym, subst, inl, inr, ◌⊎◌, ⊎_elim, arith, ℕ, zero, suc, ◌-◌, ◌≤◌, ℤ}
-use Rattle.std.proofs.Common.{List, []}
-use Rattle.std.proofs.Common.{◌∷◌, length, map, Option, Some, None, IsSomeAnd, slice_get, append-nil}
-use Rattle.std.specs.Prelude.{slice_index}
-use Rattle.std.specs.List.Sorted.{IsNonDecreasing}
+use Rattle.std.proofs.Common.{◌≡◌, ◌∙◌, refl, sym, subst, inl, inr, ◌⊎◌, ⊎_elim, ℕ}
+use Rattle.std.proofs.Common.{List}
+use Rattle.std.proofs.Common.{◌∷◌, map, Option, Some, IsSomeAnd, slice_get}
 use Rattle.js_base.specs.declared.ids.VarId.{VarId}
 use Rattle.jif_tree.specs.declared.program.Program.{Program}
-use Rattle.jif_tree.specs.declared.program.Method.{Method}
 use Rattle.jif_tree.specs.declared.program.Stmt.{Stmt}
-use Rattle.jif_tree.specs.SourceRun.{Call, Item, run, keep, Configuration, method_at, result_of, body_of, main_body}
+use Rattle.jif_tree.specs.SourceRun.{Call, Item, run, keep, Configuration, method_at, result_of}
 use Rattle.jif_tree.specs.SourceRun.{after_item}
-use Rattle.jif_tree.specs.SourceRun.{prefix, IsAtEnd, HasLength, configuration_at_start, calls_after, variable}
+use Rattle.jif_tree.specs.SourceRun.{calls_after, variable}
 use Rattle.jif_tree.specs.SourceRun.{executed}
 use Rattle.jif_tree.specs.SourceRun.{operands, value_of}
-use Rattle.jif_tree.specs.Altered.{Exposure, VariableIsAffected, MayStep, MayBeLeft, Alters, steps}
-use Rattle.jif_tree.specs.Altered.{changes_field, changes_variable, leaves_out}
-use Rattle.source_law.specs.Steady.{IsSteady, IsSteadyProgram, AllSteady}
-use Rattle.source_law.specs.Related.{IsPair, IsInCall, ItemIsIdle, AreItemsAlike, AreAligned, ended, idles, other_idles}
-use Rattle.source_law.specs.Related.{alike}
-use Rattle.source_law.specs.Related.{AreRelated, AreMates, FieldsAgree}
+use Rattle.jif_tree.specs.Altered.{Exposure, VariableIsAffected, MayStep}
+use Rattle.source_law.specs.Steady.{IsSteady, IsSteadyProgram}
+use Rattle.source_law.specs.Related.{IsInCall, ItemIsIdle, AreItemsAlike, AreAligned}
+use Rattle.source_law.specs.Related.{AreRelated}
 use Rattle.source_law.proofs.CleanValues.{read_clean}
-use Rattle.source_law.proofs.KeptCalls.{set_affected}
-use Rattle.source_law.proofs.IdleSteps.{field_affected}
 use Rattle.source_law.proofs.PairedStatements.{paired_executed, set_related}
-use Rattle.source_law.proofs.CallPairs.{body_alike, values_agree}
+use Rattle.source_law.proofs.CallPairs.{values_agree}
 
 pub in_call : (program : Program) (calls : List Call) (call : ℕ) (made : Call) (Holds : Option VarId → Type 0) →
     slice_get calls call ≡ Some made → IsInCall program calls call Holds → Holds (result_of (method_at program
@@ -68,4 +61,3 @@ paired_steps program exposure steady c d next (keep i into result) (keep j onto 
     (set_related program exposure c d items more r rest i j into.0 may.0 (variable d.calls j result.0) same.0
     (read_clean (VariableIsAffected exposure result) _ may.0 clean may.1
     ∙ values_agree exposure r.pairs c d i j mates result clean)))))) same.3
-

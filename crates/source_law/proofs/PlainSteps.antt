@@ -1,5 +1,5 @@
 -- Each step of an altered run goes on with some steps of the plain run.
-use Rattle.std.proofs.Common.{◌≡◌, ◌∙◌, ap, refl, sym, subst, inl, ◌⊎◌, ⊎_elim, arith, ℕ, zero, suc, ◌+◌, ◌≤◌, ℤ, List}
+use Rattle.std.proofs.Common.{◌≡◌, ◌∙◌, ap, refl, sym, subst, inl, ⊎_elim, arith, ℕ, zero, suc, ◌+◌, ◌≤◌, List}
 use Rattle.std.proofs.Common.{[]}
 use Rattle.std.proofs.Common.{◌∷◌, map, IsSomeAnd}
 use Rattle.std.specs.List.{AllZip}

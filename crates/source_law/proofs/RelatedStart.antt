@@ -63,4 +63,3 @@ starts program exposure store steady = record {
     by (Some it) is =
         let Q : Option Method → Type 0 = λ found. AllSteady program exposure (result_of found) (body_of found) in
         bodies (main_body program) (subst Q (sym is) (steady.steady program.main.0 it is))
-

@@ -1,220 +1,55 @@
 -- The statements of a checked program that endorses nothing are steady.
-use Rattle.std.proofs.Common.{◌≡◌, ◌∙◌, ap, refl, subst, inl, inr, ◌⊎◌, ⊎_elim, ℕ, Bool, List, [], ◌∷◌, ◌++◌, length}
+use Rattle.std.proofs.Common.{◌≡◌, ◌∙◌, subst, inl, inr, ⊎_elim, ℕ, List, ◌++◌, length}
 use Rattle.std.proofs.Common.{map}
-use Rattle.std.proofs.Common.{Option, Some, None, IfSome, slice_get}
+use Rattle.std.proofs.Common.{Option, Some, None, IfSome}
 use Rattle.std.specs.Prelude.{slice_index}
-use Rattle.std.specs.Option.{option_map}
 use Rattle.std.specs.List.{AllByRecursion, flat_map}
-use Rattle.std.proofs.lemmas.Option.{slice_get-map}
 use Rattle.js_base.specs.declared.ids.StmtId.{StmtId}
 use Rattle.js_base.specs.declared.ids.VarId.{VarId}
-use Rattle.js_base.specs.declared.ids.MethodId.{MethodId}
-use Rattle.js_base.proofs.Decisions.{Decided}
 use Rattle.principals.specs.ActsFor.{Declared}
 use Rattle.label_lattice.specs.declared.label.Label.{Label}
 use Rattle.label_lattice.specs.Lattice.{join_of}
 use Rattle.jif_tree.specs.declared.program.Program.{Program}
-use Rattle.jif_tree.specs.declared.program.Method.{Method}
-use Rattle.jif_tree.specs.declared.program.Expr.{Expr}
-use Rattle.jif_tree.specs.declared.program.Expr as expr
 use Rattle.jif_tree.specs.declared.program.StmtKind.{StmtKind}
 use Rattle.jif_tree.specs.declared.program.StmtKind as kind
-use Rattle.jif_tree.specs.Altered.{Exposure, IsAffected, FieldIsAffected, VariableIsAffected, StatementIsAffected}
-use Rattle.jif_tree.specs.SourceRun as source
-use Rattle.jif_tree.specs.Trees.{BlockTree, MethodTree, expr_tree, row_tree, statement_tree, method_tree}
+use Rattle.jif_tree.specs.Altered.{Exposure, IsAffected, StatementIsAffected}
+use Rattle.jif_tree.specs.Trees.{BlockTree, expr_tree, row_tree, statement_tree}
 use Rattle.jif_tree.specs.Trees.{program_tree}
-use Rattle.jif_tree.specs.LabelRules.{MethodSetting, VariableLabels, setting_of, variable_label, field_label}
+use Rattle.jif_tree.specs.LabelRules.{MethodSetting, VariableLabels, setting_of, field_label}
 use Rattle.jif_tree.specs.LabelRules.{expr_label, guarded}
-use Rattle.jif_tree.specs.LabelRules.{Holds, expr_constraints, argument_flows, result_flows, labels_after}
+use Rattle.jif_tree.specs.LabelRules.{Holds, expr_constraints, argument_flows, labels_after}
 use Rattle.jif_tree.specs.LabelRules.{labels_after_assignment}
-use Rattle.jif_tree.specs.LabelRules.{block_labels, method_at, params_of, result_of, flow_of, return_flows}
+use Rattle.jif_tree.specs.LabelRules.{block_labels, method_at, params_of, result_of, return_flows}
 use Rattle.jif_tree.specs.LabelRules.{declared_labels}
-use Rattle.jif_tree.specs.Labelling.{IsLabelled, IsLabelledIfAny, AreLabelled}
-use Rattle.jif_tree.specs.ValueLabels.{IsExprLabelled, AreValuesLabelled}
-use Rattle.jif_tree.specs.WellNumbered.{IsExprIn, IsBlockIn, is_some}
+use Rattle.jif_tree.specs.Labelling.{IsLabelledIfAny, AreLabelled}
+use Rattle.jif_tree.specs.ValueLabels.{AreValuesLabelled}
 use Rattle.jif_tree.proofs.LabelsKept.{Stay, stay_then, assignment_stays, block_stays, assigned_labelled}
-use Rattle.jif_tree.proofs.LabelsKept.{labelled_later_if_any}
 use Rattle.need_labels.specs.Needs.{StatementUse, block_uses, IsNeed}
-use Rattle.source_law.specs.Steady.{IsClean, IsIdle, AreSteady, SetsWell, ArePassedWell, IsKeptWell}
-use Rattle.source_law.specs.Unendorsed.{IsUnendorsed, IsUnendorsedBlock}
-use Rattle.source_law.proofs.AffectedLabels.{affected_up, integ_first, integ_second, integ_crossed, variable_decided}
-use Rattle.source_law.proofs.AffectedLabels.{field_decided}
-use Rattle.source_law.proofs.ExposedPrograms.{ExposedProgram, OwnMethod, labelled_in, variable_affected, label_affected}
-use Rattle.source_law.proofs.ExposedPrograms.{field_affected, field_label_affected}
+use Rattle.source_law.specs.Steady.{IsIdle, AreSteady, SetsWell, ArePassedWell, IsKeptWell}
+use Rattle.source_law.specs.Unendorsed.{IsUnendorsedBlock}
+use Rattle.source_law.proofs.AffectedLabels.{affected_up, integ_first, integ_second}
+use Rattle.source_law.proofs.ExposedPrograms.{ExposedProgram, OwnMethod, IsNeeded, IsBlockOf, labelled_in}
+use Rattle.source_law.proofs.ExposedPrograms.{field_affected}
 use Rattle.source_law.proofs.Lists.{all_first, all_second}
 use Rattle.source_law.proofs.IdleBlocks.{IsMet, variable_found, row_idle}
 use Rattle.source_law.proofs.LeftBlocks.{from_need, what_left, own_backing}
-
--- ---- methods
-
-pub params_same : (program : Program) (method : MethodId) →
-    params_of (method_at (program_tree program) method) ≡ source.params_of (source.method_at program method.0)
-params_same program method =
-    ap params_of (slice_get-map method_tree program.methods.items method.0) ∙ by (slice_get program.methods.items
-    method.0)
-  where
-    by : (found : Option Method) → params_of (option_map method_tree found) ≡ source.params_of found
-    by None = refl
-    by (Some it) = refl
-
-pub result_same : (program : Program) (method : MethodId) →
-    result_of (method_at (program_tree program) method) ≡ source.result_of (source.method_at program method.0)
-result_same program method =
-    ap result_of (slice_get-map method_tree program.methods.items method.0) ∙ by (slice_get program.methods.items
-    method.0)
-  where
-    by : (found : Option Method) → result_of (option_map method_tree found) ≡ source.result_of found
-    by None = refl
-    by (Some it) = refl
-
--- ---- blocks
+use Rattle.source_law.proofs.SteadyValues.{params_same, result_same, clean_or_affected, flow_reaches, sets_well}
+use Rattle.source_law.proofs.SteadyValues.{passed_well, kept_well, result_labelled}
 
 module _ (principals : Declared) (program : Program) (scene : ExposedProgram program) (own : OwnMethod program) where
   abbrev exposure : Exposure
   exposure = scene.exposure
 
-  abbrev final : VariableLabels
-  final = scene.final
-
-  abbrev tree : MethodTree
-  tree = own.tree
-
-  abbrev method : MethodId
-  method = own.id
-
-  abbrev gives : Bool
-  gives = is_some own.tree.result
-
   abbrev setting : MethodSetting
-  setting = setting_of principals (program_tree program) tree
-
-  abbrev pub IsNeeded : StatementUse → Type 0
-  IsNeeded one = IsNeed principals one.backing (slice_index exposure.needs one.id.0)
-
-  -- a value is clean, or its label may be affected
-  clean_or_far : (pc : Label) (labels : VariableLabels) → Stay labels final → (e : Expr) →
-      IsUnendorsed (expr_tree e) → IsExprIn (program_tree program) method (expr_tree e) →
-      IsExprLabelled labels (expr_tree e) →
-      IsClean exposure e ⊎ IsAffected exposure.bad (expr_label setting pc labels (expr_tree e))
-  clean_or_far pc labels stay (expr.Number n) pure there has = inl tt
-  clean_or_far pc labels stay (expr.Local x) pure there has = by (variable_decided exposure x)
-    where
-      by : Decided (VariableIsAffected exposure x) →
-          (¬ VariableIsAffected exposure x) ⊎ IsAffected exposure.bad (variable_label labels x)
-      by (inl far) = inr (label_affected program scene labels stay x has far)
-      by (inr never) = inl never
-  clean_or_far pc labels stay (expr.Scalar field) pure there has = by (field_decided exposure field)
-    where
-      by : Decided (FieldIsAffected exposure field) →
-          (¬ FieldIsAffected exposure field) ⊎ IsAffected exposure.bad (field_label (program_tree program) field)
-      by (inl far) = inr (field_label_affected program scene _ field there far)
-      by (inr never) = inl never
-  clean_or_far pc labels stay (expr.Element' field p index) pure there has =
-      by (field_decided exposure field) (clean_or_far pc labels stay index pure there.1 has)
-    where
-      asked : Label
-      asked = expr_label setting pc labels (expr_tree index)
-
-      by : Decided (FieldIsAffected exposure field) → IsClean exposure index ⊎ IsAffected exposure.bad asked →
-          ((¬ FieldIsAffected exposure field) × IsClean exposure index)
-          ⊎ IsAffected exposure.bad (join_of (field_label (program_tree program) field) asked)
-      by (inl far) other = inr (affected_up exposure.bad (field_label (program_tree program) field) (join_of
-          (field_label (program_tree program) field) asked)
-          (integ_first (field_label (program_tree program) field) asked)
-          (field_label_affected program scene _ field there.0 far))
-      by (inr never) (inl clean) = inl (never, clean)
-      by (inr never) (inr far) = inr (affected_up exposure.bad asked (join_of (field_label (program_tree program)
-          field) asked)
-          (integ_second (field_label (program_tree program) field) asked) far)
-  clean_or_far pc labels stay (expr.Not' p operand) pure there has =
-      clean_or_far pc labels stay operand pure there has
-  clean_or_far pc labels stay (expr.Negate' p operand) pure there has =
-      clean_or_far pc labels stay operand pure there has
-  clean_or_far pc labels stay (expr.Binary' operator p left q right) pure there has =
-      by (clean_or_far pc labels stay left pure.0 there.0 has.0) (clean_or_far pc labels stay right pure.1 there.1
-      has.1)
-    where
-      one : Label
-      one = expr_label setting pc labels (expr_tree left)
-
-      two : Label
-      two = expr_label setting pc labels (expr_tree right)
-
-      by : IsClean exposure left ⊎ IsAffected exposure.bad one → IsClean exposure right ⊎ IsAffected exposure.bad two →
-          (IsClean exposure left × IsClean exposure right) ⊎ IsAffected exposure.bad (join_of one two)
-      by (inl clean) (inl also) = inl (clean, also)
-      by (inr far) other = inr (affected_up exposure.bad one (join_of one two) (integ_first one two) far)
-      by (inl clean) (inr far) = inr (affected_up exposure.bad two (join_of one two) (integ_second one two) far)
-  clean_or_far pc labels stay (expr.Declassify' p inner label) pure there has =
-      ⊎_elim (λ clean. inl clean) (λ far. inr (affected_up exposure.bad
-      (expr_label setting pc labels (expr_tree inner))
-      (expr_label setting pc labels (expr_tree (expr.Declassify' p inner label)))
-      (integ_crossed (join_of label.value pc) (expr_label setting pc labels (expr_tree inner))) far))
-      (clean_or_far pc labels stay inner pure there has)
-  clean_or_far pc labels stay (expr.Endorse' p inner label) pure there has = absurd pure
-
-  -- what a value reaches that may be affected
-  flow_reaches : (pc from to : Label) → Holds principals (flow_of pc from to) → IsAffected exposure.bad from →
-      IsAffected exposure.bad to
-  flow_reaches pc from to holds far =
-      affected_up exposure.bad (join_of from pc) to holds.1
-      (affected_up exposure.bad from (join_of from pc) (integ_first from pc) far)
-
-  sets_well : (pc : Label) (labels later : VariableLabels) → Stay labels final → Stay later final → (x : VarId) →
-      IsLabelled later x → (e : Expr) → IsUnendorsed (expr_tree e) →
-      IsExprIn (program_tree program) method (expr_tree e) → IsExprLabelled labels (expr_tree e) →
-      Holds principals (flow_of pc (expr_label setting pc labels (expr_tree e)) (variable_label later x)) →
-      SetsWell exposure x e
-  sets_well pc labels later stay stays x x_has e pure there has flows =
-      ⊎_elim (λ clean. inr clean) (λ far. inl (variable_affected program scene later
-      stays x
-      x_has (flow_reaches pc (expr_label setting pc labels (expr_tree e)) (variable_label later x) flows far)))
-      (clean_or_far pc labels stay e pure there has)
-
-  passed_well : (pc : Label) (labels : VariableLabels) → Stay labels final → (params : List VarId) (args : List Expr) →
-      AllByRecursion (IsLabelled labels) params → AllByRecursion IsUnendorsed (map expr_tree args) →
-      AllByRecursion (IsExprIn (program_tree program) method) (map expr_tree args) →
-      AllByRecursion (IsExprLabelled labels) (map expr_tree args) →
-      AllByRecursion (Holds principals) (argument_flows setting pc labels (map expr_tree args) params) →
-      ArePassedWell exposure params args
-  passed_well pc labels stay [] args has pure there values holds = tt
-  passed_well pc labels stay (param ∷ params) [] has pure there values holds = tt
-  passed_well pc labels stay (param ∷ params) (arg ∷ args) has pure there values holds = (
-    sets_well pc labels labels stay stay param has.0 arg pure.0 there.0 values.0 holds.0,
-    passed_well pc labels stay params args has.1 pure.1 there.1 values.1 holds.1,
-  )
-
-  kept_well : (pc : Label) (labels : VariableLabels) → Stay labels final → (into result : Option VarId) →
-      IsLabelledIfAny labels into → IsLabelledIfAny labels result →
-      AllByRecursion (Holds principals) (result_flows pc labels result into) → IsKeptWell exposure into result
-  kept_well pc labels stay None result has also holds = tt
-  kept_well pc labels stay (Some x) None has also holds = tt
-  kept_well pc labels stay (Some x) (Some result) has also holds = by (variable_decided exposure result)
-    where
-      by : Decided (VariableIsAffected exposure result) →
-          VariableIsAffected exposure x ⊎ (¬ VariableIsAffected exposure result)
-      by (inl far) = inl (variable_affected program scene labels stay x has
-          (flow_reaches pc (variable_label labels result) (variable_label labels x) holds.0
-          (label_affected program scene labels stay result also far)))
-      by (inr never) = inr never
-
-  result_labelled : (labels : VariableLabels) → Stay (declared_labels (program_tree program)) labels →
-      (called : MethodId) → IsLabelledIfAny labels (result_of (method_at (program_tree program) called))
-  result_labelled labels since called = by (method_at (program_tree program) called) refl
-    where
-      by : (found : Option MethodTree) → method_at (program_tree program) called ≡ found →
-          IsLabelledIfAny labels (result_of found)
-      by None is = tt
-      by (Some it) is = labelled_later_if_any (declared_labels (program_tree program)) labels since it.result
-          (scene.results called.0 it is)
+  setting = setting_of principals (program_tree program) own.tree
 
   left : (id : StmtId) (line : ℕ) (what : StmtKind) (rest : BlockTree) →
-      IsBlockIn (program_tree program) method gives (statement_tree what (record { id = id; line = line }) rest) →
+      IsBlockOf program own (statement_tree what (record { id = id; line = line }) rest) →
       IsNeed principals (own_backing principals program scene own what) (slice_index exposure.needs id.0) →
-      StatementIsAffected exposure id → IsIdle program exposure tree.result what
+      StatementIsAffected exposure id → IsIdle program exposure own.tree.result what
   left id line what rest there need far =
       what_left principals program scene own what
-      (record { id = id; line = line }) rest there own.result
+      (record { id = id; line = line }) rest there
       (from_need principals exposure.bad _ (slice_index exposure.needs id.0) need far)
 
   abbrev Uses : BlockTree → List StatementUse
@@ -223,24 +58,24 @@ module _ (principals : Declared) (program : Program) (scene : ExposedProgram pro
 
   pub row_steady : (pc : Label) (labels : VariableLabels) → length labels ≡ length (program_tree program).vars →
       Stay (declared_labels (program_tree program)) labels → {n : _} → (row : kind.Row_of-Stmt n) →
-      Stay (labels_after setting pc labels (row_tree row)) final →
-      IsBlockIn (program_tree program) method gives (row_tree row) → AreLabelled setting pc labels (row_tree row) →
+      Stay (labels_after setting pc labels (row_tree row)) scene.final →
+      IsBlockOf program own (row_tree row) → AreLabelled setting pc labels (row_tree row) →
       AreValuesLabelled setting pc labels (row_tree row) → IsUnendorsedBlock (row_tree row) →
       AllByRecursion (IsMet principals) (block_labels setting pc labels (row_tree row)) →
-      AllByRecursion IsNeeded (Uses (row_tree row)) → AreSteady program exposure tree.result row
+      AllByRecursion (IsNeeded principals program scene) (Uses (row_tree row)) → AreSteady program exposure own.tree.result row
   row_steady pc labels many since kind.end_of-Stmt stay there has values pure met uses = tt
   row_steady pc labels many since (kind.more_of-Stmt id line (kind.Let x value) rest) stay there has values pure met
       uses =
       let from = expr_label setting pc labels (expr_tree value) in
       let after = labels_after_assignment labels x (join_of from pc) in
       let assigned = assignment_stays labels x (join_of from pc) in
-      let later = stay_then after (labels_after setting pc after (row_tree rest)) final
+      let later = stay_then after (labels_after setting pc after (row_tree rest)) scene.final
       (block_stays setting pc after (row_tree rest)) stay in
-      let found = variable_found (program_tree program) method x labels many there.0 in
+      let found = variable_found (program_tree program) own.id x labels many there.0 in
       let x_has = assigned_labelled labels x (join_of from pc) found.0 found.1 in
       let flows = (all_second (Holds principals) (expr_constraints setting pc labels (expr_tree value)) _ met.0).0 in (
         left id line (kind.Let x value) (row_tree rest) there uses.0,
-        sets_well pc labels after (stay_then labels after final assigned later) later x x_has value pure.0 there.1
+        sets_well principals program scene own pc labels after (stay_then labels after scene.final assigned later) later x x_has value pure.0 there.1
             values.0
             flows,
         row_steady pc after (assigned.many ∙ many)
@@ -253,13 +88,13 @@ module _ (principals : Declared) (program : Program) (scene : ExposedProgram pro
       met uses =
       let from = expr_label setting pc labels (expr_tree value) in
       let to = field_label (program_tree program) field in
-      let stays = stay_then labels (labels_after setting pc labels (row_tree rest)) final
+      let stays = stay_then labels (labels_after setting pc labels (row_tree rest)) scene.final
       (block_stays setting pc labels (row_tree rest)) stay in
       let flows = (all_second (Holds principals) (expr_constraints setting pc labels (expr_tree value)) _ met.0).0 in (
         left id line (kind.SetField field value) (row_tree rest) there uses.0,
         ⊎_elim (λ clean. inr clean) (λ far. inl (field_affected program scene _ field
             there.0
-            (flow_reaches pc from to flows far))) (clean_or_far pc labels stays value pure.0 there.1 values.0),
+            (flow_reaches principals program scene own pc from to flows far))) (clean_or_affected principals program scene own pc labels stays value pure.0 there.1 values.0),
         row_steady pc labels many since rest stay there.2 has values.1 pure.1 met.1 uses.1,
       )
   row_steady pc labels many since (kind.more_of-Stmt id line (kind.SetElement field index value) rest) stay there has
@@ -269,20 +104,20 @@ module _ (principals : Declared) (program : Program) (scene : ExposedProgram pro
       let first = expr_label setting pc labels (expr_tree index) in
       let second = expr_label setting pc labels (expr_tree value) in
       let to = field_label (program_tree program) field in
-      let stays = stay_then labels (labels_after setting pc labels (row_tree rest)) final
+      let stays = stay_then labels (labels_after setting pc labels (row_tree rest)) scene.final
       (block_stays setting pc labels (row_tree rest)) stay in
       let flows = (all_second (Holds principals) (one ++ two) _ met.0).0 in
       let reached = λ (far : IsAffected exposure.bad (join_of first second)).
       field_affected program scene _ field there.0
-      (flow_reaches pc (join_of first second) to flows far) in (
+      (flow_reaches principals program scene own pc (join_of first second) to flows far) in (
         left id line (kind.SetElement field index value) (row_tree rest) there uses.0,
         ⊎_elim (λ clean. ⊎_elim (λ also. inr (clean, also))
             (λ far. inl (reached (affected_up exposure.bad second (join_of first second) (integ_second first second)
             far)))
-            (clean_or_far pc labels stays value pure.1 there.2 values.1))
+            (clean_or_affected principals program scene own pc labels stays value pure.1 there.2 values.1))
             (λ far. inl (reached (affected_up exposure.bad first (join_of first second) (integ_first first second)
             far)))
-            (clean_or_far pc labels stays index pure.0 there.1 values.0),
+            (clean_or_affected principals program scene own pc labels stays index pure.0 there.1 values.0),
         row_steady pc labels many since rest stay there.3 has values.2 pure.2 met.1 uses.1,
       )
   row_steady pc labels many since (kind.more_of-Stmt id line (kind.If' guard m first k second) rest) stay there has
@@ -295,10 +130,10 @@ module _ (principals : Declared) (program : Program) (scene : ExposedProgram pro
       let behind = labels_after setting inside between (row_tree second) in
       let first_stays = block_stays setting inside labels (row_tree first) in
       let second_stays = block_stays setting inside between (row_tree second) in
-      let rest_stays = stay_then behind (labels_after setting pc behind (row_tree rest)) final
+      let rest_stays = stay_then behind (labels_after setting pc behind (row_tree rest)) scene.final
       (block_stays setting pc behind (row_tree rest)) stay in
-      let from_second = stay_then between behind final second_stays rest_stays in
-      let from_first = stay_then labels between final first_stays from_second in
+      let from_second = stay_then between behind scene.final second_stays rest_stays in
+      let from_first = stay_then labels between scene.final first_stays from_second in
       let since_second = stay_then declared labels between since first_stays in
       let labels_one = block_labels setting inside labels (row_tree first) in
       let labels_two = block_labels setting inside between (row_tree second) in
@@ -307,7 +142,7 @@ module _ (principals : Declared) (program : Program) (scene : ExposedProgram pro
       let both = all_first (IsMet principals) (labels_one ++ labels_two) _ met.1 in
       let one_met = all_first (IsMet principals) labels_one labels_two both in
       let two_met = all_second (IsMet principals) labels_one labels_two both in
-      let both_uses = all_first IsNeeded (uses_one ++ uses_two) _ uses.1 in (
+      let both_uses = all_first (IsNeeded principals program scene) (uses_one ++ uses_two) _ uses.1 in (
         left id line (kind.If' guard m first k second) (row_tree rest) there uses.0,
         (
           ⊎_elim (λ clean. inl clean) (λ far.
@@ -317,16 +152,16 @@ module _ (principals : Declared) (program : Program) (scene : ExposedProgram pro
                     there.1 has.0 one_met up,
                 row_idle principals program scene own inside between
                     (first_stays.many ∙ many) second rest_stays there.2 has.1 two_met up,
-              )) (clean_or_far pc labels from_first guard pure.0 there.0 values.0),
+              )) (clean_or_affected principals program scene own pc labels from_first guard pure.0 there.0 values.0),
           row_steady inside labels many since first from_second there.1 has.0 values.1 pure.1 one_met
-              (all_first IsNeeded uses_one uses_two both_uses),
+              (all_first (IsNeeded principals program scene) uses_one uses_two both_uses),
           row_steady inside between (first_stays.many ∙ many) since_second second rest_stays there.2 has.1 values.2
-              pure.2 two_met (all_second IsNeeded uses_one uses_two both_uses),
+              pure.2 two_met (all_second (IsNeeded principals program scene) uses_one uses_two both_uses),
         ),
         row_steady pc behind (second_stays.many ∙ first_stays.many ∙ many)
             (stay_then declared between behind since_second second_stays) rest stay there.3 has.2 values.3 pure.3
             (all_second (IsMet principals) (labels_one ++ labels_two) _ met.1)
-            (all_second IsNeeded (uses_one ++ uses_two) _ uses.1),
+            (all_second (IsNeeded principals program scene) (uses_one ++ uses_two) _ uses.1),
       )
   row_steady pc labels many since (kind.more_of-Stmt id line (kind.While' guard m body) rest) stay there has values
       pure met
@@ -336,9 +171,9 @@ module _ (principals : Declared) (program : Program) (scene : ExposedProgram pro
       let inside = guarded setting pc labels (expr_tree guard) in
       let behind = labels_after setting inside labels (row_tree body) in
       let body_stays = block_stays setting inside labels (row_tree body) in
-      let rest_stays = stay_then behind (labels_after setting pc behind (row_tree rest)) final
+      let rest_stays = stay_then behind (labels_after setting pc behind (row_tree rest)) scene.final
       (block_stays setting pc behind (row_tree rest)) stay in
-      let from_body = stay_then labels behind final body_stays rest_stays in
+      let from_body = stay_then labels behind scene.final body_stays rest_stays in
       let labels_one = block_labels setting inside labels (row_tree body) in
       let uses_one = Uses (row_tree body) in
       let one_met = all_first (IsMet principals) labels_one _ met.1 in (
@@ -347,13 +182,13 @@ module _ (principals : Declared) (program : Program) (scene : ExposedProgram pro
           ⊎_elim (λ clean. inl clean) (λ far. inr
               (row_idle principals program scene own inside labels many body rest_stays
               there.1 has.0 one_met (affected_up exposure.bad own_label inside (integ_second pc own_label) far)))
-              (clean_or_far pc labels from_body guard pure.0 there.0 values.0),
+              (clean_or_affected principals program scene own pc labels from_body guard pure.0 there.0 values.0),
           row_steady inside labels many since body rest_stays there.1 has.0 values.1 pure.1 one_met
-              (all_first IsNeeded uses_one _ uses.1),
+              (all_first (IsNeeded principals program scene) uses_one _ uses.1),
         ),
         row_steady pc behind (body_stays.many ∙ many) (stay_then declared labels behind since body_stays) rest stay
             there.2
-            has.1 values.2 pure.2 (all_second (IsMet principals) labels_one _ met.1) (all_second IsNeeded uses_one _
+            has.1 values.2 pure.2 (all_second (IsMet principals) labels_one _ met.1) (all_second (IsNeeded principals program scene) uses_one _
             uses.1),
       )
   row_steady pc labels many since (kind.more_of-Stmt id line (kind.Call site called args into) rest) stay there has
@@ -361,7 +196,7 @@ module _ (principals : Declared) (program : Program) (scene : ExposedProgram pro
       pure met uses =
       let exprs = map expr_tree args.items in
       let found = method_at (program_tree program) called in
-      let stays = stay_then labels (labels_after setting pc labels (row_tree rest)) final
+      let stays = stay_then labels (labels_after setting pc labels (row_tree rest)) scene.final
       (block_stays setting pc labels (row_tree rest)) stay in
       let asked = all_second (Holds principals) (flat_map (expr_constraints setting pc labels) exprs) _ met.0 in
       let flows = all_first (Holds principals) (argument_flows setting pc labels exprs (params_of found)) _ asked.1 in
@@ -371,26 +206,26 @@ module _ (principals : Declared) (program : Program) (scene : ExposedProgram pro
         left id line (kind.Call site called args into) (row_tree rest) there uses.0,
         (
           subst P (params_same program called)
-              (passed_well pc labels stays (params_of found) args.items has.0 pure.0 there.1 values.0 flows),
+              (passed_well principals program scene own pc labels stays (params_of found) args.items has.0 pure.0 there.1 values.0 flows),
           subst Q (result_same program called)
-              (kept_well pc labels stays into (result_of found) has.1 (result_labelled labels since called) kept),
+              (kept_well principals program scene own pc labels stays into (result_of found) has.1 (result_labelled principals program scene own labels since called) kept),
         ),
         row_steady pc labels many since rest stay there.3 has.2 values.1 pure.1 met.1 uses.1,
       )
   row_steady pc labels many since (kind.more_of-Stmt id line (kind.Return value) rest) stay there has values pure met
       uses =
-      let stays = stay_then labels (labels_after setting pc labels (row_tree rest)) final
+      let stays = stay_then labels (labels_after setting pc labels (row_tree rest)) scene.final
       (block_stays setting pc labels (row_tree rest)) stay in
       let holds = all_second (Holds principals) (expr_constraints setting pc labels (expr_tree value)) _ met.0 in (
         left id line (kind.Return value) (row_tree rest) there uses.0,
-        by tree.result stays has.0 holds,
+        by own.tree.result stays has.0 holds,
         row_steady pc labels many since rest stay there.2 has.1 values.1 pure.1 met.1 uses.1,
       )
     where
-      by : (result : Option VarId) → Stay labels final → IsLabelledIfAny labels result →
+      by : (result : Option VarId) → Stay labels scene.final → IsLabelledIfAny labels result →
           AllByRecursion (Holds principals) (return_flows pc labels result (expr_label setting pc labels (expr_tree
           value))) →
           IfSome result (λ x. SetsWell exposure x value)
       by None stays labelled_too holds = tt
       by (Some x) stays labelled_too holds =
-          sets_well pc labels labels stays stays x labelled_too value pure.0 there.1 values.0 holds.0
+          sets_well principals program scene own pc labels labels stays stays x labelled_too value pure.0 there.1 values.0 holds.0

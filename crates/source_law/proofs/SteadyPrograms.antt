@@ -1,9 +1,9 @@
 -- A checked program that endorses nothing is steady, whoever misbehaves.
-use Rattle.std.proofs.Common.{◌≡◌, ◌∙◌, ap, refl, sym, subst, ℕ, zero, suc, List, [], ◌∷◌, length, map}
-use Rattle.std.proofs.Common.{Some, slice_get, All}
+use Rattle.std.proofs.Common.{◌≡◌, ◌∙◌, ap, refl, sym, subst, ℕ, suc, List, [], ◌∷◌, length, map}
+use Rattle.std.proofs.Common.{Some, slice_get}
 use Rattle.std.specs.Prelude.{slice_index}
 use mathlib.Core.Former.{Count}
-use Rattle.std.specs.List.{AllByRecursion, AllZip, flat_map}
+use Rattle.std.specs.List.{AllByRecursion, flat_map}
 use Rattle.std.proofs.lemmas.List.{length-map}
 use Rattle.std.proofs.lemmas.List.Elements.{recursion_from_All}
 use Rattle.std.proofs.lemmas.Option.{get_or_from_slice_get}
@@ -22,7 +22,7 @@ use Rattle.jif_tree.specs.LabelRules.{VariableLabels, StatementLabels, setting_o
 use Rattle.jif_tree.specs.LabelRules.{Meets, obligations_of, labels_after, labels_after_methods, block_labels}
 use Rattle.jif_tree.specs.LabelRules.{methods_labels}
 use Rattle.jif_tree.specs.LabelRules.{program_labels, declared_labels}
-use Rattle.jif_tree.specs.Labelling.{IsLabelledIfAny, AreLabelled, AreLabelledMethods}
+use Rattle.jif_tree.specs.Labelling.{AreLabelled, AreLabelledMethods}
 use Rattle.jif_tree.specs.ValueLabels.{AreValuesLabelled, AreAllValuesLabelled}
 use Rattle.jif_tree.specs.WellNumbered.{IsBlockIn, AreMethodsIn, is_some}
 use Rattle.jif_tree.proofs.LabelsKept.{Stay, stay_same, stay_then, block_stays}
@@ -32,7 +32,7 @@ use Rattle.need_labels.proofs.Ordered.{use_numbered}
 use Rattle.source_law.specs.Checked.{IsChecked, exposed_to}
 use Rattle.source_law.specs.Steady.{AreIdle, AreSteady, AllIdle, AllSteady, IsSteadyProgram}
 use Rattle.source_law.specs.Unendorsed.{IsUnendorsedBlock, EndorsesNothing}
-use Rattle.source_law.proofs.ExposedPrograms.{ExposedProgram, OwnMethod, labelled_in}
+use Rattle.source_law.proofs.ExposedPrograms.{ExposedProgram, OwnMethod, IsNeeded, labelled_in}
 use Rattle.source_law.proofs.Lists.{all_first, all_second, each_there, one_there, zipped_there}
 use Rattle.source_law.proofs.IdleBlocks.{IsMet, row_idle}
 use Rattle.source_law.proofs.SteadyBlocks.{row_steady}
@@ -104,9 +104,6 @@ module _ (principals : Declared) (program : Program) (scene : ExposedProgram pro
   abbrev labelled : Labelled
   labelled = labelled_in program scene
 
-  abbrev IsNeeded : StatementUse → Type 0
-  IsNeeded one = IsNeed principals one.backing (slice_index exposure.needs one.id.0)
-
   -- of the methods from a place on, and the labels that variables have there
   methods_steady : (place : ℕ) (methods : List Method) (labels : VariableLabels) →
       length labels ≡ length (program_tree program).vars → Stay (declared_labels (program_tree program)) labels →
@@ -117,7 +114,7 @@ module _ (principals : Declared) (program : Program) (scene : ExposedProgram pro
       AllByRecursion (λ (method : MethodTree). IsUnendorsedBlock method.body) (map method_tree methods) →
       AllByRecursion (IsMet principals)
       (methods_labels principals (program_tree program) labels (map method_tree methods)) →
-      AllByRecursion IsNeeded (flat_map (method_uses principals labelled) (map method_tree methods)) →
+      AllByRecursion (IsNeeded principals program scene) (flat_map (method_uses principals labelled) (map method_tree methods)) →
       AllByRecursion (IsSteadyMethod program exposure) methods
   methods_steady place [] labels many since end there has values pure met uses = tt
   methods_steady place (method ∷ methods) labels many since end there has values pure met uses =
@@ -131,7 +128,7 @@ module _ (principals : Declared) (program : Program) (scene : ExposedProgram pro
       let labels_here = block_labels setting method.begin labels tree.body in
       let uses_here = block_uses labelled setting tree.body in
       let met_here = all_first (IsMet principals) labels_here _ met.1 in
-      let needed_here = all_first IsNeeded uses_here _ uses.1 in
+      let needed_here = all_first (IsNeeded principals program scene) uses_here _ uses.1 in
       let own : OwnMethod program = record { tree = tree; id = record { 0 = place }; result = there.0.result } in
       let back = sym (same_tree method.body.items) in
       let A : BlockTree → Type 0 = λ block. Stay (labels_after setting method.begin labels block) scene.final in
@@ -142,7 +139,7 @@ module _ (principals : Declared) (program : Program) (scene : ExposedProgram pro
       let E : BlockTree → Type 0 = λ block. IsUnendorsedBlock block in
       let F : BlockTree → Type 0 = λ block.
       AllByRecursion (IsMet principals) (block_labels setting method.begin labels block) in
-      let G : BlockTree → Type 0 = λ block. AllByRecursion IsNeeded (block_uses labelled setting block) in
+      let G : BlockTree → Type 0 = λ block. AllByRecursion (IsNeeded principals program scene) (block_uses labelled setting block) in
       let stays_in = subst A back stay in
       let is_in = subst B back there.0.body in
       let has_labels = subst C back has.0.labelled in
@@ -157,7 +154,7 @@ module _ (principals : Declared) (program : Program) (scene : ExposedProgram pro
         ),
         methods_steady (suc place) methods after (stays.many ∙ many)
             (stay_then (declared_labels (program_tree program)) labels after since stays) end there.1 has.1 values.1
-            pure.1 (all_second (IsMet principals) labels_here _ met.1) (all_second IsNeeded uses_here _ uses.1),
+            pure.1 (all_second (IsMet principals) labels_here _ met.1) (all_second (IsNeeded principals program scene) uses_here _ uses.1),
       )
 
 -- ---- programs

@@ -6,14 +6,13 @@ use Rattle.label_lattice.specs.Label.{Trusts}
 use Rattle.label_lattice.specs.Lattice.{free_rows}
 use Rattle.jif_tree.specs.declared.program.Program.{Program}
 use Rattle.jif_tree.specs.declared.program.Stmt.{Stmt}
-use Rattle.jif_tree.specs.Altered.{FieldIsAffected, IsAffected, StatementIsAffected, VariableIsAffected, Alters, MayStep, steps}
+use Rattle.jif_tree.specs.Altered.{FieldIsAffected, IsAffected, Alters, MayStep, steps}
 use Rattle.jif_tree.specs.Altered.{changes_field}
-use Rattle.jif_tree.specs.AlteredExamples.{field_of_0, field_of_1, for_1, one_bad, variable_of_0, variable_of_1}
-use Rattle.jif_tree.specs.SourceRun.{Item, run, Call, Configuration, main_body, prefix, step, after_item}
+use Rattle.jif_tree.specs.AlteredExamples.{field_of_0, field_of_1, for_1, one_bad}
+use Rattle.jif_tree.specs.SourceRun.{Item, run, Call, Configuration, main_body, prefix, step}
 use Rattle.jif_tree.specs.SourceRun.{configuration_at_start, IsAtEnd}
 use Rattle.jif_tree.specs.Store.{row_of}
 use Rattle.need_labels.proofs.Somewhere.{any_here, any_first, any_none}
-use Rattle.source_law.specs.Follows.{ComesTo, FollowsPlain}
 use Rattle.source_law.specs.Related.{Pairs, AreAligned, ended, idles, other_idles, alike, ItemIsIdle, FieldsAgree}
 use Rattle.source_law.specs.SourceExamples.{begun, endorsed_0, only, second_pending, sets_1_by, sets_9, two_fields}
 use Rattle.source_law.proofs.Moments.{one_rises, rises_before}
