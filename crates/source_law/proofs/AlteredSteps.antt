@@ -99,9 +99,8 @@ module _ (program : Program) (exposure : Exposure) (steady : IsSteadyProgram pro
           mates = r.mates;
           one_there = r.one_there;
           one_here = r.one_here;
-          pending = left_out program exposure c (after_steps program n start) r c.pending (after_steps program n start).pending
-              item
-              behind pending left r.pending;
+          pending = left_out program exposure c (after_steps program n start) r c.pending
+              (after_steps program n start).pending item behind pending left r.pending;
         });
       }
 

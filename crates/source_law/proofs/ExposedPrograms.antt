@@ -1,5 +1,5 @@
--- A program whose labels are followed while it is gone through: what may be affected of it by these labels, and by those
--- that an exposure has, which are the ones behind all of it.
+-- What may be affected of a program by the labels that are found while it is gone through is what may be affected by
+-- those of an exposure, which stand behind all of it.
 use Rattle.std.proofs.Common.{◌≡◌, ◌∙◌, ap, sym, subst, ℕ, List, map, length, Option, Some, None, IsSomeAnd, slice_get}
 use Rattle.std.specs.Prelude.{unwrap_or, slice_index}
 use Rattle.std.specs.Option.{option_map}

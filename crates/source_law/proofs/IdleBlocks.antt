@@ -218,7 +218,8 @@ module _ (principals : Declared) (program : Program) (scene : ExposedProgram pro
         row_idle pc labels many rest stay there.2 has.1 met.1 far,
       )
     where
-      by : (result : Option VarId) → own.tree.result ≡ result → IsLabelledIfAny labels own.tree.result → Stay labels scene.final →
+      by : (result : Option VarId) → own.tree.result ≡ result → IsLabelledIfAny labels own.tree.result →
+          Stay labels scene.final →
           AllByRecursion (Holds principals)
           (return_flows pc labels own.tree.result (expr_label setting pc labels (expr_tree value))) →
           IfSome own.tree.result (VariableIsAffected exposure)

@@ -1,5 +1,6 @@
 -- At the moments of an altered run the plain run has made numbers of steps that do not fall.
-use Rattle.std.proofs.Common.{◌≡◌, ap, refl, subst, arith, ℕ, zero, suc, ◌+◌, ◌≤◌, ℤ, List, [], ◌∷◌, length, Some, slice_get}
+use Rattle.std.proofs.Common.{◌≡◌, ap, refl, subst, arith, ℕ, zero, suc, ◌+◌, ◌≤◌, ℤ, List, [], ◌∷◌, length, Some}
+use Rattle.std.proofs.Common.{slice_get}
 use Rattle.std.specs.Prelude.{slice_index}
 use Rattle.std.specs.List.Sorted.{IsNonDecreasing}
 use Rattle.jif_tree.specs.declared.program.Program.{Program}
@@ -44,8 +45,8 @@ record Along (program : Program) (exposure : Exposure) (start : Configuration) (
       FieldsAgree exposure c.store (after_steps program (slice_index numbers place) start).store
       × (IsAtEnd c → slice_index numbers place ≡ most)
 
-along : (program : Program) (exposure : Exposure) (start : Configuration) (most : ℕ) → IsSteadyProgram program exposure →
-    (moments : List Configuration) (c : Configuration) (n left : ℕ) → n + left ≡ most →
+along : (program : Program) (exposure : Exposure) (start : Configuration) (most : ℕ) →
+    IsSteadyProgram program exposure → (moments : List Configuration) (c : Configuration) (n left : ℕ) → n + left ≡ most →
     EndsAfter program left (after_steps program n start) → AreRelated program exposure c (after_steps program n start) →
     ComesTo program exposure c moments → Along program exposure start most n moments
 along program exposure start most steady [] c n left sum ends r comes = record {
@@ -80,7 +81,8 @@ along program exposure start most steady (now ∷ moments) c n left sum ends r c
     below to numbers here others (suc place) = others place
 
     Stands : Configuration → ℕ → Type 0
-    Stands it steps = FieldsAgree exposure it.store (after_steps program steps start).store × (IsAtEnd it → steps ≡ most)
+    Stands it steps =
+        FieldsAgree exposure it.store (after_steps program steps start).store × (IsAtEnd it → steps ≡ most)
 
     there : (to : ℕ) (numbers : List ℕ) → FieldsAgree exposure now.store (after_steps program to start).store →
         (IsAtEnd now → to ≡ most) →

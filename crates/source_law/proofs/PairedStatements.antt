@@ -177,8 +177,8 @@ call_related program exposure steady c d items more r rest i j pair method value
         (subst (λ list. AreAligned program exposure wide calls too
         (map (run m) body ++ (kept i into (result_of (method_at program method)) ++ items)) list)
         (sym (append_assoc (map (run n) body) (kept j into (result_of (method_at program method))) more))
-        (body_alike program exposure wide calls too m n first (pair_last r.pairs m n) (last_there c.calls first) body all
-        (kept i into (result_of (method_at program method)) ++ items)
+        (body_alike program exposure wide calls too m n first (pair_last r.pairs m n) (last_there c.calls first) body
+        all (kept i into (result_of (method_at program method)) ++ items)
         (kept j into (result_of (method_at program method)) ++ more) behind))
 
     by : (found : Option Method) → method_at program method ≡ found →
@@ -203,8 +203,8 @@ Either program exposure c d i j made again too what values items more =
     ⊎ AreRelated program exposure (executed program c i again what values items)
     (executed program d j too what (map (value_of d j) (operands what)) more)
 
-pub paired_executed : (program : Program) (exposure : Exposure) → IsSteadyProgram program exposure → (c d : Configuration)
-    (items more : List Item) → (r : AreRelated program exposure c d) →
+pub paired_executed : (program : Program) (exposure : Exposure) → IsSteadyProgram program exposure →
+    (c d : Configuration) (items more : List Item) → (r : AreRelated program exposure c d) →
     AreAligned program exposure r.pairs c.calls d.calls items more → (i j : ℕ) → (pair : IsPair r.pairs i j) →
     (made : Call) → slice_get c.calls i ≡ Some made → (twin : Call) → slice_get d.calls j ≡ Some twin →
     twin.method ≡ made.method → IsPair r.pairs made.caller twin.caller →

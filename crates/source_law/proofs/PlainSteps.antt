@@ -127,7 +127,8 @@ module _ (program : Program) (exposure : Exposure) (steady : IsSteadyProgram pro
   step_to d item behind due = ap (after_item program d) (sym due)
 
   passes : (n : ℕ) (c : Configuration) (item : Item) (more : List Item) →
-      (r : AreRelated program exposure c (after_steps program n start)) → (after_steps program n start).pending ≡ item ∷ more →
+      (r : AreRelated program exposure c (after_steps program n start)) →
+      (after_steps program n start).pending ≡ item ∷ more →
       ItemIsIdle program exposure (after_steps program n start).calls item →
       AreAligned program exposure r.pairs c.calls (after_steps program n start).calls c.pending more →
       AreRelated program exposure c (after_steps program (suc n) start)
@@ -210,8 +211,8 @@ module _ (program : Program) (exposure : Exposure) (steady : IsSteadyProgram pro
       subst (λ m. AreRelated program exposure c (after_steps program m start)) same r
   finishes (suc k) n sum c _ _ ends r here there ended =
       let after = subst (AreRelated program exposure c) (stays (after_steps program n start) there) r in
-      finishes k (suc n) (omega (arith, sum)) c c.pending (after_steps program (suc n) start).pending ends after refl refl
-      after.pending
+      finishes k (suc n) (omega (arith, sum)) c c.pending (after_steps program (suc n) start).pending ends after
+      refl refl after.pending
   finishes (suc k) n sum c _ _ ends r here there (idles item items more idle rest) =
       let none : [] ≡ item ∷ items = sym ends ∙ here in
       absurd (cc)
@@ -222,5 +223,5 @@ module _ (program : Program) (exposure : Exposure) (steady : IsSteadyProgram pro
       let d = after_steps program n start in
       let P : List Item → Type 0 = λ due. AreAligned program exposure r.pairs c.calls d.calls due more in
       let after = passes n c item more r there idle (subst P (sym here) rest) in
-      finishes k (suc n) (omega (arith, sum)) c c.pending (after_steps program (suc n) start).pending ends after refl refl
-      after.pending
+      finishes k (suc n) (omega (arith, sum)) c c.pending (after_steps program (suc n) start).pending ends after
+      refl refl after.pending

@@ -48,13 +48,14 @@ module _ (principals : Declared) (program : Program) (scene : ExposedProgram pro
       IsNeed principals (own_backing principals program scene own what) (slice_index exposure.needs id.0) →
       StatementIsAffected exposure id → IsIdle program exposure own.tree.result what
   left id line what rest there need far =
-      what_left principals program scene own what
-      (record { id = id; line = line }) rest there
+      what_left principals program scene own what (record { id = id; line = line }) rest there
       (from_need principals exposure.bad _ (slice_index exposure.needs id.0) need far)
 
   abbrev Uses : BlockTree → List StatementUse
-  Uses block = block_uses (labelled_in program scene)
-      setting block
+  Uses block = block_uses (labelled_in program scene) setting block
+
+  abbrev Needed : StatementUse → Type 0
+  Needed = IsNeeded principals program scene
 
   pub row_steady : (pc : Label) (labels : VariableLabels) → length labels ≡ length (program_tree program).vars →
       Stay (declared_labels (program_tree program)) labels → {n : _} → (row : kind.Row_of-Stmt n) →
@@ -62,7 +63,7 @@ module _ (principals : Declared) (program : Program) (scene : ExposedProgram pro
       IsBlockOf program own (row_tree row) → AreLabelled setting pc labels (row_tree row) →
       AreValuesLabelled setting pc labels (row_tree row) → IsUnendorsedBlock (row_tree row) →
       AllByRecursion (IsMet principals) (block_labels setting pc labels (row_tree row)) →
-      AllByRecursion (IsNeeded principals program scene) (Uses (row_tree row)) → AreSteady program exposure own.tree.result row
+      AllByRecursion Needed (Uses (row_tree row)) → AreSteady program exposure own.tree.result row
   row_steady pc labels many since kind.end_of-Stmt stay there has values pure met uses = tt
   row_steady pc labels many since (kind.more_of-Stmt id line (kind.Let x value) rest) stay there has values pure met
       uses =
@@ -75,26 +76,24 @@ module _ (principals : Declared) (program : Program) (scene : ExposedProgram pro
       let x_has = assigned_labelled labels x (join_of from pc) found.0 found.1 in
       let flows = (all_second (Holds principals) (expr_constraints setting pc labels (expr_tree value)) _ met.0).0 in (
         left id line (kind.Let x value) (row_tree rest) there uses.0,
-        sets_well principals program scene own pc labels after (stay_then labels after scene.final assigned later) later x x_has value pure.0 there.1
-            values.0
-            flows,
+        sets_well principals program scene own pc labels after (stay_then labels after scene.final assigned later) later
+            x x_has value pure.0 there.1 values.0 flows,
         row_steady pc after (assigned.many ∙ many)
             (stay_then (declared_labels (program_tree program)) labels after since assigned) rest stay there.2 has
-            values.1
-            pure.1 met.1 uses.1,
+            values.1 pure.1 met.1 uses.1,
       )
   row_steady pc labels many since (kind.more_of-Stmt id line (kind.SetField field value) rest) stay there has values
-      pure
-      met uses =
+      pure met uses =
       let from = expr_label setting pc labels (expr_tree value) in
       let to = field_label (program_tree program) field in
       let stays = stay_then labels (labels_after setting pc labels (row_tree rest)) scene.final
       (block_stays setting pc labels (row_tree rest)) stay in
       let flows = (all_second (Holds principals) (expr_constraints setting pc labels (expr_tree value)) _ met.0).0 in (
         left id line (kind.SetField field value) (row_tree rest) there uses.0,
-        ⊎_elim (λ clean. inr clean) (λ far. inl (field_affected program scene _ field
-            there.0
-            (flow_reaches principals program scene own pc from to flows far))) (clean_or_affected principals program scene own pc labels stays value pure.0 there.1 values.0),
+        ⊎_elim (λ clean. inr clean)
+            (λ far. inl (field_affected program scene _ field there.0
+            (flow_reaches principals program scene own pc from to flows far)))
+            (clean_or_affected principals program scene own pc labels stays value pure.0 there.1 values.0),
         row_steady pc labels many since rest stay there.2 has values.1 pure.1 met.1 uses.1,
       )
   row_steady pc labels many since (kind.more_of-Stmt id line (kind.SetElement field index value) rest) stay there has
@@ -121,8 +120,7 @@ module _ (principals : Declared) (program : Program) (scene : ExposedProgram pro
         row_steady pc labels many since rest stay there.3 has values.2 pure.2 met.1 uses.1,
       )
   row_steady pc labels many since (kind.more_of-Stmt id line (kind.If' guard m first k second) rest) stay there has
-      values
-      pure met uses =
+      values pure met uses =
       let declared = declared_labels (program_tree program) in
       let own_label = expr_label setting pc labels (expr_tree guard) in
       let inside = guarded setting pc labels (expr_tree guard) in
@@ -142,30 +140,28 @@ module _ (principals : Declared) (program : Program) (scene : ExposedProgram pro
       let both = all_first (IsMet principals) (labels_one ++ labels_two) _ met.1 in
       let one_met = all_first (IsMet principals) labels_one labels_two both in
       let two_met = all_second (IsMet principals) labels_one labels_two both in
-      let both_uses = all_first (IsNeeded principals program scene) (uses_one ++ uses_two) _ uses.1 in (
+      let both_uses = all_first Needed (uses_one ++ uses_two) _ uses.1 in (
         left id line (kind.If' guard m first k second) (row_tree rest) there uses.0,
         (
           ⊎_elim (λ clean. inl clean) (λ far.
               let up = affected_up exposure.bad own_label inside (integ_second pc own_label) far in
               inr (
-                row_idle principals program scene own inside labels many first from_second
-                    there.1 has.0 one_met up,
-                row_idle principals program scene own inside between
-                    (first_stays.many ∙ many) second rest_stays there.2 has.1 two_met up,
+                row_idle principals program scene own inside labels many first from_second there.1 has.0 one_met up,
+                row_idle principals program scene own inside between (first_stays.many ∙ many) second rest_stays
+                    there.2 has.1 two_met up,
               )) (clean_or_affected principals program scene own pc labels from_first guard pure.0 there.0 values.0),
           row_steady inside labels many since first from_second there.1 has.0 values.1 pure.1 one_met
-              (all_first (IsNeeded principals program scene) uses_one uses_two both_uses),
+              (all_first Needed uses_one uses_two both_uses),
           row_steady inside between (first_stays.many ∙ many) since_second second rest_stays there.2 has.1 values.2
-              pure.2 two_met (all_second (IsNeeded principals program scene) uses_one uses_two both_uses),
+              pure.2 two_met (all_second Needed uses_one uses_two both_uses),
         ),
         row_steady pc behind (second_stays.many ∙ first_stays.many ∙ many)
             (stay_then declared between behind since_second second_stays) rest stay there.3 has.2 values.3 pure.3
             (all_second (IsMet principals) (labels_one ++ labels_two) _ met.1)
-            (all_second (IsNeeded principals program scene) (uses_one ++ uses_two) _ uses.1),
+            (all_second Needed (uses_one ++ uses_two) _ uses.1),
       )
-  row_steady pc labels many since (kind.more_of-Stmt id line (kind.While' guard m body) rest) stay there has values
-      pure met
-      uses =
+  row_steady pc labels many since (kind.more_of-Stmt id line (kind.While' guard m body) rest) stay there has values pure
+      met uses =
       let declared = declared_labels (program_tree program) in
       let own_label = expr_label setting pc labels (expr_tree guard) in
       let inside = guarded setting pc labels (expr_tree guard) in
@@ -180,20 +176,18 @@ module _ (principals : Declared) (program : Program) (scene : ExposedProgram pro
         left id line (kind.While' guard m body) (row_tree rest) there uses.0,
         (
           ⊎_elim (λ clean. inl clean) (λ far. inr
-              (row_idle principals program scene own inside labels many body rest_stays
-              there.1 has.0 one_met (affected_up exposure.bad own_label inside (integ_second pc own_label) far)))
+              (row_idle principals program scene own inside labels many body rest_stays there.1 has.0 one_met
+              (affected_up exposure.bad own_label inside (integ_second pc own_label) far)))
               (clean_or_affected principals program scene own pc labels from_body guard pure.0 there.0 values.0),
           row_steady inside labels many since body rest_stays there.1 has.0 values.1 pure.1 one_met
-              (all_first (IsNeeded principals program scene) uses_one _ uses.1),
+              (all_first Needed uses_one _ uses.1),
         ),
         row_steady pc behind (body_stays.many ∙ many) (stay_then declared labels behind since body_stays) rest stay
-            there.2
-            has.1 values.2 pure.2 (all_second (IsMet principals) labels_one _ met.1) (all_second (IsNeeded principals program scene) uses_one _
-            uses.1),
+            there.2 has.1 values.2 pure.2 (all_second (IsMet principals) labels_one _ met.1)
+            (all_second Needed uses_one _ uses.1),
       )
   row_steady pc labels many since (kind.more_of-Stmt id line (kind.Call site called args into) rest) stay there has
-      values
-      pure met uses =
+      values pure met uses =
       let exprs = map expr_tree args.items in
       let found = method_at (program_tree program) called in
       let stays = stay_then labels (labels_after setting pc labels (row_tree rest)) scene.final
@@ -206,9 +200,11 @@ module _ (principals : Declared) (program : Program) (scene : ExposedProgram pro
         left id line (kind.Call site called args into) (row_tree rest) there uses.0,
         (
           subst P (params_same program called)
-              (passed_well principals program scene own pc labels stays (params_of found) args.items has.0 pure.0 there.1 values.0 flows),
+              (passed_well principals program scene own pc labels stays (params_of found) args.items has.0 pure.0
+              there.1 values.0 flows),
           subst Q (result_same program called)
-              (kept_well principals program scene own pc labels stays into (result_of found) has.1 (result_labelled principals program scene own labels since called) kept),
+              (kept_well principals program scene own pc labels stays into (result_of found) has.1
+              (result_labelled principals program scene own labels since called) kept),
         ),
         row_steady pc labels many since rest stay there.3 has.2 values.1 pure.1 met.1 uses.1,
       )
@@ -223,9 +219,10 @@ module _ (principals : Declared) (program : Program) (scene : ExposedProgram pro
       )
     where
       by : (result : Option VarId) → Stay labels scene.final → IsLabelledIfAny labels result →
-          AllByRecursion (Holds principals) (return_flows pc labels result (expr_label setting pc labels (expr_tree
-          value))) →
+          AllByRecursion (Holds principals)
+          (return_flows pc labels result (expr_label setting pc labels (expr_tree value))) →
           IfSome result (λ x. SetsWell exposure x value)
       by None stays labelled_too holds = tt
       by (Some x) stays labelled_too holds =
-          sets_well principals program scene own pc labels labels stays stays x labelled_too value pure.0 there.1 values.0 holds.0
+          sets_well principals program scene own pc labels labels stays stays x labelled_too value pure.0 there.1
+          values.0 holds.0

@@ -114,7 +114,8 @@ module _ (principals : Declared) (program : Program) (scene : ExposedProgram pro
       AllByRecursion (λ (method : MethodTree). IsUnendorsedBlock method.body) (map method_tree methods) →
       AllByRecursion (IsMet principals)
       (methods_labels principals (program_tree program) labels (map method_tree methods)) →
-      AllByRecursion (IsNeeded principals program scene) (flat_map (method_uses principals labelled) (map method_tree methods)) →
+      AllByRecursion (IsNeeded principals program scene)
+      (flat_map (method_uses principals labelled) (map method_tree methods)) →
       AllByRecursion (IsSteadyMethod program exposure) methods
   methods_steady place [] labels many since end there has values pure met uses = tt
   methods_steady place (method ∷ methods) labels many since end there has values pure met uses =
@@ -139,7 +140,8 @@ module _ (principals : Declared) (program : Program) (scene : ExposedProgram pro
       let E : BlockTree → Type 0 = λ block. IsUnendorsedBlock block in
       let F : BlockTree → Type 0 = λ block.
       AllByRecursion (IsMet principals) (block_labels setting method.begin labels block) in
-      let G : BlockTree → Type 0 = λ block. AllByRecursion (IsNeeded principals program scene) (block_uses labelled setting block) in
+      let G : BlockTree → Type 0 = λ block.
+      AllByRecursion (IsNeeded principals program scene) (block_uses labelled setting block) in
       let stays_in = subst A back stay in
       let is_in = subst B back there.0.body in
       let has_labels = subst C back has.0.labelled in
@@ -154,7 +156,8 @@ module _ (principals : Declared) (program : Program) (scene : ExposedProgram pro
         ),
         methods_steady (suc place) methods after (stays.many ∙ many)
             (stay_then (declared_labels (program_tree program)) labels after since stays) end there.1 has.1 values.1
-            pure.1 (all_second (IsMet principals) labels_here _ met.1) (all_second (IsNeeded principals program scene) uses_here _ uses.1),
+            pure.1 (all_second (IsMet principals) labels_here _ met.1)
+            (all_second (IsNeeded principals program scene) uses_here _ uses.1),
       )
 
 -- ---- programs

@@ -107,8 +107,8 @@ module _ (principals : Declared) (program : Program) (scene : ExposedProgram pro
   clean_or_affected pc labels stay (expr.Negate' p operand) pure there has =
       clean_or_affected pc labels stay operand pure there has
   clean_or_affected pc labels stay (expr.Binary' operator p left q right) pure there has =
-      by (clean_or_affected pc labels stay left pure.0 there.0 has.0) (clean_or_affected pc labels stay right pure.1 there.1
-      has.1)
+      by (clean_or_affected pc labels stay left pure.0 there.0 has.0)
+      (clean_or_affected pc labels stay right pure.1 there.1 has.1)
     where
       one : Label
       one = expr_label setting pc labels (expr_tree left)
@@ -136,8 +136,8 @@ module _ (principals : Declared) (program : Program) (scene : ExposedProgram pro
       affected_up exposure.bad (join_of from pc) to holds.1
       (affected_up exposure.bad from (join_of from pc) (integ_first from pc) far)
 
-  pub sets_well : (pc : Label) (labels later : VariableLabels) → Stay labels scene.final → Stay later scene.final → (x : VarId) →
-      IsLabelled later x → (e : Expr) → IsUnendorsed (expr_tree e) →
+  pub sets_well : (pc : Label) (labels later : VariableLabels) → Stay labels scene.final → Stay later scene.final →
+      (x : VarId) → IsLabelled later x → (e : Expr) → IsUnendorsed (expr_tree e) →
       IsExprIn (program_tree program) own.id (expr_tree e) → IsExprLabelled labels (expr_tree e) →
       Holds principals (flow_of pc (expr_label setting pc labels (expr_tree e)) (variable_label later x)) →
       SetsWell exposure x e
@@ -147,8 +147,8 @@ module _ (principals : Declared) (program : Program) (scene : ExposedProgram pro
       x_has (flow_reaches pc (expr_label setting pc labels (expr_tree e)) (variable_label later x) flows far)))
       (clean_or_affected pc labels stay e pure there has)
 
-  pub passed_well : (pc : Label) (labels : VariableLabels) → Stay labels scene.final → (params : List VarId) (args : List Expr) →
-      AllByRecursion (IsLabelled labels) params → AllByRecursion IsUnendorsed (map expr_tree args) →
+  pub passed_well : (pc : Label) (labels : VariableLabels) → Stay labels scene.final → (params : List VarId)
+      (args : List Expr) → AllByRecursion (IsLabelled labels) params → AllByRecursion IsUnendorsed (map expr_tree args) →
       AllByRecursion (IsExprIn (program_tree program) own.id) (map expr_tree args) →
       AllByRecursion (IsExprLabelled labels) (map expr_tree args) →
       AllByRecursion (Holds principals) (argument_flows setting pc labels (map expr_tree args) params) →

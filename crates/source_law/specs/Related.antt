@@ -1,8 +1,8 @@
 -- A configuration of an altered run, and one of the plain run from the same store.
 --
 -- Both runs have the same to do in the same order, but for items that are idle: what these change may be affected. So
--- nothing is said of idle items but that they are, nor of calls that only one run made. Numbers of calls differ between
--- the runs, since an altered run leaves calls out and makes others, where a guard that may be affected has another value.
+-- nothing is said of idle items but that they are, nor of calls that only one run made. An altered run leaves calls out,
+-- and makes others where a guard that may be affected has another value, so the numbers of calls differ between the runs.
 use Rattle.std.specs.Prelude.{◌≡◌, ◌⊎◌, ℕ, ℤ, List, [], ◌∷◌, Option, Some, slice_get, IsSomeAnd}
 use Rattle.js_base.specs.declared.ids.FieldId.{FieldId}
 use Rattle.js_base.specs.declared.ids.VarId.{VarId}

@@ -1,5 +1,5 @@
-use Rattle.std.proofs.Common.{◌≡◌, ◌∙◌, ap, refl, sym, subst, inl, inr, lit<, arith, ℕ, zero, suc, ◌≤◌, ℤ, pos, List, []}
-use Rattle.std.proofs.Common.{◌∷◌, map, slice_get, Some, length}
+use Rattle.std.proofs.Common.{◌≡◌, ◌∙◌, ap, refl, sym, subst, inl, inr, lit<, arith, ℕ, zero, suc, ◌≤◌, ℤ, pos, List}
+use Rattle.std.proofs.Common.{[], ◌∷◌, map, slice_get, Some, length}
 use Rattle.std.specs.Prelude.{slice_index}
 use Rattle.label_lattice.specs.declared.label.Label.{Label}
 use Rattle.label_lattice.specs.Label.{Trusts}
@@ -24,11 +24,14 @@ not_both : (bit : ℕ) → bit ≡ 0 → bit ≡ 1 → ⊥
 not_both bit clear set = omega arith
 
 affected : (label : Label) → label.trust ≡ 1 → IsAffected one_bad.bad label
-affected label is = any_here _ _ [] (λ principal within trusts. subst (λ word. Trusts (record label { trust = word }) principal) is trusts)
+affected label is = any_here _ _ [] (λ principal within trusts.
+    subst (λ word. Trusts (record label { trust = word }) principal) is trusts)
 
 not_affected : (label : Label) → label.trust ≡ 2 → ¬ IsAffected one_bad.bad label
 not_affected label is far = elim (any_first _ _ [] far) [
-  | inl flows ↦ not_both 0 refl (flows 1 (lit< tt) (subst (λ word. Trusts (record label { trust = word }) 1) (sym is) refl))
+  | inl flows ↦
+      let own = subst (λ word. Trusts (record label { trust = word }) 1) (sym is) refl in
+      not_both 0 refl (flows 1 (lit< tt) own)
   | inr later ↦ any_none _ later
 ]
 
