@@ -147,8 +147,9 @@ module _ (principals : Declared) (program : Program) (scene : ExposedProgram pro
       x_has (flow_reaches pc (expr_label setting pc labels (expr_tree e)) (variable_label later x) flows far)))
       (clean_or_affected pc labels stay e pure there has)
 
-  pub passed_well : (pc : Label) (labels : VariableLabels) → Stay labels scene.final → (params : List VarId)
-      (args : List Expr) → AllByRecursion (IsLabelled labels) params → AllByRecursion IsUnendorsed (map expr_tree args) →
+  pub passed_well : (pc : Label) (labels : VariableLabels) → Stay labels scene.final →
+      (params : List VarId) (args : List Expr) → AllByRecursion (IsLabelled labels) params →
+      AllByRecursion IsUnendorsed (map expr_tree args) →
       AllByRecursion (IsExprIn (program_tree program) own.id) (map expr_tree args) →
       AllByRecursion (IsExprLabelled labels) (map expr_tree args) →
       AllByRecursion (Holds principals) (argument_flows setting pc labels (map expr_tree args) params) →

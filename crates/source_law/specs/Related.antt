@@ -1,8 +1,9 @@
 -- A configuration of an altered run, and one of the plain run from the same store.
 --
 -- Both runs have the same to do in the same order, but for items that are idle: what these change may be affected. So
--- nothing is said of idle items but that they are, nor of calls that only one run made. An altered run leaves calls out,
--- and makes others where a guard that may be affected has another value, so the numbers of calls differ between the runs.
+-- nothing is said of idle items but that they are, nor of calls that only one run made. An altered run leaves calls
+-- out, and makes others where a guard that may be affected has another value, so the numbers of calls differ between
+-- the runs.
 use Rattle.std.specs.Prelude.{◌≡◌, ◌⊎◌, ℕ, ℤ, List, [], ◌∷◌, Option, Some, slice_get, IsSomeAnd}
 use Rattle.js_base.specs.declared.ids.FieldId.{FieldId}
 use Rattle.js_base.specs.declared.ids.VarId.{VarId}
@@ -26,6 +27,7 @@ FieldsAgree exposure one other =
 abbrev pub Pairs : Type 0
 Pairs = List (ℕ × ℕ)
 
+-- a call of the altered run has this one of the plain run for its mate
 abbrev pub IsPair : Pairs → ℕ → ℕ → Type 0
 IsPair pairs i j = (place : ℕ) × (slice_get pairs place ≡ Some (i, j))
 

@@ -13,6 +13,7 @@ ghost use Rattle.jif_tree.specs.declared.program.Expr.{Expr};
 ghost use Rattle.jif_tree.specs.declared.program.Expr as expr;
 ghost use Rattle.jif_tree.specs.declared.program.Method.{Method};
 ghost use Rattle.jif_tree.specs.declared.program.Program.{Program};
+ghost use Rattle.jif_tree.specs.declared.program.Stmt.{Stmt};
 ghost use Rattle.jif_tree.specs.declared.program.StmtKind as kind;
 ghost use Rattle.jif_tree.specs.Altered.{Exposure, Altered};
 ghost use Rattle.jif_tree.specs.AlteredExamples.{field_of_0, field_of_1, one_bad, pending_with, variable_of_0};
@@ -26,8 +27,8 @@ ghost use Rattle.need_labels.specs.Needs.{NeedsShape};
 ghost use Rattle.source_law.specs.Checked.{IsChecked, exposed_to};
 ghost use Rattle.source_law.specs.Follows.{ComesTo, EndsAfter, FollowsPlain, KeepsUp};
 ghost use Rattle.source_law.specs.Related.{AreRelated};
-ghost use Rattle.source_law.specs.SourceExamples.{begun, endorsed_0, only, second_pending, sets_0, sets_1_by, sets_9};
-ghost use Rattle.source_law.specs.SourceExamples.{two_fields};
+ghost use Rattle.source_law.specs.SourceExamples.{begun, endorsed_0, only, second_pending, sets_0, sets_1_by};
+ghost use Rattle.source_law.specs.SourceExamples.{sets_9, two_fields};
 ghost use Rattle.source_law.specs.Steady.{DoesWell, IsIdle, IsSteady, IsSteadyProgram};
 ghost use Rattle.source_law.specs.Unendorsed.{EndorsesNothing, IsUnendorsedBlock};
 
@@ -85,7 +86,12 @@ pub fn source_examples()
     ensures does_well { (program : Program) → DoesWell program one_bad None (sets_1_by (expr.Scalar field_of_1)) }
     ensures does_ill { (program : Program) → ¬ DoesWell program one_bad None (sets_1_by (expr.Scalar field_of_0)) }
     ensures endorsed_ill { (program : Program) → ¬ DoesWell program one_bad None (sets_1_by endorsed_0) }
-    // It is not steady where it may be left out.
+    // A guard that may be affected may decide on what may be affected, and on nothing else.
+    ensures guard_well { (program : Program) (body : Vec Stmt) → body.items ≡ only sets_0 ∷ [] →
+        DoesWell program one_bad None (kind.While (expr.Scalar field_of_0) body) }
+    ensures guard_ill { (program : Program) (body : Vec Stmt) → body.items ≡ only sets_9 ∷ [] →
+        ¬ DoesWell program one_bad None (kind.While (expr.Scalar field_of_0) body) }
+    // A statement that sets what principal 1 trusts is not steady where it may be left out.
     ensures left_ill { (program : Program) →
         ¬ IsSteady program one_bad None (record { 0 = 0 }) (sets_1_by (expr.Scalar field_of_1)) }
     // Where only the first of two statements may be left out, nothing is related that lacks the second.

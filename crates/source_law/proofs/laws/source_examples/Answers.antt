@@ -1,11 +1,15 @@
 use Rattle.std.proofs.Common.{◌≡◌, ◌∙◌, ap, refl, sym, subst, inl, inr, lit<, arith, ℕ, zero, suc, ◌≤◌, ℤ, pos, List}
-use Rattle.std.proofs.Common.{[], ◌∷◌, map, slice_get, Some, length}
+use Rattle.std.proofs.Common.{[], ◌∷◌, map, slice_get, Some, None, length}
 use Rattle.std.specs.Prelude.{slice_index}
+use mathlib.Core.Former.{Count}
 use Rattle.label_lattice.specs.declared.label.Label.{Label}
 use Rattle.label_lattice.specs.Label.{Trusts}
 use Rattle.label_lattice.specs.Lattice.{free_rows}
 use Rattle.jif_tree.specs.declared.program.Program.{Program}
 use Rattle.jif_tree.specs.declared.program.Stmt.{Stmt}
+use Rattle.jif_tree.specs.declared.program.StmtKind.{StmtKind}
+use Rattle.jif_tree.specs.declared.program.StmtKind as kind
+use Rattle.jif_tree.specs.declared.program.Expr as expr
 use Rattle.jif_tree.specs.Altered.{FieldIsAffected, IsAffected, Alters, MayStep, steps}
 use Rattle.jif_tree.specs.Altered.{changes_field}
 use Rattle.jif_tree.specs.AlteredExamples.{field_of_0, field_of_1, for_1, one_bad}
@@ -14,6 +18,7 @@ use Rattle.jif_tree.specs.SourceRun.{configuration_at_start, IsAtEnd}
 use Rattle.jif_tree.specs.Store.{row_of}
 use Rattle.need_labels.proofs.Somewhere.{any_here, any_first, any_none}
 use Rattle.source_law.specs.Related.{Pairs, AreAligned, ended, idles, other_idles, alike, ItemIsIdle, FieldsAgree}
+use Rattle.source_law.specs.Steady.{AreIdle, AreSteady, AllIdle, AllSteady}
 use Rattle.source_law.specs.SourceExamples.{begun, endorsed_0, only, second_pending, sets_1_by, sets_9, two_fields}
 use Rattle.source_law.proofs.Moments.{one_rises, rises_before}
 use Rattle.source_law.proofs.laws.source_examples.Goals as goal
@@ -76,6 +81,45 @@ returns-clause-does_ill c program (inr clean) = clean first
 pub returns-clause-endorsed_ill : goal.returns-clause-endorsed_ill
 returns-clause-endorsed_ill c program (inl far) = second far
 returns-clause-endorsed_ill c program (inr clean) = clean first
+
+-- the statements in a loop, as a row; what holds of each of a list holds of these
+
+abbrev row_in : StmtKind → (n : Count) × kind.Row_of-Stmt n
+row_in (kind.While' guard m body) = (_, body)
+row_in _ = (_, kind.end_of-Stmt)
+
+idle_items : (program : Program) {n : _} (row : kind.Row_of-Stmt n) → AreIdle program one_bad None row →
+    AllIdle program one_bad None (kind.items-the_row-Stmt n row)
+idle_items program kind.end_of-Stmt idle = tt
+idle_items program (kind.more_of-Stmt id line what rest) idle = (idle.0, idle_items program rest idle.1)
+
+idle_row : (program : Program) {n : _} (row : kind.Row_of-Stmt n) →
+    AllIdle program one_bad None (kind.items-the_row-Stmt n row) → AreIdle program one_bad None row
+idle_row program kind.end_of-Stmt idle = tt
+idle_row program (kind.more_of-Stmt id line what rest) idle = (idle.0, idle_row program rest idle.1)
+
+steady_row : (program : Program) {n : _} (row : kind.Row_of-Stmt n) →
+    AllSteady program one_bad None (kind.items-the_row-Stmt n row) → AreSteady program one_bad None row
+steady_row program kind.end_of-Stmt steady = tt
+steady_row program (kind.more_of-Stmt id line what rest) steady =
+    (steady.0.0, steady.0.1, steady_row program rest steady.1)
+
+pub returns-clause-guard_well : goal.returns-clause-guard_well
+returns-clause-guard_well c program body is =
+    let row = row_in (kind.While (expr.Scalar field_of_0) body) in
+    let items = kind.items_hidden-the_row-Stmt-0 body ∙ is in
+    let P : List Stmt → Type 0 = AllIdle program one_bad None in
+    let Q : List Stmt → Type 0 = AllSteady program one_bad None in (
+      inr (idle_row program row.1 (subst P (sym items) (first, tt))),
+      steady_row program row.1 (subst Q (sym items) (((λ far. first), inl first), tt)),
+    )
+
+pub returns-clause-guard_ill : goal.returns-clause-guard_ill
+returns-clause-guard_ill c program body is (inl clean, steady) = clean first
+returns-clause-guard_ill c program body is (inr idle, steady) =
+    let row = row_in (kind.While (expr.Scalar field_of_0) body) in
+    let P : List Stmt → Type 0 = AllIdle program one_bad None in
+    second (subst P (kind.items_hidden-the_row-Stmt-0 body ∙ is) (idle_items program row.1 idle)).0
 
 pub returns-clause-left_ill : goal.returns-clause-left_ill
 returns-clause-left_ill c program steady =
