@@ -1,7 +1,5 @@
 -- What may be affected goes up along the flows of labels.
-use Rattle.std.proofs.Common.{◌≡◌, inr, arith, ℕ, ◌<◌, List}
-use Rattle.std.proofs.Common.{bit_or}
-use Rattle.std.proofs.Common.{Option, Some, None, IsSomeAnd, slice_get}
+use Rattle.std.proofs.Common.{◌≡◌, inr, arith, ℕ, ◌<◌, List, bit_or, Option, Some, None, IsSomeAnd, slice_get}
 use Rattle.std.specs.Int.{bit_at}
 use Rattle.std.proofs.lemmas.Nat.Bits.{bit_at_and, bit_at_or, bit_at-zero}
 use Rattle.js_base.specs.declared.ids.FieldId.{FieldId}

@@ -7,8 +7,8 @@ use Rattle.jif_tree.specs.declared.program.Program.{Program}
 use Rattle.jif_tree.specs.SourceRun.{Call, Item, run, keep, method_at, result_of}
 use Rattle.jif_tree.specs.Altered.{Exposure}
 use Rattle.source_law.specs.Steady.{IsIdle, IsSteady}
-use Rattle.source_law.specs.Related.{Pairs, IsPair, AreMates, IsInCall, ItemIsIdle, AreItemsAlike}
-use Rattle.source_law.specs.Related.{AreAligned, ended, idles, other_idles, alike}
+use Rattle.source_law.specs.Related.{Pairs, IsPair, AreMates, IsInCall, ItemIsIdle, AreItemsAlike, AreAligned, ended}
+use Rattle.source_law.specs.Related.{idles, other_idles, alike}
 use Rattle.source_law.proofs.KeptCalls.{AreMore}
 
 -- a call that is there stays, as one of its method

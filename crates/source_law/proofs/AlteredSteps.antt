@@ -15,6 +15,7 @@ use Rattle.source_law.proofs.PlainSteps.{Reaches, follows, finishes, related_her
 
 -- ---- what is left out
 
+-- an item that is left out is idle, so the plain run may have it for itself
 left_out : (program : Program) (exposure : Exposure) (c d : Configuration) (r : AreRelated program exposure c d)
     (items more : List Item) (item : Item) (behind : List Item) → items ≡ item ∷ behind → MayBeLeft exposure item →
     AreAligned program exposure r.pairs c.calls d.calls items more →
@@ -37,9 +38,8 @@ left_out program exposure c d r _ _ item behind is left (alike one two items mor
         ItemIsIdle program exposure c.calls one
     idle (run i first) (run j second) same far =
         let mates = r.mates i j same.0 in
-        let well = in_call program c.calls i mates.first (λ result. IsSteady program exposure result first.id
-        first.kind)
-        mates.first_there same.2 in
+        let well = in_call program c.calls i mates.first
+        (λ result. IsSteady program exposure result first.id first.kind) mates.first_there same.2 in
         rw mates.first_there (well.0 far)
     idle (run i first) (keep j into result) same far = absurd same
     idle (keep i into result) (run j second) same far = absurd same
@@ -121,33 +121,28 @@ module _ (program : Program) (exposure : Exposure) (steady : IsSteadyProgram pro
       }
 
   -- and at the end of the altered run to that of the plain run
-  record Comes (n : ℕ) (c : Configuration) : Type 0 where
+  record Comes (c : Configuration) : Type 0 where
     to : ℕ
-    on : n ≤ to
     within : to ≤ most
     related : AreRelated program exposure c (after_steps program to start)
     ends : IsAtEnd c → to ≡ most
 
-  comes : (n : ℕ) (c : Configuration) → Goes n c → Comes n c
+  comes : (n : ℕ) (c : Configuration) → Goes n c → Comes c
   comes n c at = by c.pending refl
     where
-      by : (pending : List Item) → c.pending ≡ pending → Comes n c
+      by : (pending : List Item) → c.pending ≡ pending → Comes c
       by [] is =
-          let on = at.on in
           let within = at.within in
           record {
             to = most;
-            on = omega (arith, on, within);
             within = omega arith;
-            related = finishes program exposure steady start most length_is
-                (most - at.to) at.to (omega (arith, within)) c c.pending (after_steps program at.to start).pending is
-                at.related
-                refl refl at.related.pending;
+            related = finishes program exposure steady start most length_is (most - at.to) at.to
+                (omega (arith, within)) c c.pending (after_steps program at.to start).pending is at.related refl refl
+                at.related.pending;
             ends = λ end. refl;
           }
       by (item ∷ items) is = record {
         to = at.to;
-        on = at.on;
         within = at.within;
         related = at.related;
         ends = λ end. let none : [] ≡ item ∷ items = sym end ∙ is in absurd (cc);

@@ -1,6 +1,6 @@
 -- Under a program label that may be affected all statements are idle.
-use Rattle.std.proofs.Common.{◌≡◌, ◌∙◌, ap, refl, sym, subst, inl, inr, ℕ, Bool, ◌++◌, length, map}
-use Rattle.std.proofs.Common.{Option, Some, None, IsSomeAnd, IfSome, slice_get, arith}
+use Rattle.std.proofs.Common.{◌≡◌, ◌∙◌, ap, refl, sym, subst, inl, inr, ℕ, Bool, ◌++◌, length, map, Option, Some, None}
+use Rattle.std.proofs.Common.{IsSomeAnd, IfSome, slice_get, arith}
 use Rattle.std.specs.Prelude.{unwrap_or, ⊤}
 use Rattle.std.proofs.Common.{true≢false}
 use Rattle.std.specs.Option.{option_map}
@@ -17,14 +17,11 @@ use Rattle.jif_tree.specs.declared.program.StmtKind.{StmtKind}
 use Rattle.jif_tree.specs.declared.program.StmtKind as kind
 use Rattle.jif_tree.specs.Altered.{Exposure, IsAffected, VariableIsAffected}
 use Rattle.jif_tree.specs.SourceRun as source
-use Rattle.jif_tree.specs.Trees.{MethodTree, ProgramTree, expr_tree, row_tree, method_tree}
-use Rattle.jif_tree.specs.Trees.{program_tree}
+use Rattle.jif_tree.specs.Trees.{MethodTree, ProgramTree, expr_tree, row_tree, method_tree, program_tree}
 use Rattle.jif_tree.specs.LabelRules.{MethodSetting, VariableLabels, StatementLabels, setting_of, variable_label}
-use Rattle.jif_tree.specs.LabelRules.{field_label}
-use Rattle.jif_tree.specs.LabelRules.{expr_label, guarded, Holds, expr_constraints, argument_flows, result_flows}
-use Rattle.jif_tree.specs.LabelRules.{labels_after, labels_after_assignment, block_labels, method_at, begin_label}
-use Rattle.jif_tree.specs.LabelRules.{params_of, result_of}
-use Rattle.jif_tree.specs.LabelRules.{flow_of, return_flows}
+use Rattle.jif_tree.specs.LabelRules.{field_label, expr_label, guarded, Holds, expr_constraints, argument_flows}
+use Rattle.jif_tree.specs.LabelRules.{result_flows, labels_after, labels_after_assignment, block_labels, method_at}
+use Rattle.jif_tree.specs.LabelRules.{begin_label, params_of, result_of, flow_of, return_flows}
 use Rattle.jif_tree.specs.Labelling.{IsLabelledIfAny, AreLabelled}
 use Rattle.jif_tree.specs.WellNumbered.{HasVariable, HasMethod, is_some}
 use Rattle.jif_tree.proofs.LabelsKept.{Stay, stay_then, assignment_stays, block_stays, assigned_labelled}

@@ -1,7 +1,6 @@
 -- A step of an idle item changes only what may be affected, and leaves idle items.
-use Rattle.std.proofs.Common.{◌≡◌, ap, refl, sym, subst, ℕ, ℤ, pos, List, [], ◌∷◌, ◌++◌}
-use Rattle.std.proofs.Common.{length, map, append_assoc, Option, Some, None, IsSomeAnd, IfSome, slice_get}
-use Rattle.std.proofs.Common.{Bool, true, false, if◌then◌else◌}
+use Rattle.std.proofs.Common.{◌≡◌, ap, refl, sym, subst, ℕ, ℤ, pos, List, [], ◌∷◌, ◌++◌, length, map, append_assoc}
+use Rattle.std.proofs.Common.{Option, Some, None, IsSomeAnd, IfSome, slice_get, Bool, true, false, if◌then◌else◌}
 use Rattle.std.specs.Prelude.{unwrap_or}
 use Rattle.std.specs.List.{AllByRecursion}
 use Rattle.js_base.specs.declared.ids.FieldId.{FieldId}
@@ -14,8 +13,7 @@ use Rattle.jif_tree.specs.declared.program.StmtKind as kind
 use Rattle.jif_tree.specs.Operators.{is_true}
 use Rattle.jif_tree.specs.Store.{store_after_write}
 use Rattle.jif_tree.specs.SourceRun.{Call, Item, run, keep, Configuration, method_at, result_of, executed}
-use Rattle.jif_tree.specs.SourceRun.{statements_of}
-use Rattle.jif_tree.specs.SourceRun.{value_at, body_of, params_of, passed, kept, after_result}
+use Rattle.jif_tree.specs.SourceRun.{statements_of, value_at, body_of, params_of, passed, kept, after_result}
 use Rattle.jif_tree.specs.Altered.{Exposure, FieldIsAffected, VariableIsAffected, MayStep, IsAffected}
 use Rattle.source_law.specs.Steady.{IsIdle, AreIdle, AllIdle, IsSteadyProgram}
 use Rattle.source_law.specs.Related.{ItemIsIdle, FieldsAgree}

@@ -1,7 +1,6 @@
 -- A statement that may be left out is idle: whoever has to trust its host trusts all that it changes.
-use Rattle.std.proofs.Common.{◌≡◌, ◌∙◌, ap, refl, sym, subst, inl, inr, ℕ, ◌<◌, List, [], ◌∷◌, ◌++◌, map}
-use Rattle.std.proofs.Common.{Any}
-use Rattle.std.proofs.Common.{Option, Some, None, IsSomeAnd, IfSome, slice_get}
+use Rattle.std.proofs.Common.{◌≡◌, ◌∙◌, ap, refl, sym, subst, inl, inr, ℕ, ◌<◌, List, [], ◌∷◌, ◌++◌, map, Any, Option}
+use Rattle.std.proofs.Common.{Some, None, IsSomeAnd, IfSome, slice_get}
 use Rattle.std.specs.Prelude.{unwrap_or}
 use Rattle.std.specs.Option.{option_map}
 use Rattle.std.proofs.lemmas.Option.{slice_get-map}
@@ -17,15 +16,12 @@ use Rattle.jif_tree.specs.declared.program.Program.{Program}
 use Rattle.jif_tree.specs.declared.program.StmtKind.{StmtKind}
 use Rattle.jif_tree.specs.declared.program.StmtKind as kind
 use Rattle.jif_tree.specs.Altered.{Exposure, IsAffected, VariableIsAffected}
-use Rattle.jif_tree.specs.Trees.{Heading, BlockTree, ExprTree, expr_tree, row_tree, statement_tree}
-use Rattle.jif_tree.specs.Trees.{program_tree}
-use Rattle.jif_tree.specs.LabelRules.{MethodSetting, setting_of, field_label, method_at, begin_label}
-use Rattle.jif_tree.specs.LabelRules.{params_of}
+use Rattle.jif_tree.specs.Trees.{Heading, BlockTree, ExprTree, expr_tree, row_tree, statement_tree, program_tree}
+use Rattle.jif_tree.specs.LabelRules.{MethodSetting, setting_of, field_label, method_at, begin_label, params_of}
 use Rattle.jif_tree.specs.WellNumbered.{HasVariable, HasOptionalVariable}
 use Rattle.need_labels.specs.Labelled.{Labelled, all_labels}
 use Rattle.need_labels.specs.Needs.{Backing, for_label, Backs, StatementUse, for_releases, block_uses, all_backing}
-use Rattle.need_labels.specs.Needs.{label_of}
-use Rattle.need_labels.specs.Needs.{labels_of, IsNeed}
+use Rattle.need_labels.specs.Needs.{label_of, labels_of, IsNeed}
 use Rattle.need_labels.proofs.Somewhere.{any_here, any_later, any_first, any_none, any_left, any_right}
 use Rattle.source_law.specs.Steady.{IsIdle, AreIdle}
 use Rattle.source_law.proofs.Lists.{any_also}

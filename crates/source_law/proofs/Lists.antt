@@ -1,6 +1,6 @@
 -- Lists of which something holds of each element, and lists of which one element is set or that have one more.
-use Rattle.std.proofs.Common.{◌≡◌, ◌≢◌, ap, refl, subst, inl, inr, ℕ, zero, suc, List, [], ◌∷◌, ◌++◌, length, Any}
-use Rattle.std.proofs.Common.{Some, slice_get, slice_set}
+use Rattle.std.proofs.Common.{◌≡◌, ◌≢◌, ap, refl, subst, inl, inr, ℕ, zero, suc, List, [], ◌∷◌, ◌++◌, length, Any, Some}
+use Rattle.std.proofs.Common.{slice_get, slice_set}
 use Rattle.std.specs.List.{AllByRecursion, AllZip}
 use Rattle.need_labels.proofs.Somewhere.{any_here, any_later, any_first, any_none}
 

@@ -1,19 +1,14 @@
 -- A step of two items that are alike: the first is idle, or the step is the same on both sides.
-use Rattle.std.proofs.Common.{◌≡◌, ◌∙◌, refl, sym, subst, inl, inr, ◌⊎◌, ⊎_elim, ℕ}
-use Rattle.std.proofs.Common.{List}
-use Rattle.std.proofs.Common.{◌∷◌, map, Option, Some, IsSomeAnd, slice_get}
+use Rattle.std.proofs.Common.{◌≡◌, ◌∙◌, refl, sym, subst, inl, inr, ◌⊎◌, ⊎_elim, ℕ, List, ◌∷◌, map, Option, Some}
+use Rattle.std.proofs.Common.{IsSomeAnd, slice_get}
 use Rattle.js_base.specs.declared.ids.VarId.{VarId}
 use Rattle.jif_tree.specs.declared.program.Program.{Program}
 use Rattle.jif_tree.specs.declared.program.Stmt.{Stmt}
-use Rattle.jif_tree.specs.SourceRun.{Call, Item, run, keep, Configuration, method_at, result_of}
-use Rattle.jif_tree.specs.SourceRun.{after_item}
-use Rattle.jif_tree.specs.SourceRun.{calls_after, variable}
-use Rattle.jif_tree.specs.SourceRun.{executed}
-use Rattle.jif_tree.specs.SourceRun.{operands, value_of}
+use Rattle.jif_tree.specs.SourceRun.{Call, Item, run, keep, Configuration, method_at, result_of, after_item}
+use Rattle.jif_tree.specs.SourceRun.{calls_after, variable, executed, operands, value_of}
 use Rattle.jif_tree.specs.Altered.{Exposure, VariableIsAffected, MayStep}
 use Rattle.source_law.specs.Steady.{IsSteady, IsSteadyProgram}
-use Rattle.source_law.specs.Related.{IsInCall, ItemIsIdle, AreItemsAlike, AreAligned}
-use Rattle.source_law.specs.Related.{AreRelated}
+use Rattle.source_law.specs.Related.{IsInCall, ItemIsIdle, AreItemsAlike, AreAligned, AreRelated}
 use Rattle.source_law.proofs.CleanValues.{read_clean}
 use Rattle.source_law.proofs.PairedStatements.{paired_executed, set_related}
 use Rattle.source_law.proofs.CallPairs.{values_agree}

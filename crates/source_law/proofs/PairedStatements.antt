@@ -1,7 +1,7 @@
 -- A step that is the same on both sides, of items that are alike, or the item is idle.
-use Rattle.std.proofs.Common.{◌≡◌, ◌∙◌, ap, refl, sym, subst, inl, inr, ◌⊎◌, ⊎_elim, ℕ, ℤ, pos, List, []}
-use Rattle.std.proofs.Common.{◌∷◌, ◌++◌, length, map, Option, Some, None, IfSome, slice_get, true, false, Bool}
-use Rattle.std.proofs.Common.{if◌then◌else◌, append_assoc}
+use Rattle.std.proofs.Common.{◌≡◌, ◌∙◌, ap, refl, sym, subst, inl, inr, ◌⊎◌, ⊎_elim, ℕ, ℤ, pos, List, [], ◌∷◌, ◌++◌}
+use Rattle.std.proofs.Common.{length, map, Option, Some, None, IfSome, slice_get, true, false, Bool, if◌then◌else◌}
+use Rattle.std.proofs.Common.{append_assoc}
 use Rattle.std.specs.List.{AllZip}
 use Rattle.js_base.specs.declared.ids.VarId.{VarId}
 use Rattle.jif_tree.specs.declared.program.Program.{Program}
@@ -11,19 +11,16 @@ use Rattle.jif_tree.specs.declared.program.StmtKind.{StmtKind}
 use Rattle.jif_tree.specs.declared.program.StmtKind as kind
 use Rattle.jif_tree.specs.Operators.{is_true}
 use Rattle.jif_tree.specs.SourceRun.{Call, Item, run, Configuration, method_at, result_of, params_of, body_of, passed}
-use Rattle.jif_tree.specs.SourceRun.{kept}
-use Rattle.jif_tree.specs.SourceRun.{executed, after_call, calls_after, operands, statements_of, value_of}
+use Rattle.jif_tree.specs.SourceRun.{kept, executed, after_call, calls_after, operands, statements_of, value_of}
 use Rattle.jif_tree.specs.Altered.{Exposure, VariableIsAffected, MayGive}
 use Rattle.source_law.specs.Steady.{IsClean, IsIdle, DoesWell, IsSteadyProgram, AllSteady}
-use Rattle.source_law.specs.Related.{Pairs, IsPair, AreMates, AreItemsAlike, AreAligned, alike}
-use Rattle.source_law.specs.Related.{AreRelated}
+use Rattle.source_law.specs.Related.{Pairs, IsPair, AreMates, AreItemsAlike, AreAligned, alike, AreRelated}
 use Rattle.source_law.proofs.CleanValues.{clean_same}
 use Rattle.source_law.proofs.KeptCalls.{one_more_call}
 use Rattle.source_law.proofs.AlignedItems.{ArePairsKept, aligned_kept, kept_of}
 use Rattle.source_law.proofs.Lists.{last_there}
 use Rattle.source_law.proofs.CallPairs.{set_both, kept_after, values_agree, write_both, rows_alike, body_alike}
-use Rattle.source_law.proofs.CallPairs.{kept_alike}
-use Rattle.source_law.proofs.CallPairs.{passed_alike, pair_more, pair_last, pair_cases, past_end}
+use Rattle.source_law.proofs.CallPairs.{kept_alike, passed_alike, pair_more, pair_last, pair_cases, past_end}
 
 -- ---- the same value is set in a pair
 

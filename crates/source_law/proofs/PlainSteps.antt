@@ -1,15 +1,13 @@
 -- Each step of an altered run goes on with some steps of the plain run.
-use Rattle.std.proofs.Common.{◌≡◌, ◌∙◌, ap, refl, sym, subst, inl, ⊎_elim, arith, ℕ, zero, suc, ◌+◌, ◌≤◌, List}
-use Rattle.std.proofs.Common.{[]}
-use Rattle.std.proofs.Common.{◌∷◌, map, IsSomeAnd}
+use Rattle.std.proofs.Common.{◌≡◌, ◌∙◌, ap, refl, sym, subst, inl, ⊎_elim, arith, ℕ, zero, suc, ◌+◌, ◌≤◌, List, [], ◌∷◌}
+use Rattle.std.proofs.Common.{map, IsSomeAnd}
 use Rattle.std.specs.List.{AllZip}
 use Rattle.jif_tree.specs.declared.program.Program.{Program}
 use Rattle.jif_tree.specs.declared.program.Stmt.{Stmt}
 use Rattle.jif_tree.specs.declared.program.Expr.{Expr}
 use Rattle.jif_tree.specs.declared.program.Expr as expr
 use Rattle.jif_tree.specs.SourceRun.{Call, Item, run, keep, Configuration, method_at, result_of, after_item, step}
-use Rattle.jif_tree.specs.SourceRun.{operands, value_of}
-use Rattle.jif_tree.specs.SourceRun.{after_steps, variable}
+use Rattle.jif_tree.specs.SourceRun.{operands, value_of, after_steps, variable}
 use Rattle.jif_tree.specs.Altered.{Exposure, VariableIsAffected, MayStep, MayGive}
 use Rattle.source_law.specs.Steady.{IsIdle, IsSteadyProgram}
 use Rattle.source_law.specs.Related.{ItemIsIdle, AreItemsAlike, AreAligned, ended, idles, other_idles, alike}

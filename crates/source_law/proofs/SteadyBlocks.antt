@@ -1,7 +1,5 @@
 -- The statements of a checked program that endorses nothing are steady.
-use Rattle.std.proofs.Common.{◌≡◌, ◌∙◌, subst, inl, inr, ⊎_elim, ℕ, List, ◌++◌, length}
-use Rattle.std.proofs.Common.{map}
-use Rattle.std.proofs.Common.{Option, Some, None, IfSome}
+use Rattle.std.proofs.Common.{◌≡◌, ◌∙◌, subst, inl, inr, ⊎_elim, ℕ, List, ◌++◌, length, map, Option, Some, None, IfSome}
 use Rattle.std.specs.Prelude.{slice_index}
 use Rattle.std.specs.List.{AllByRecursion, flat_map}
 use Rattle.js_base.specs.declared.ids.StmtId.{StmtId}
@@ -13,14 +11,10 @@ use Rattle.jif_tree.specs.declared.program.Program.{Program}
 use Rattle.jif_tree.specs.declared.program.StmtKind.{StmtKind}
 use Rattle.jif_tree.specs.declared.program.StmtKind as kind
 use Rattle.jif_tree.specs.Altered.{Exposure, IsAffected, StatementIsAffected}
-use Rattle.jif_tree.specs.Trees.{BlockTree, expr_tree, row_tree, statement_tree}
-use Rattle.jif_tree.specs.Trees.{program_tree}
-use Rattle.jif_tree.specs.LabelRules.{MethodSetting, VariableLabels, setting_of, field_label}
-use Rattle.jif_tree.specs.LabelRules.{expr_label, guarded}
-use Rattle.jif_tree.specs.LabelRules.{Holds, expr_constraints, argument_flows, labels_after}
-use Rattle.jif_tree.specs.LabelRules.{labels_after_assignment}
-use Rattle.jif_tree.specs.LabelRules.{block_labels, method_at, params_of, result_of, return_flows}
-use Rattle.jif_tree.specs.LabelRules.{declared_labels}
+use Rattle.jif_tree.specs.Trees.{BlockTree, expr_tree, row_tree, statement_tree, program_tree}
+use Rattle.jif_tree.specs.LabelRules.{MethodSetting, VariableLabels, setting_of, field_label, expr_label, guarded}
+use Rattle.jif_tree.specs.LabelRules.{Holds, expr_constraints, argument_flows, labels_after, labels_after_assignment}
+use Rattle.jif_tree.specs.LabelRules.{block_labels, method_at, params_of, result_of, return_flows, declared_labels}
 use Rattle.jif_tree.specs.Labelling.{IsLabelledIfAny, AreLabelled}
 use Rattle.jif_tree.specs.ValueLabels.{AreValuesLabelled}
 use Rattle.jif_tree.proofs.LabelsKept.{Stay, stay_then, assignment_stays, block_stays, assigned_labelled}

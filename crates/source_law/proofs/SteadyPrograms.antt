@@ -1,6 +1,5 @@
 -- A checked program that endorses nothing is steady, whoever misbehaves.
-use Rattle.std.proofs.Common.{◌≡◌, ◌∙◌, ap, refl, sym, subst, ℕ, suc, List, [], ◌∷◌, length, map}
-use Rattle.std.proofs.Common.{Some, slice_get}
+use Rattle.std.proofs.Common.{◌≡◌, ◌∙◌, ap, refl, sym, subst, ℕ, suc, List, [], ◌∷◌, length, map, Some, slice_get}
 use Rattle.std.specs.Prelude.{slice_index}
 use mathlib.Core.Former.{Count}
 use Rattle.std.specs.List.{AllByRecursion, flat_map}
@@ -16,11 +15,9 @@ use Rattle.jif_tree.specs.declared.program.Stmt.{Stmt}
 use Rattle.jif_tree.specs.declared.program.StmtKind as kind
 use Rattle.jif_tree.specs.Altered.{Exposure, IsAffected}
 use Rattle.jif_tree.specs.Trees.{BlockTree, MethodTree, ProgramTree, block_tree, row_tree, statement_tree, head_of}
-use Rattle.jif_tree.specs.Trees.{method_tree}
-use Rattle.jif_tree.specs.Trees.{program_tree}
-use Rattle.jif_tree.specs.LabelRules.{VariableLabels, StatementLabels, setting_of, Holds, Constraint, Obligation}
-use Rattle.jif_tree.specs.LabelRules.{Meets, obligations_of, labels_after, labels_after_methods, block_labels}
-use Rattle.jif_tree.specs.LabelRules.{methods_labels}
+use Rattle.jif_tree.specs.Trees.{method_tree, program_tree}
+use Rattle.jif_tree.specs.LabelRules.{VariableLabels, StatementLabels, setting_of, Holds, Constraint, Obligation, Meets}
+use Rattle.jif_tree.specs.LabelRules.{obligations_of, labels_after, labels_after_methods, block_labels, methods_labels}
 use Rattle.jif_tree.specs.LabelRules.{program_labels, declared_labels}
 use Rattle.jif_tree.specs.Labelling.{AreLabelled, AreLabelledMethods}
 use Rattle.jif_tree.specs.ValueLabels.{AreValuesLabelled, AreAllValuesLabelled}

@@ -1,7 +1,6 @@
 -- In a checked program that endorses nothing, what is set may be affected, or its value reads nothing that may be.
-use Rattle.std.proofs.Common.{◌≡◌, ◌∙◌, ap, refl, inl, inr, ◌⊎◌, ⊎_elim, List, [], ◌∷◌}
-use Rattle.std.proofs.Common.{map}
-use Rattle.std.proofs.Common.{Option, Some, None, slice_get}
+use Rattle.std.proofs.Common.{◌≡◌, ◌∙◌, ap, refl, inl, inr, ◌⊎◌, ⊎_elim, List, [], ◌∷◌, map, Option, Some, None}
+use Rattle.std.proofs.Common.{slice_get}
 use Rattle.std.specs.Option.{option_map}
 use Rattle.std.specs.List.{AllByRecursion}
 use Rattle.std.proofs.lemmas.Option.{slice_get-map}
@@ -17,18 +16,14 @@ use Rattle.jif_tree.specs.declared.program.Expr.{Expr}
 use Rattle.jif_tree.specs.declared.program.Expr as expr
 use Rattle.jif_tree.specs.Altered.{Exposure, IsAffected, FieldIsAffected, VariableIsAffected}
 use Rattle.jif_tree.specs.SourceRun as source
-use Rattle.jif_tree.specs.Trees.{MethodTree, expr_tree, method_tree}
-use Rattle.jif_tree.specs.Trees.{program_tree}
+use Rattle.jif_tree.specs.Trees.{MethodTree, expr_tree, method_tree, program_tree}
 use Rattle.jif_tree.specs.LabelRules.{MethodSetting, VariableLabels, setting_of, variable_label, field_label}
-use Rattle.jif_tree.specs.LabelRules.{expr_label}
-use Rattle.jif_tree.specs.LabelRules.{Holds, argument_flows, result_flows}
-use Rattle.jif_tree.specs.LabelRules.{method_at, params_of, result_of, flow_of}
-use Rattle.jif_tree.specs.LabelRules.{declared_labels}
+use Rattle.jif_tree.specs.LabelRules.{expr_label, Holds, argument_flows, result_flows, method_at, params_of, result_of}
+use Rattle.jif_tree.specs.LabelRules.{flow_of, declared_labels}
 use Rattle.jif_tree.specs.Labelling.{IsLabelled, IsLabelledIfAny}
 use Rattle.jif_tree.specs.ValueLabels.{IsExprLabelled}
 use Rattle.jif_tree.specs.WellNumbered.{IsExprIn}
-use Rattle.jif_tree.proofs.LabelsKept.{Stay}
-use Rattle.jif_tree.proofs.LabelsKept.{labelled_later_if_any}
+use Rattle.jif_tree.proofs.LabelsKept.{Stay, labelled_later_if_any}
 use Rattle.source_law.specs.Steady.{IsClean, SetsWell, ArePassedWell, IsKeptWell}
 use Rattle.source_law.specs.Unendorsed.{IsUnendorsed}
 use Rattle.source_law.proofs.AffectedLabels.{affected_up, integ_first, integ_second, integ_crossed, variable_decided}

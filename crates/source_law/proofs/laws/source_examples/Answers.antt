@@ -10,11 +10,10 @@ use Rattle.jif_tree.specs.declared.program.Stmt.{Stmt}
 use Rattle.jif_tree.specs.declared.program.StmtKind.{StmtKind}
 use Rattle.jif_tree.specs.declared.program.StmtKind as kind
 use Rattle.jif_tree.specs.declared.program.Expr as expr
-use Rattle.jif_tree.specs.Altered.{FieldIsAffected, IsAffected, Alters, MayStep, steps}
-use Rattle.jif_tree.specs.Altered.{changes_field}
+use Rattle.jif_tree.specs.Altered.{FieldIsAffected, IsAffected, Alters, MayStep, steps, changes_field}
 use Rattle.jif_tree.specs.AlteredExamples.{field_of_0, field_of_1, for_1, one_bad}
-use Rattle.jif_tree.specs.SourceRun.{Item, run, Call, Configuration, main_body, prefix, step}
-use Rattle.jif_tree.specs.SourceRun.{configuration_at_start, IsAtEnd}
+use Rattle.jif_tree.specs.SourceRun.{Item, run, Call, Configuration, main_body, prefix, step, configuration_at_start}
+use Rattle.jif_tree.specs.SourceRun.{IsAtEnd}
 use Rattle.jif_tree.specs.Store.{row_of}
 use Rattle.need_labels.proofs.Somewhere.{any_here, any_first, any_none}
 use Rattle.source_law.specs.Related.{Pairs, AreAligned, ended, idles, other_idles, alike, ItemIsIdle, FieldsAgree}
