@@ -59,10 +59,9 @@ alike_more program exposure pairs further calls more (keep i into result) (run j
 alike_more program exposure pairs further calls more (keep i into result) (keep j onto other) wider grown same =
     (wider i j same.0, same.1, same.2, same.3)
 
-pub aligned_kept : (program : Program) (exposure : Exposure) (pairs wide : Pairs) (calls more others further : List
-    Call)
-    (items too : List Item) → ArePairsKept pairs wide → AreKept calls more → AreKept others further →
-    AreAligned program exposure pairs calls others items too →
+pub aligned_kept : (program : Program) (exposure : Exposure) (pairs wide : Pairs)
+    (calls more others further : List Call) (items too : List Item) → ArePairsKept pairs wide → AreKept calls more →
+    AreKept others further → AreAligned program exposure pairs calls others items too →
     AreAligned program exposure wide more further items too
 aligned_kept program exposure pairs wide calls more others further _ _ wider grown grown_too ended = ended
 aligned_kept program exposure pairs wide calls more others further _ _ wider grown grown_too (idles item items too idle

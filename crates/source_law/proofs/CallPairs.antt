@@ -65,8 +65,7 @@ pub set_both : (exposure : Exposure) (pairs : Pairs) (calls others : List Call) 
     ((i j : ℕ) → IsPair pairs i j → AreMates exposure pairs calls others i j) →
     ((i j k : ℕ) → IsPair pairs i j → IsPair pairs i k → j ≡ k) →
     ((i j k : ℕ) → IsPair pairs i k → IsPair pairs j k → i ≡ j) → (i j x : ℕ) (v w : ℤ) → IsPair pairs i j → v ≡ w →
-    (k l : ℕ) → IsPair pairs k l →
-    AreMates exposure pairs (calls_after calls i x v) (calls_after others j x w) k l
+    (k l : ℕ) → IsPair pairs k l → AreMates exposure pairs (calls_after calls i x v) (calls_after others j x w) k l
 set_both exposure pairs calls others mates there here i j x v w pair same k l other = elim (eqb_tells k i) [
   | inl own ↦
       let P : ℕ → Type 0 = λ n. IsPair pairs n l in

@@ -32,9 +32,11 @@ use Rattle.source_law.proofs.ExposedPrograms.{ExposedProgram, OwnMethod, IsBlock
 
 -- ---- what is found
 
+-- what the label check asks of a statement holds
 abbrev pub IsMet : Declared → StatementLabels → Type 0
 IsMet principals one = AllByRecursion (Holds principals) one.constraints
 
+-- a variable of the program is in the list of labels
 pub variable_found : (program : ProgramTree) (method : MethodId) (x : VarId) (labels : VariableLabels) →
     length labels ≡ length program.vars → HasVariable program method x →
     (found : Option Label) × (slice_get labels x.0 ≡ Some found)
@@ -113,9 +115,8 @@ module _ (principals : Declared) (program : Program) (scene : ExposedProgram pro
       (affected_up exposure.bad pc (join_of from pc) (integ_second from pc) far)
 
   into_affected : (pc : Label) (labels : VariableLabels) → Stay labels scene.final → (result into : Option VarId) →
-      KeepsOne result into → IsLabelledIfAny labels into → AllByRecursion (Holds principals) (result_flows pc labels
-      result into) →
-      IsAffected exposure.bad pc → IfSome into (VariableIsAffected exposure)
+      KeepsOne result into → IsLabelledIfAny labels into → AllByRecursion (Holds principals)
+      (result_flows pc labels result into) → IsAffected exposure.bad pc → IfSome into (VariableIsAffected exposure)
   into_affected pc labels stay result None is_kept has holds far = tt
   into_affected pc labels stay None (Some x) is_kept has holds far = absurd is_kept
   into_affected pc labels stay (Some result) (Some x) is_kept has holds far =
@@ -216,8 +217,7 @@ module _ (principals : Declared) (program : Program) (scene : ExposedProgram pro
       )
     where
       by : (result : Option VarId) → own.tree.result ≡ result → IsLabelledIfAny labels own.tree.result →
-          Stay labels scene.final →
-          AllByRecursion (Holds principals)
+          Stay labels scene.final → AllByRecursion (Holds principals)
           (return_flows pc labels own.tree.result (expr_label setting pc labels (expr_tree value))) →
           IfSome own.tree.result (VariableIsAffected exposure)
       by None none own stays holds = rw none tt

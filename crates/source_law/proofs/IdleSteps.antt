@@ -180,8 +180,7 @@ idle_steps program exposure steady c (run call statement) behind next idle may =
   where
     by : (found : Option Call) → slice_get c.calls call ≡ found →
         IsSomeAnd found (λ made. IsIdle program exposure (result_of (method_at program made.method)) statement.kind) →
-        LeavesIdle program exposure c behind
-        (executed program c call (run call statement) statement.kind may.0 behind)
+        LeavesIdle program exposure c behind (executed program c call (run call statement) statement.kind may.0 behind)
     by None none holds = absurd holds
     by (Some made) is holds =
         idle_leaves program exposure steady c call made is (run call statement) idle statement.kind may.0 behind holds

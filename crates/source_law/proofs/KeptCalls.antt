@@ -28,8 +28,8 @@ same_calls exposure calls i call there = record {
 }
 
 -- a call that was made
-pub one_more_call : (exposure : Exposure) (calls : List Call) (made : Call) → AreMore exposure calls (calls ++ made ∷
-    [])
+pub one_more_call : (exposure : Exposure) (calls : List Call) (made : Call) →
+    AreMore exposure calls (calls ++ made ∷ [])
 one_more_call exposure calls made i call there = record {
   now = call;
   there = still_there calls made call i there;

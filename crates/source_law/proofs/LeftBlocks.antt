@@ -92,8 +92,8 @@ module _ (principals : Declared) (program : Program) (scene : ExposedProgram pro
   -- ---- what backs a statement
 
   own_backed : (changed : List Label) (exprs : List ExprTree) (nested : List Backing) (p : ℕ) →
-      Any (λ label. Trusts label p) changed →
-      Any (Backs principals p) (map for_label changed ++ for_releases setting exprs ++ nested)
+      Any (λ label. Trusts label p) changed → Any (Backs principals p)
+      (map for_label changed ++ for_releases setting exprs ++ nested)
   own_backed changed exprs nested p some =
       any_left (Backs principals p) (map for_label changed ++ for_releases setting exprs) nested
       (any_left (Backs principals p) (map for_label changed) (for_releases setting exprs) (labels changed some))
@@ -197,8 +197,7 @@ module _ (principals : Declared) (program : Program) (scene : ExposedProgram pro
 
   mutual
     pub what_left : (what : StmtKind) (heading : Heading) (rest : BlockTree) →
-        IsBlockOf program own (statement_tree what heading rest) →
-        Far (own_backing what) →
+        IsBlockOf program own (statement_tree what heading rest) → Far (own_backing what) →
         IsIdle program exposure own.tree.result what
     what_left (kind.Let x value) heading rest there far =
         shown x there.0 (changes (label_of labelled x ∷ []) (expr_tree value ∷ []) [] (label_of labelled x)
@@ -246,8 +245,7 @@ module _ (principals : Declared) (program : Program) (scene : ExposedProgram pro
         changes (labels_of labelled own.tree.result) (expr_tree value ∷ []) [] label (λ p trusts. among label (labels_of
         labelled own.tree.result) some p trusts) far)
 
-    pub row_left : {n : _} → (row : kind.Row_of-Stmt n) →
-        IsBlockOf program own (row_tree row) →
+    pub row_left : {n : _} → (row : kind.Row_of-Stmt n) → IsBlockOf program own (row_tree row) →
         Far (all_backing (block_uses labelled setting (row_tree row))) → AreIdle program exposure own.tree.result row
     row_left kind.end_of-Stmt there far = tt
     row_left (kind.more_of-Stmt id line what rest) there far =

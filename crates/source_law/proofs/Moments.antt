@@ -48,7 +48,8 @@ record Along (program : Program) (exposure : Exposure) (start : Configuration) (
 along : (program : Program) (exposure : Exposure) (start : Configuration) (most : ℕ) →
     IsSteadyProgram program exposure → (moments : List Configuration) (c : Configuration) (n left : ℕ) →
     n + left ≡ most → EndsAfter program left (after_steps program n start) →
-    AreRelated program exposure c (after_steps program n start) → ComesTo program exposure c moments → Along program exposure start most n moments
+    AreRelated program exposure c (after_steps program n start) → ComesTo program exposure c moments →
+    Along program exposure start most n moments
 along program exposure start most steady [] c n left sum ends r comes = record {
   numbers = [];
   many = refl;

@@ -13,16 +13,17 @@ use Rattle.source_law.proofs.CleanValues.{read_clean}
 use Rattle.source_law.proofs.PairedStatements.{paired_executed, set_related}
 use Rattle.source_law.proofs.CallPairs.{values_agree}
 
+-- what holds of the call of an item holds of one that is there
 pub in_call : (program : Program) (calls : List Call) (call : ℕ) (made : Call) (Holds : Option VarId → Type 0) →
-    slice_get calls call ≡ Some made → IsInCall program calls call Holds → Holds (result_of (method_at program
-    made.method))
+    slice_get calls call ≡ Some made → IsInCall program calls call Holds →
+    Holds (result_of (method_at program made.method))
 in_call program calls call made Holds is holds =
     subst (λ found. IsSomeAnd found (λ (it : Call). Holds (result_of (method_at program it.method)))) is holds
 
 pub paired_steps : (program : Program) (exposure : Exposure) → IsSteadyProgram program exposure →
     (c d next : Configuration) (first second : Item) (items more : List Item) → (r : AreRelated program exposure c d) →
-    c.pending ≡ first ∷ items → d.pending ≡ second ∷ more → AreItemsAlike program exposure r.pairs c.calls first
-    second →
+    c.pending ≡ first ∷ items → d.pending ≡ second ∷ more →
+    AreItemsAlike program exposure r.pairs c.calls first second →
     AreAligned program exposure r.pairs c.calls d.calls items more → MayStep program exposure c (first ∷ items) next →
     ItemIsIdle program exposure c.calls first ⊎ AreRelated program exposure next (after_item program d (second ∷ more))
 paired_steps program exposure steady c d next (run i one) (run j two) items more r here there same rest may =

@@ -1,4 +1,4 @@
--- A step that is the same on both sides, of items that are alike, or the item is idle.
+-- A statement that is not idle does the same in both calls of a pair.
 use Rattle.std.proofs.Common.{◌≡◌, ◌∙◌, ap, refl, sym, subst, inl, inr, ◌⊎◌, ⊎_elim, ℕ, ℤ, pos, List, [], ◌∷◌, ◌++◌}
 use Rattle.std.proofs.Common.{length, map, Option, Some, None, IfSome, slice_get, true, false, Bool, if◌then◌else◌}
 use Rattle.std.proofs.Common.{append_assoc}
@@ -62,8 +62,8 @@ call_related : (program : Program) (exposure : Exposure) → IsSteadyProgram pro
     AreAligned program exposure r.pairs c.calls d.calls items more → (i j : ℕ) → IsPair r.pairs i j → (method : ℕ)
     (values others : List ℤ) (into : Option VarId) →
     ((x : VarId) → ¬ VariableIsAffected exposure x →
-    passed (params_of (method_at program method)) values x.0 ≡ passed (params_of (method_at program method)) others
-    x.0) →
+    passed (params_of (method_at program method)) values x.0
+    ≡ passed (params_of (method_at program method)) others x.0) →
     ((pairs : Pairs) (calls too : List Call) → IsPair pairs i j → (left right : List Item) →
     AreAligned program exposure pairs calls too left right →
     AreAligned program exposure pairs calls too (kept i into (result_of (method_at program method)) ++ left)
@@ -180,8 +180,8 @@ call_related program exposure steady c d items more r rest i j pair method value
 
     by : (found : Option Method) → method_at program method ≡ found →
         AreAligned program exposure wide calls too
-        (map (run m) (body_of (method_at program method)) ++ kept i into (result_of (method_at program method)) ++
-        items)
+        (map (run m) (body_of (method_at program method)) ++ kept i into (result_of (method_at program method))
+        ++ items)
         (map (run n) (body_of (method_at program method)) ++ kept j into (result_of (method_at program method)) ++ more)
     by None none =
         let Q : Option Method → Type 0 = λ found. AllSteady program exposure (result_of found) (body_of found) in
@@ -259,10 +259,10 @@ paired_executed program exposure steady c d items more r rest i j pair made is t
     (kind.If' guard m first n second) (v ∷ []) well all = ⊎_elim (λ idle. inl idle) (λ clean. inr (both clean))
     (either well.0)
   where
-    either : IsClean exposure guard ⊎ IsIdle program exposure (result_of (method_at program made.method)) (kind.If'
-        guard m first n second) →
-        IsIdle program exposure (result_of (method_at program made.method)) (kind.If' guard m first n second) ⊎
-        IsClean exposure guard
+    either : IsClean exposure guard
+        ⊎ IsIdle program exposure (result_of (method_at program made.method)) (kind.If' guard m first n second) →
+        IsIdle program exposure (result_of (method_at program made.method)) (kind.If' guard m first n second)
+        ⊎ IsClean exposure guard
     either (inl clean) = inr clean
     either (inr idle) = inl idle
 

@@ -1,4 +1,5 @@
--- Each step of an altered run goes on with some steps of the plain run.
+-- For a step of an altered run the plain run makes some steps: those of idle items that come first, and the same step
+-- where the item is not idle. At the end of the altered run it makes all that are left.
 use Rattle.std.proofs.Common.{◌≡◌, ◌∙◌, ap, refl, sym, subst, inl, ⊎_elim, arith, ℕ, zero, suc, ◌+◌, ◌≤◌, List, [], ◌∷◌}
 use Rattle.std.proofs.Common.{map, IsSomeAnd}
 use Rattle.std.specs.List.{AllZip}
@@ -20,8 +21,9 @@ use Rattle.source_law.proofs.PairedItems.{paired_steps}
 
 -- ---- plain steps are steps too
 
-plainly : (exposure : Exposure) (c : Configuration) (call : ℕ) (e : Expr) → MayGive exposure c call e (value_of c call
-    e)
+-- a value may be read as it is
+plainly : (exposure : Exposure) (c : Configuration) (call : ℕ) (e : Expr) →
+    MayGive exposure c call e (value_of c call e)
 plainly exposure c call (expr.Number n) = refl
 plainly exposure c call (expr.Local x) = inl refl
 plainly exposure c call (expr.Scalar field) = inl refl
@@ -114,6 +116,7 @@ module _ (program : Program) (exposure : Exposure) (steady : IsSteadyProgram pro
       absurd (cc)
   not_ended n (suc less) item behind sum due = (less, refl)
 
+  -- by some steps more it is related again
   pub record Reaches (from : ℕ) (next : Configuration) : Type 0 where
     pub to : ℕ
     pub on : from ≤ to
@@ -124,6 +127,7 @@ module _ (program : Program) (exposure : Exposure) (steady : IsSteadyProgram pro
       after_item program d (item ∷ behind) ≡ step program d
   step_to d item behind due = ap (after_item program d) (sym due)
 
+  -- the plain run goes on over an item of its own that is idle
   passes : (n : ℕ) (c : Configuration) (item : Item) (more : List Item) →
       (r : AreRelated program exposure c (after_steps program n start)) →
       (after_steps program n start).pending ≡ item ∷ more →

@@ -66,6 +66,7 @@ methods_stay principals program labels (method ∷ methods) =
 
 -- ---- bodies as rows
 
+-- A body is a list, and a nested block a row. What is shown of rows holds of bodies.
 abbrev row_from : List Stmt → (n : Count) × kind.Row_of-Stmt n
 row_from [] = (_, kind.end_of-Stmt)
 row_from (statement ∷ body) =

@@ -1,6 +1,6 @@
 pub mod Checked
 pub mod Follows
 pub mod Related
-pub mod SourceExamples
+pub mod SteadyExamples
 pub mod Steady
 pub mod Unendorsed

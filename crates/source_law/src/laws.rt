@@ -26,13 +26,13 @@ ghost use Rattle.need_labels.specs.Needs.{NeedsShape};
 ghost use Rattle.source_law.specs.Checked.{IsChecked, exposed_to};
 ghost use Rattle.source_law.specs.Follows.{ComesTo, EndsAfter, FollowsPlain, KeepsUp};
 ghost use Rattle.source_law.specs.Related.{AreRelated};
-ghost use Rattle.source_law.specs.SourceExamples.{begun, endorsed_0, only, second_pending, sets_0, sets_1_by, sets_9};
-ghost use Rattle.source_law.specs.SourceExamples.{two_fields};
+ghost use Rattle.source_law.specs.SteadyExamples.{begun, endorsed_0, only, second_pending, sets_0, sets_1_by, sets_9};
+ghost use Rattle.source_law.specs.SteadyExamples.{two_fields};
 ghost use Rattle.source_law.specs.Steady.{DoesWell, IsIdle, IsSteady, IsSteadyProgram};
 ghost use Rattle.source_law.specs.Unendorsed.{EndorsesNothing, IsUnendorsedBlock};
 
 /// What hosts that misbehave leave of a plain run.
-pub fn source_laws()
+pub fn steady_laws()
     // In a checked program that endorses nothing, what may be affected decides on nothing else.
     ensures steady { (principals : Declared) (program : Program) (labelled : Labelled) (needs : NeedsShape)
         (bad : List Label) → program_tree program ≡ labelled.program → IsChecked principals labelled needs →
@@ -61,7 +61,7 @@ pub fn source_laws()
 
 /// What a misbehaving host that principal 0 trusts leaves of statements, and of runs of a program whose `main` has one
 /// statement.
-pub fn source_examples()
+pub fn steady_examples()
     // A statement that sets what principal 0 trusts changes only what may be affected, whatever it reads.
     ensures idle { (program : Program) → IsIdle program one_bad None sets_0 }
     // One that sets what principal 1 trusts changes more.

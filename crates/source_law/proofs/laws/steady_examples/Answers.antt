@@ -18,9 +18,9 @@ use Rattle.jif_tree.specs.Store.{row_of}
 use Rattle.need_labels.proofs.Somewhere.{any_here, any_first, any_none}
 use Rattle.source_law.specs.Related.{Pairs, AreAligned, ended, idles, other_idles, alike, ItemIsIdle, FieldsAgree}
 use Rattle.source_law.specs.Steady.{AreIdle, AreSteady, AllIdle, AllSteady}
-use Rattle.source_law.specs.SourceExamples.{begun, endorsed_0, only, second_pending, sets_1_by, sets_9, two_fields}
+use Rattle.source_law.specs.SteadyExamples.{begun, endorsed_0, only, second_pending, sets_1_by, sets_9, two_fields}
 use Rattle.source_law.proofs.Moments.{one_rises, rises_before}
-use Rattle.source_law.proofs.laws.source_examples.Goals as goal
+use Rattle.source_law.proofs.laws.steady_examples.Goals as goal
 
 -- ---- what is affected
 

@@ -2,7 +2,7 @@ use Rattle.source_law.proofs.AlteredSteps.{keeps_up}
 use Rattle.source_law.proofs.Moments.{moments_follow}
 use Rattle.source_law.proofs.RelatedStart.{starts}
 use Rattle.source_law.proofs.SteadyPrograms.{program_steady}
-use Rattle.source_law.proofs.laws.source_laws.Goals as goal
+use Rattle.source_law.proofs.laws.steady_laws.Goals as goal
 
 pub returns : goal.returns
 returns c = record {
