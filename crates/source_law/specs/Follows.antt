@@ -19,8 +19,8 @@ ComesTo program exposure c (now ∷ moments) =
 abbrev pub EndsAfter : Program → ℕ → Configuration → Type 0
 EndsAfter program left d = IsAtEnd (after_steps program left d)
 
--- Some of the steps that are left to a plain run bring it from a configuration to one to which an altered run's is
--- related. Where the altered run is at its end, all of them do.
+-- Some of the steps that are left to a plain run bring it from a configuration to one that is related to that of an
+-- altered run, and some are left further. Where the altered run is at its end, none are.
 pub record KeepsUp (program : Program) (exposure : Exposure) (d : Configuration) (left : ℕ) (now : Configuration) :
     Type 0 where
   pub steps : ℕ

@@ -109,7 +109,7 @@ pub fn steady_examples()
         ¬ FollowsPlain program one_bad two_fields 1
         (begun program (pos 5) (pos 9) [] ∷ begun program (pos 5) (pos 7) (only sets_9 ∷ []) ∷ []) }
     // Where `main` endorses principal 0's field an altered run may set the other to 9, which no plain run does. So the
-    // law can't be had of programs that endorse.
+    // law asks for a program that endorses nothing.
     ensures endorsing { (program : Program) → main_body program ≡ only (sets_1_by endorsed_0) ∷ [] →
         let moments = begun program (pos 5) (pos 9) [] ∷ [] in
         ComesTo program one_bad (configuration_at_start program two_fields) moments
