@@ -21,7 +21,7 @@ affected_up bad from to flows far =
     any_also (λ host. IntegFlows host from) (λ host. IntegFlows host to)
     (λ host own p within trusts. own p within (flows p within trusts)) bad far
 
-pub affected_decided : (bad : List Label) (label : Label) → Decided (IsAffected bad label)
+affected_decided : (bad : List Label) (label : Label) → Decided (IsAffected bad label)
 affected_decided bad label = any_of (λ host. IntegFlows host label) (λ host. integ_flows host label) bad
 
 pub integ_first : (first second : Label) → IntegFlows first (join_of first second)
@@ -59,16 +59,12 @@ integ_crossed first second p within trusts =
 
 -- ---- each is decided
 
+found_decided : (bad : List Label) (found : Option Label) → Decided (IsSomeAnd found (IsAffected bad))
+found_decided bad None = inr (λ never. never)
+found_decided bad (Some label) = affected_decided bad label
+
 pub variable_decided : (exposure : Exposure) (x : VarId) → Decided (VariableIsAffected exposure x)
-variable_decided exposure x = by (slice_get exposure.variables x.0)
-  where
-    by : (found : Option Label) → Decided (IsSomeAnd found (IsAffected exposure.bad))
-    by None = inr (λ never. never)
-    by (Some label) = affected_decided exposure.bad label
+variable_decided exposure x = found_decided exposure.bad (slice_get exposure.variables x.0)
 
 pub field_decided : (exposure : Exposure) (field : FieldId) → Decided (FieldIsAffected exposure field)
-field_decided exposure field = by (slice_get exposure.fields field.0)
-  where
-    by : (found : Option Label) → Decided (IsSomeAnd found (IsAffected exposure.bad))
-    by None = inr (λ never. never)
-    by (Some label) = affected_decided exposure.bad label
+field_decided exposure field = found_decided exposure.bad (slice_get exposure.fields field.0)

@@ -104,10 +104,10 @@ others_before program exposure pairs calls others (item ∷ made) items too all 
     other_idles item items (made ++ too) all.0
     (others_before program exposure pairs calls others made items too all.1 rest)
 
-pub mates_more : (exposure : Exposure) (pairs : Pairs) (calls more others further : List Call) (i j : ℕ) →
-    AreMore exposure calls more → AreMore exposure others further → AreMates exposure pairs calls others i j →
-    AreMates exposure pairs more further i j
-mates_more exposure pairs calls more others further i j grown grown_too mates =
+pub mates_more : (exposure : Exposure) (pairs wide : Pairs) (calls more others further : List Call) (i j : ℕ) →
+    ArePairsKept pairs wide → AreMore exposure calls more → AreMore exposure others further →
+    AreMates exposure pairs calls others i j → AreMates exposure wide more further i j
+mates_more exposure pairs wide calls more others further i j wider grown grown_too mates =
     let one = grown i mates.first mates.first_there in
     let two = grown_too j mates.second mates.second_there in
     record {
@@ -117,8 +117,9 @@ mates_more exposure pairs calls more others further i j grown grown_too mates =
       second_there = two.there;
       alike = record {
         method = one.method ∙ mates.alike.method ∙ sym two.method;
-        callers = subst (λ n. IsPair pairs one.now.caller n) (sym two.caller)
-            (subst (λ n. IsPair pairs n mates.second.caller) (sym one.caller) mates.alike.callers);
+        callers = subst (λ n. IsPair wide one.now.caller n) (sym two.caller)
+            (subst (λ n. IsPair wide n mates.second.caller) (sym one.caller)
+            (wider mates.first.caller mates.second.caller mates.alike.callers));
         values = λ x clean. one.values x clean ∙ mates.alike.values x clean ∙ sym (two.values x clean);
       };
     }

@@ -17,7 +17,7 @@ use Rattle.source_law.specs.Steady.{IsClean, IsIdle, DoesWell, IsSteadyProgram, 
 use Rattle.source_law.specs.Related.{Pairs, IsPair, AreMates, AreItemsAlike, AreAligned, alike, AreRelated}
 use Rattle.source_law.proofs.CleanValues.{clean_same}
 use Rattle.source_law.proofs.KeptCalls.{one_more_call}
-use Rattle.source_law.proofs.AlignedItems.{ArePairsKept, aligned_kept, kept_of}
+use Rattle.source_law.proofs.AlignedItems.{ArePairsKept, aligned_kept, kept_of, mates_more}
 use Rattle.source_law.proofs.Lists.{last_there}
 use Rattle.source_law.proofs.CallPairs.{set_both, kept_after, values_agree, write_both, rows_alike, body_alike}
 use Rattle.source_law.proofs.CallPairs.{kept_alike, passed_alike, pair_more, pair_last, pair_cases, past_end}
@@ -104,22 +104,8 @@ call_related program exposure steady c d items more r rest i j pair method value
     too = d.calls ++ second ∷ []
 
     old : (a b : ℕ) → AreMates exposure r.pairs c.calls d.calls a b → AreMates exposure wide calls too a b
-    old a b was =
-        let one = one_more_call exposure c.calls first a was.first was.first_there in
-        let two = one_more_call exposure d.calls second b was.second was.second_there in
-        record {
-          first = one.now;
-          first_there = one.there;
-          second = two.now;
-          second_there = two.there;
-          alike = record {
-            method = one.method ∙ was.alike.method ∙ sym two.method;
-            callers = subst (λ k. IsPair wide one.now.caller k) (sym two.caller)
-                (subst (λ k. IsPair wide k was.second.caller) (sym one.caller)
-                (wider was.first.caller was.second.caller was.alike.callers));
-            values = λ x clean. one.values x clean ∙ was.alike.values x clean ∙ sym (two.values x clean);
-          };
-        }
+    old a b was = mates_more exposure r.pairs wide c.calls calls d.calls too a b wider
+        (one_more_call exposure c.calls first) (one_more_call exposure d.calls second) was
 
     new : AreMates exposure wide calls too m n
     new = record {

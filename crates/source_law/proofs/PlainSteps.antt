@@ -58,8 +58,8 @@ related_here program exposure c d next behind r leaves rest =
     record {
       fields = λ field clean. leaves.fields field clean ∙ r.fields field clean;
       pairs = r.pairs;
-      mates = λ i j pair. mates_more exposure r.pairs c.calls next.calls d.calls d.calls i j leaves.calls
-          (same_calls exposure d.calls) (r.mates i j pair);
+      mates = λ i j pair. mates_more exposure r.pairs r.pairs c.calls next.calls d.calls d.calls i j
+          (λ k l other. other) leaves.calls (same_calls exposure d.calls) (r.mates i j pair);
       one_there = r.one_there;
       one_here = r.one_here;
       pending = subst P (sym leaves.pending)
@@ -76,8 +76,8 @@ related_there program exposure c d next behind r leaves rest =
     record {
       fields = λ field clean. r.fields field clean ∙ sym (leaves.fields field clean);
       pairs = r.pairs;
-      mates = λ i j pair. mates_more exposure r.pairs c.calls c.calls d.calls next.calls i j
-          (same_calls exposure c.calls) leaves.calls (r.mates i j pair);
+      mates = λ i j pair. mates_more exposure r.pairs r.pairs c.calls c.calls d.calls next.calls i j
+          (λ k l other. other) (same_calls exposure c.calls) leaves.calls (r.mates i j pair);
       one_there = r.one_there;
       one_here = r.one_here;
       pending = subst P (sym leaves.pending)
