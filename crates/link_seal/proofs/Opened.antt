@@ -1,0 +1,159 @@
+-- What an opener opens was sealed for its link, and what was sealed for it is opened.
+use Rattle.std.proofs.Common.{◌≡◌, ℕ, ◌+◌, ◌-◌, ◌<◌, ◌≤◌, Bool, true, false, List, [], ◌∷◌, ◌++◌, length, take, drop}
+use Rattle.std.proofs.Common.{Ok, Err, refl, sym, ap, ap₂, subst, ◌∙◌, arith, append_assoc}
+use Rattle.std.specs.Prelude.{◌&&◌, if◌then◌else◌, nat_lt, Result}
+use Rattle.std.specs.Str.{bytes_eq}
+use Rattle.std.proofs.lemmas.Slice.Eq.{bytes_eq-Decides}
+use Rattle.std.proofs.lemmas.Bool.{ltb-true, lt-ltb, leb-true, le-leb}
+use Rattle.std.proofs.lemmas.List.{append-nil, take-append-drop, length-append}
+use Rattle.sha2.proofs.Facts256.{length-sha256}
+use Rattle.byte_format.specs.Numbers.{AreBytes, number_bytes, word_bytes}
+use Rattle.byte_format.specs.Reader.{sequel, given}
+use Rattle.byte_format.proofs.NumberLaws.{bytes_reads, bytes_again, number_reads, number_again}
+use Rattle.byte_format.proofs.Sequels.{Reads, Again, reads_then, reads_last, reads_require}
+use Rattle.byte_format.proofs.Sequels.{again_then, again_last, again_require}
+use Rattle.link_seal.specs.declared.errors.OpenError.{OpenError}
+use Rattle.link_seal.specs.declared.errors.OpenError.TheVariants as refusal
+use Rattle.link_seal.specs.declared.sizes.TheConstants.{HEAD_BYTES, TAG_BYTES, LEAST_BODY_BYTES, MOST_BODY_BYTES}
+use Rattle.link_seal.specs.declared.sizes.TheConstants.{MOST_FRAMES}
+use Rattle.link_seal.specs.Hmac.{hmac_of}
+use Rattle.link_seal.specs.Links.{LinkShape, text_of, next_sealed, CanSeal}
+use Rattle.link_seal.specs.Opening.{parts_at, frame_in, frame_alone, opens}
+
+pub length-hmac : (key text : List ℕ) → length (hmac_of key text) ≡ TAG_BYTES
+unfolding hmac_of
+length-hmac key text = length-sha256 _
+
+-- ---- the parts of a sealed frame
+
+-- a length, a text and a tag
+abbrev spelled : List ℕ × List ℕ → List ℕ
+spelled parts = number_bytes (length parts.0 + TAG_BYTES) ++ (parts.0 ++ parts.1)
+
+abbrev AreParts : List ℕ × List ℕ → Type 0
+AreParts parts =
+    (LEAST_BODY_BYTES ≤ length parts.0 + TAG_BYTES) × ((length parts.0 + TAG_BYTES ≤ MOST_BODY_BYTES)
+    × (length parts.1 ≡ TAG_BYTES))
+
+parts_reads : Reads parts_at (λ parts text. (text ≡ spelled parts) × AreParts parts)
+unfolding parts_at
+parts_reads =
+    reads_then (number_reads _) (λ len _. reads_require refusal.TooLong (λ small. reads_require refusal.Short (λ some.
+    reads_then (bytes_reads _ (len - TAG_BYTES)) (λ text is. reads_last (λ tag. (text, tag)) (bytes_reads _ TAG_BYTES)
+    (λ tag also.
+    let at_least : LEAST_BODY_BYTES ≤ len = leb-true _ _ some in
+    let at_most : len ≤ MOST_BODY_BYTES = leb-true _ _ small in
+    let long : len ≡ length text + TAG_BYTES = omega (arith, at_least, is.0) in (
+      ap (λ n. number_bytes n ++ (text ++ tag)) long,
+      (omega (arith, long, at_least), (omega (arith, long, at_most), also.0)),
+    ))))))
+
+parts_again : (parts : List ℕ × List ℕ) → AreParts parts → Again parts_at parts (spelled parts)
+unfolding parts_at
+parts_again (text, tag) are =
+    let long : length text ≡ length text + TAG_BYTES - TAG_BYTES = omega arith in
+    again_then _ (number_again _ (length text + TAG_BYTES) (omega (arith, are.1.0)))
+    (again_require refusal.TooLong (le-leb _ _ are.1.0) (again_require refusal.Short (le-leb _ _ are.0)
+    (again_then _ (bytes_again _ text _ long) (again_last (λ tag. (text, tag)) (bytes_again _ tag TAG_BYTES are.1.1)))))
+
+-- ---- the frame in a text
+
+abbrev giving : List ℕ → Result (List ℕ) OpenError
+giving frame = Ok frame
+
+granted : (test : Bool) (why : OpenError) (otherwise : Result (List ℕ) OpenError) (frame : List ℕ) →
+    (if test then otherwise else Err why) ≡ giving frame → (test ≡ true) × (otherwise ≡ giving frame)
+granted true why otherwise frame is = (refl, is)
+granted false why otherwise frame is = absurd cc
+
+both_true : (one other : Bool) → (one && other) ≡ true → (one ≡ true) × (other ≡ true)
+both_true true other is = (refl, is)
+both_true false other is = absurd cc
+
+giving_is : (one other : List ℕ) → giving one ≡ giving other → one ≡ other
+giving_is one other is = cc
+
+drop_twice : (bytes : List ℕ) → drop 8 (drop 2 bytes) ≡ drop HEAD_BYTES bytes
+drop_twice [] = refl
+drop_twice (one ∷ []) = refl
+drop_twice (one ∷ other ∷ bytes) = refl
+
+-- a text whose frame is taken is that of the next frame, and the tag is that of the text
+text_is : (link : LinkShape) (text tag frame : List ℕ) → frame_in link text tag ≡ Ok frame →
+    (link.next < MOST_FRAMES)
+    × ((text ≡ text_of link.from link.to link.next frame) × (tag ≡ hmac_of link.key text))
+text_is link text tag frame is =
+    let hosts = link.from.0 ∷ link.to.0 ∷ [] in
+    let number = take 8 (drop 2 text) in
+    let tagged = granted (bytes_eq (hmac_of link.key text) tag) refusal.BadTag _ frame is in
+    let linked = granted (bytes_eq (take 2 text) hosts) refusal.WrongLink _ frame tagged.1 in
+    let numbered = granted (bytes_eq number (word_bytes link.next) && nat_lt link.next MOST_FRAMES) _ _ frame linked.1 in
+    let tests = both_true (bytes_eq number (word_bytes link.next)) _ numbered.0 in
+    let hosts_are : take 2 text ≡ hosts = (bytes_eq-Decides (take 2 text) hosts).0 linked.0 in
+    let number_is : number ≡ word_bytes link.next = (bytes_eq-Decides number (word_bytes link.next)).0 tests.0 in
+    let frame_is : drop 8 (drop 2 text) ≡ frame = drop_twice text ∙ giving_is _ _ numbered.1 in (
+      ltb-true _ _ tests.1,
+      (
+        sym (take-append-drop 2 text) ∙ ap₂ (λ (a b : List ℕ). a ++ b) hosts_are
+        (sym (take-append-drop 8 (drop 2 text)) ∙ ap₂ (λ (a b : List ℕ). a ++ b) number_is frame_is),
+        sym ((bytes_eq-Decides (hmac_of link.key text) tag).0 tagged.0),
+      ),
+    )
+
+-- the text of the next frame, with its tag, gives the frame
+frame_again : (link : LinkShape) (frame : List ℕ) → link.next < MOST_FRAMES →
+    let text = text_of link.from link.to link.next frame in
+    frame_in link text (hmac_of link.key text) ≡ Ok frame
+unfolding word_bytes
+frame_again link frame below =
+    let text = text_of link.from link.to link.next frame in
+    let tag = hmac_of link.key text in
+    let tagged : bytes_eq tag tag ≡ true = (bytes_eq-Decides tag tag).1 refl in
+    let hosts = link.from.0 ∷ link.to.0 ∷ [] in
+    let linked : bytes_eq hosts hosts ≡ true = (bytes_eq-Decides hosts hosts).1 refl in
+    let number = word_bytes link.next in
+    let numbered : bytes_eq number number ≡ true = (bytes_eq-Decides number number).1 refl in
+    let under : nat_lt link.next MOST_FRAMES ≡ true = lt-ltb _ _ below in
+    rw (tagged, linked, numbered, under) refl
+
+length-text : (link : LinkShape) (frame : List ℕ) →
+    length (text_of link.from link.to link.next frame) ≡ length frame + HEAD_BYTES
+unfolding word_bytes
+length-text link frame = omega arith
+
+-- ---- both
+
+alone_is : (link : LinkShape) (reading : Result ((List ℕ × List ℕ) × List ℕ) OpenError) (frame : List ℕ) →
+    frame_alone link reading ≡ Ok frame →
+    (parts : List ℕ × List ℕ) × (reading ≡ Ok (parts, [])) × (frame_in link parts.0 parts.1 ≡ Ok frame)
+alone_is link (Ok (parts, [])) frame is = (parts, refl, is)
+alone_is link (Ok (parts, byte ∷ behind)) frame is = absurd cc
+alone_is link (Err why) frame is = absurd cc
+
+pub opened : (link : LinkShape) (bytes frame : List ℕ) → AreBytes bytes → opens link bytes ≡ Ok frame →
+    CanSeal link.next frame × (bytes ≡ next_sealed link frame)
+unfolding opens
+opened link bytes frame fits is =
+    let found = alone_is link (parts_at bytes) frame is in
+    let text = found.0.0 in
+    let tag = found.0.1 in
+    let read = parts_reads.taken bytes found.0 [] fits found.1 in
+    let said = text_is link text tag frame found.2 in
+    let text_of_frame = text_of link.from link.to link.next frame in
+    let tag_is : tag ≡ hmac_of link.key text_of_frame = said.1.1 ∙ ap (hmac_of link.key) said.1.0 in
+    let long : length text ≡ length frame + HEAD_BYTES = ap length said.1.0 ∙ length-text link frame in (
+      (said.0, omega (arith, long, read.is.1.1.0)),
+      read.parts ∙ append-nil read.text ∙ read.is.0
+          ∙ ap₂ (λ (a b : List ℕ). number_bytes (length a + TAG_BYTES) ++ (a ++ b)) said.1.0 tag_is,
+    )
+
+pub again : (link : LinkShape) (frame : List ℕ) → CanSeal link.next frame →
+    opens link (next_sealed link frame) ≡ Ok frame
+unfolding opens
+again link frame can =
+    let text = text_of link.from link.to link.next frame in
+    let tag = hmac_of link.key text in
+    let long = length-text link frame in
+    let read = (parts_again (text, tag) (omega (arith, long), (omega (arith, long, can.1), length-hmac link.key text))).again [] in
+    ap (λ bytes. frame_alone link (parts_at bytes)) (sym (append-nil (next_sealed link frame)))
+    ∙ ap (frame_alone link) read ∙ frame_again link frame can.0
