@@ -39,9 +39,9 @@ module _ (key : List ℕ) (from to : HostId) where
   unfolding number_bytes word_bytes
   frame_sealed number frame = take_at frame (hmac_of key (text_of from to number frame)) (length frame) refl
 
-  sealed_apart : (m n : ℕ) (f g : List ℕ) → m < MOST_FRAMES → n < MOST_FRAMES →
+  pub sealed_once : (m n : ℕ) (f g : List ℕ) → m < MOST_FRAMES → n < MOST_FRAMES →
       sealed key from to m f ≡ sealed key from to n g → (m ≡ n) × (f ≡ g)
-  sealed_apart m n f g below under same =
+  sealed_once m n f g below under same =
       let long : length f ≡ length g = omega (arith, ap length same, length-sealed m f, length-sealed n g) in (
         sym (number_sealed m f below) ∙ ap number_in same ∙ number_sealed n g under,
         sym (frame_sealed m f) ∙ ap (λ (string : List ℕ). take (length f) (drop 14 string)) same
@@ -75,7 +75,7 @@ module _ (frames : List (List ℕ)) (few : length frames ≤ MOST_FRAMES) where
         is_tagged = said.1;
         is_other = λ place one at same.
             let below : place < MOST_FRAMES = omega (arith, slice_get_within frames place one at, few) in
-            let alike = sealed_apart link.key link.from link.to place link.next one frame below said.0.0
+            let alike = sealed_once link.key link.from link.to place link.next one frame below said.0.0
             (sym same ∙ said.1) in
             differs (ap (slice_get frames) (sym alike.0) ∙ at ∙ ap Some alike.1);
       }

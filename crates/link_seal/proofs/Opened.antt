@@ -1,10 +1,13 @@
 -- What an opener opens was sealed for its link, and what was sealed for it is opened.
-use Rattle.std.proofs.Common.{◌≡◌, ℕ, ◌+◌, ◌-◌, ◌<◌, ◌≤◌, Bool, true, false, List, [], ◌∷◌, ◌++◌, length, take, drop}
+use Rattle.std.proofs.Common.{◌≡◌, ◌≢◌, inl, inr, ℕ, ◌+◌, ◌-◌, ◌<◌, ◌≤◌, Bool, true, false, List, [], ◌∷◌, ◌++◌, length, take, drop}
 use Rattle.std.proofs.Common.{Ok, Err, refl, sym, ap, ap₂, subst, ◌∙◌, arith, append_assoc}
 use Rattle.std.specs.Prelude.{◌&&◌, if◌then◌else◌, nat_lt, Result}
 use Rattle.std.specs.Str.{bytes_eq}
 use Rattle.std.proofs.lemmas.Slice.Eq.{bytes_eq-Decides}
-use Rattle.std.proofs.lemmas.Bool.{ltb-true, lt-ltb, leb-true, le-leb}
+use Rattle.std.proofs.lemmas.Bool.{cases_Bool, ltb-true, lt-ltb, leb-true, le-leb}
+use Rattle.std.proofs.lemmas.Nat.{from_be_bytes-to_be_bytes_8}
+use Rattle.std.specs.Int.{from_be_bytes, w64}
+use Rattle.js_base.specs.declared.ids.HostId.{HostId}
 use Rattle.std.proofs.lemmas.List.{append-nil, take-append-drop, length-append}
 use Rattle.sha2.proofs.Facts256.{length-sha256}
 use Rattle.byte_format.specs.Numbers.{AreBytes, number_bytes, word_bytes}
@@ -15,9 +18,9 @@ use Rattle.byte_format.proofs.Sequels.{again_then, again_last, again_require}
 use Rattle.link_seal.specs.declared.errors.OpenError.{OpenError}
 use Rattle.link_seal.specs.declared.errors.OpenError.TheVariants as refusal
 use Rattle.link_seal.specs.declared.sizes.TheConstants.{HEAD_BYTES, TAG_BYTES, LEAST_BODY_BYTES, MOST_BODY_BYTES}
-use Rattle.link_seal.specs.declared.sizes.TheConstants.{MOST_FRAMES}
+use Rattle.link_seal.specs.declared.sizes.TheConstants.{MOST_FRAMES, MOST_FRAME_BYTES}
 use Rattle.link_seal.specs.Hmac.{hmac_of}
-use Rattle.link_seal.specs.Links.{LinkShape, text_of, next_sealed, CanSeal}
+use Rattle.link_seal.specs.Links.{LinkShape, text_of, with_tag, sealed, next_sealed, CanSeal}
 use Rattle.link_seal.specs.Opening.{parts_at, frame_in, frame_alone, opens}
 
 pub length-hmac : (key text : List ℕ) → length (hmac_of key text) ≡ TAG_BYTES
@@ -100,26 +103,46 @@ text_is link text tag frame is =
       ),
     )
 
--- the text of the next frame, with its tag, gives the frame
+same_bytes : (bytes : List ℕ) → bytes_eq bytes bytes ≡ true
+same_bytes bytes = (bytes_eq-Decides bytes bytes).1 refl
+
+-- of a text with its tag and the hosts of the link the number alone is tested
+by_number : (link : LinkShape) (number : ℕ) (frame : List ℕ) →
+    let text = text_of link.from link.to number frame in
+    frame_in link text (hmac_of link.key text)
+    ≡ (if bytes_eq (word_bytes number) (word_bytes link.next) && nat_lt link.next MOST_FRAMES then Ok frame
+    else Err (refusal.WrongNumber link.next))
+unfolding word_bytes
+by_number link number frame =
+    let text = text_of link.from link.to number frame in
+    rw (same_bytes (hmac_of link.key text), same_bytes (link.from.0 ∷ link.to.0 ∷ [])) refl
+
 frame_again : (link : LinkShape) (frame : List ℕ) → link.next < MOST_FRAMES →
     let text = text_of link.from link.to link.next frame in
     frame_in link text (hmac_of link.key text) ≡ Ok frame
-unfolding word_bytes
 frame_again link frame below =
-    let text = text_of link.from link.to link.next frame in
-    let tag = hmac_of link.key text in
-    let tagged : bytes_eq tag tag ≡ true = (bytes_eq-Decides tag tag).1 refl in
-    let hosts = link.from.0 ∷ link.to.0 ∷ [] in
-    let linked : bytes_eq hosts hosts ≡ true = (bytes_eq-Decides hosts hosts).1 refl in
-    let number = word_bytes link.next in
-    let numbered : bytes_eq number number ≡ true = (bytes_eq-Decides number number).1 refl in
     let under : nat_lt link.next MOST_FRAMES ≡ true = lt-ltb _ _ below in
-    rw (tagged, linked, numbered, under) refl
+    by_number link link.next frame ∙ rw (same_bytes (word_bytes link.next), under) refl
 
-length-text : (link : LinkShape) (frame : List ℕ) →
-    length (text_of link.from link.to link.next frame) ≡ length frame + HEAD_BYTES
+other_refused : (link : LinkShape) (number : ℕ) (frame : List ℕ) → number < MOST_FRAMES → number ≢ link.next →
+    let text = text_of link.from link.to number frame in
+    frame_in link text (hmac_of link.key text) ≡ Err (refusal.WrongNumber link.next)
 unfolding word_bytes
-length-text link frame = omega arith
+other_refused link number frame below other =
+    let test = bytes_eq (word_bytes number) (word_bytes link.next) && nat_lt link.next MOST_FRAMES in
+    by_number link number frame ∙ elim (cases_Bool test) [
+      | inl passes ↦ absurd (other (
+        let tests = both_true _ _ passes in
+        sym (from_be_bytes-to_be_bytes_8 number (omega (arith, below)))
+        ∙ ap (from_be_bytes w64) ((bytes_eq-Decides (word_bytes number) (word_bytes link.next)).0 tests.0)
+        ∙ from_be_bytes-to_be_bytes_8 link.next (omega (arith, ltb-true _ _ tests.1))))
+      | inr fails ↦ rw fails refl
+    ]
+
+length-text : (from to : HostId) (number : ℕ) (frame : List ℕ) →
+    length (text_of from to number frame) ≡ length frame + HEAD_BYTES
+unfolding word_bytes
+length-text from to number frame = omega arith
 
 -- ---- both
 
@@ -141,19 +164,35 @@ opened link bytes frame fits is =
     let said = text_is link text tag frame found.2 in
     let text_of_frame = text_of link.from link.to link.next frame in
     let tag_is : tag ≡ hmac_of link.key text_of_frame = said.1.1 ∙ ap (hmac_of link.key) said.1.0 in
-    let long : length text ≡ length frame + HEAD_BYTES = ap length said.1.0 ∙ length-text link frame in (
+    let long : length text ≡ length frame + HEAD_BYTES = ap length said.1.0 ∙ length-text link.from link.to link.next frame in (
       (said.0, omega (arith, long, read.is.1.1.0)),
       read.parts ∙ append-nil read.text ∙ read.is.0
           ∙ ap₂ (λ (a b : List ℕ). number_bytes (length a + TAG_BYTES) ++ (a ++ b)) said.1.0 tag_is,
     )
 
+-- bytes that are a text and its tag are opened to what is in the text
+tagged_opens : (link : LinkShape) (text : List ℕ) → HEAD_BYTES ≤ length text →
+    length text ≤ HEAD_BYTES + MOST_FRAME_BYTES →
+    opens link (with_tag link.key text) ≡ frame_in link text (hmac_of link.key text)
+unfolding opens
+tagged_opens link text some few =
+    let tag = hmac_of link.key text in
+    let are : AreParts (text, tag) = (omega (arith, some), (omega (arith, few), length-hmac link.key text)) in
+    ap (λ bytes. frame_alone link (parts_at bytes)) (sym (append-nil (with_tag link.key text)))
+    ∙ ap (frame_alone link) ((parts_again (text, tag) are).again [])
+
+sealed_opens : (link : LinkShape) (number : ℕ) (frame : List ℕ) → length frame ≤ MOST_FRAME_BYTES →
+    let text = text_of link.from link.to number frame in
+    opens link (sealed link.key link.from link.to number frame) ≡ frame_in link text (hmac_of link.key text)
+sealed_opens link number frame few =
+    let long = length-text link.from link.to number frame in
+    tagged_opens link (text_of link.from link.to number frame) (omega (arith, long)) (omega (arith, long, few))
+
 pub again : (link : LinkShape) (frame : List ℕ) → CanSeal link.next frame →
     opens link (next_sealed link frame) ≡ Ok frame
-unfolding opens
-again link frame can =
-    let text = text_of link.from link.to link.next frame in
-    let tag = hmac_of link.key text in
-    let long = length-text link frame in
-    let read = (parts_again (text, tag) (omega (arith, long), (omega (arith, long, can.1), length-hmac link.key text))).again [] in
-    ap (λ bytes. frame_alone link (parts_at bytes)) (sym (append-nil (next_sealed link frame)))
-    ∙ ap (frame_alone link) read ∙ frame_again link frame can.0
+again link frame can = sealed_opens link link.next frame can.1 ∙ frame_again link frame can.0
+
+pub out_of_turn : (link : LinkShape) (number : ℕ) (frame : List ℕ) → CanSeal number frame → number ≢ link.next →
+    opens link (sealed link.key link.from link.to number frame) ≡ Err (refusal.WrongNumber link.next)
+out_of_turn link number frame can other =
+    sealed_opens link number frame can.1 ∙ other_refused link number frame can.0 other

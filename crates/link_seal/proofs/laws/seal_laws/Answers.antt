@@ -1,5 +1,5 @@
-use Rattle.link_seal.proofs.Accepting.{prefix}
-use Rattle.link_seal.proofs.Opened.{opened, again}
+use Rattle.link_seal.proofs.Accepting.{prefix, sealed_once}
+use Rattle.link_seal.proofs.Opened.{opened, again, out_of_turn}
 use Rattle.link_seal.proofs.laws.seal_laws.Goals as goal
 
 pub returns-clause-opened : goal.returns-clause-opened
@@ -10,3 +10,9 @@ returns-clause-again c = again
 
 pub returns-clause-prefix : goal.returns-clause-prefix
 returns-clause-prefix c = prefix
+
+pub returns-clause-out_of_turn : goal.returns-clause-out_of_turn
+returns-clause-out_of_turn c = out_of_turn
+
+pub returns-clause-sealed_once : goal.returns-clause-sealed_once
+returns-clause-sealed_once c = sealed_once
