@@ -29,7 +29,7 @@ module _ (key : List ℕ) (from to : HostId) where
   unfolding number_in number_bytes word_bytes
   number_sealed number frame below = from_be_bytes-to_be_bytes_8 number (omega (arith, below))
 
-  length-sealed : (number : ℕ) (frame : List ℕ) → length (sealed key from to number frame) ≡ length frame + 46
+  pub length-sealed : (number : ℕ) (frame : List ℕ) → length (sealed key from to number frame) ≡ length frame + 46
   unfolding number_bytes word_bytes
   length-sealed number frame =
       let tag = hmac_of key (text_of from to number frame) in

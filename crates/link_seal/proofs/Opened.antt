@@ -103,7 +103,7 @@ text_is link text tag frame is =
       ),
     )
 
-same_bytes : (bytes : List ℕ) → bytes_eq bytes bytes ≡ true
+pub same_bytes : (bytes : List ℕ) → bytes_eq bytes bytes ≡ true
 same_bytes bytes = (bytes_eq-Decides bytes bytes).1 refl
 
 -- of a text with its tag and the hosts of the link the number alone is tested

@@ -1,12 +1,15 @@
 //! Laws of sealed frames.
 
-ghost use Rattle.std.specs.Prelude.{◌≡◌, ◌≢◌, ◌⊎◌, ◌<◌, ◌≤◌, ℕ, List, Ok, Err, length, All};
+ghost use Rattle.std.specs.Prelude.{◌≡◌, ◌≢◌, ◌⊎◌, ◌<◌, ◌≤◌, ℕ, List, Ok, Err, length, All, [], ◌∷◌, ◌+◌, take, replicate};
 ghost use Rattle.byte_format.specs.Numbers.{AreBytes};
 ghost use Rattle.js_base.specs.declared.ids.HostId.{HostId};
 ghost use Rattle.link_seal.specs.declared.errors.OpenError.TheVariants as refusal;
 ghost use Rattle.link_seal.specs.declared.sizes.TheConstants.{MOST_FRAMES};
-ghost use Rattle.link_seal.specs.Links.{LinkShape, new_link, sealed, next_sealed, CanSeal};
-ghost use Rattle.link_seal.specs.Opening.{opens};
+ghost use Rattle.link_seal.specs.declared.hmac_sha256.TheConstants.{INNER_PAD};
+ghost use Rattle.link_seal.specs.Hmac.{hmac_of, key_block, with_pad};
+ghost use Rattle.link_seal.specs.Examples.{small_link, ended_link, small_text};
+ghost use Rattle.link_seal.specs.Links.{LinkShape, new_link, after_one, text_of, sealed, next_sealed, CanSeal};
+ghost use Rattle.link_seal.specs.Opening.{frame_in, opens};
 ghost use Rattle.link_seal.specs.Accepting.{accepted, frames_of, IsBeginning, SomeForged};
 
 /// Laws of sealed frames, for who reasons about them. The call does nothing.
@@ -36,4 +39,44 @@ pub fn seal_laws()
         let link = new_link key from to in
         let taken = accepted link strings in
         IsBeginning (frames_of taken) frames ⊎ SomeForged link frames taken }
+
+    // The pads, and the key with zeros behind it.
+    ensures worked_pad { with_pad INNER_PAD (0 ∷ 54 ∷ 255 ∷ []) ≡ 54 ∷ 0 ∷ 201 ∷ [] }
+    ensures worked_key { key_block (7 ∷ 8 ∷ []) ≡ 7 ∷ 8 ∷ replicate 62 0 }
+
+    // The sizes, and a text and a length byte by byte.
+    ensures worked_size { (key : List ℕ) (from to : HostId) (number : ℕ) (frame : List ℕ) →
+        length (sealed key from to number frame) ≡ length frame + 46 }
+    ensures worked_text { (key : List ℕ) → text_of (small_link key).from (small_link key).to 258 (7 ∷ 8 ∷ [])
+        ≡ 1 ∷ 2 ∷ 0 ∷ 0 ∷ 0 ∷ 0 ∷ 0 ∷ 0 ∷ 1 ∷ 2 ∷ 7 ∷ 8 ∷ [] }
+    ensures worked_length { (key : List ℕ) → take 4 (next_sealed (small_link key) (replicate 18 0)) ≡ 0 ∷ 0 ∷ 0 ∷ 60 ∷ [] }
+
+    // Refusals in their order, whatever the key is.
+    ensures worked_nothing { (key : List ℕ) → opens (small_link key) [] ≡ Err refusal.Short }
+    ensures worked_three { (key : List ℕ) → opens (small_link key) (255 ∷ 255 ∷ 255 ∷ []) ≡ Err refusal.Short }
+    ensures worked_long { (key : List ℕ) → opens (small_link key) (0 ∷ 0 ∷ 16 ∷ 47 ∷ []) ≡ Err refusal.TooLong }
+    ensures worked_longest { (key : List ℕ) → opens (small_link key) (0 ∷ 0 ∷ 16 ∷ 46 ∷ []) ≡ Err refusal.Short }
+    ensures worked_small { (key : List ℕ) → opens (small_link key) (0 ∷ 0 ∷ 0 ∷ 41 ∷ replicate 42 0) ≡ Err refusal.Short }
+    ensures worked_cut { (key : List ℕ) → opens (small_link key) (0 ∷ 0 ∷ 0 ∷ 42 ∷ replicate 41 0) ≡ Err refusal.Short }
+    ensures worked_behind { (key : List ℕ) →
+        opens (small_link key) (0 ∷ 0 ∷ 0 ∷ 42 ∷ replicate 43 0) ≡ Err refusal.Trailing }
+    ensures worked_tag { (key text tag : List ℕ) → tag ≢ hmac_of key text →
+        frame_in (small_link key) text tag ≡ Err refusal.BadTag }
+    ensures worked_from { (key : List ℕ) → let text = small_text 2 2 1 in
+        frame_in (small_link key) text (hmac_of key text) ≡ Err refusal.WrongLink }
+    ensures worked_to { (key : List ℕ) → let text = small_text 1 1 0 in
+        frame_in (small_link key) text (hmac_of key text) ≡ Err refusal.WrongLink }
+    ensures worked_number { (key : List ℕ) → let text = small_text 1 2 1 in
+        frame_in (small_link key) text (hmac_of key text) ≡ Err (refusal.WrongNumber 0) }
+    ensures worked_ended { (key : List ℕ) → let text = text_of (ended_link key).from (ended_link key).to MOST_FRAMES [] in
+        frame_in (ended_link key) text (hmac_of key text) ≡ Err (refusal.WrongNumber MOST_FRAMES) }
+    ensures worked_frame { (key : List ℕ) → let text = small_text 1 2 0 in
+        frame_in (small_link key) text (hmac_of key text) ≡ Ok (9 ∷ []) }
+
+    // A frame that comes twice is accepted once, and the one behind it is accepted.
+    ensures worked_twice { (key first second : List ℕ) → CanSeal 0 first → CanSeal 1 second →
+        let link = small_link key in
+        let one = next_sealed link first in
+        accepted link (one ∷ one ∷ next_sealed (after_one link) second ∷ [])
+        ≡ record { string = one; frame = first } ∷ record { string = next_sealed (after_one link) second; frame = second } ∷ [] }
 {}
