@@ -1,6 +1,6 @@
 //! Laws of sealed frames.
 
-ghost use Rattle.std.specs.Prelude.{◌≡◌, ◌≢◌, ◌⊎◌, ◌<◌, ◌≤◌, ℕ, List, Ok, Err, length, All, [], ◌∷◌, ◌+◌, take, replicate};
+ghost use Rattle.std.specs.Prelude.{◌≡◌, ◌≢◌, ◌⊎◌, ◌<◌, ◌≤◌, ℕ, List, Ok, Err, length, All, [], ◌∷◌, ◌+◌, take, replicate, codes};
 ghost use Rattle.byte_format.specs.Numbers.{AreBytes};
 ghost use Rattle.js_base.specs.declared.ids.HostId.{HostId};
 ghost use Rattle.link_seal.specs.declared.errors.OpenError.TheVariants as refusal;
@@ -43,6 +43,14 @@ pub fn seal_laws()
     // The pads, and the key with zeros behind it.
     ensures worked_pad { with_pad INNER_PAD (0 ∷ 54 ∷ 255 ∷ []) ≡ 54 ∷ 0 ∷ 201 ∷ [] }
     ensures worked_key { key_block (7 ∷ 8 ∷ []) ≡ 7 ∷ 8 ∷ replicate 62 0 }
+
+    // The first and the third test case of RFC 4231.
+    ensures worked_hmac { hmac_of (replicate 20 11) (codes "Hi There")
+        ≡ 176 ∷ 52 ∷ 76 ∷ 97 ∷ 216 ∷ 219 ∷ 56 ∷ 83 ∷ 92 ∷ 168 ∷ 175 ∷ 206 ∷ 175 ∷ 11 ∷ 241 ∷ 43
+        ∷ 136 ∷ 29 ∷ 194 ∷ 0 ∷ 201 ∷ 131 ∷ 61 ∷ 167 ∷ 38 ∷ 233 ∷ 55 ∷ 108 ∷ 46 ∷ 50 ∷ 207 ∷ 247 ∷ [] }
+    ensures worked_blocks { hmac_of (replicate 20 170) (replicate 50 221)
+        ≡ 119 ∷ 62 ∷ 169 ∷ 30 ∷ 54 ∷ 128 ∷ 14 ∷ 70 ∷ 133 ∷ 77 ∷ 184 ∷ 235 ∷ 208 ∷ 145 ∷ 129 ∷ 167
+        ∷ 41 ∷ 89 ∷ 9 ∷ 139 ∷ 62 ∷ 248 ∷ 193 ∷ 34 ∷ 217 ∷ 99 ∷ 85 ∷ 20 ∷ 206 ∷ 213 ∷ 101 ∷ 254 ∷ [] }
 
     // The sizes, and a text and a length byte by byte.
     ensures worked_size { (key : List ℕ) (from to : HostId) (number : ℕ) (frame : List ℕ) →

@@ -1,4 +1,6 @@
 use Rattle.std.proofs.Common.{refl, []}
+use Rattle.sha2.specs.Sha256.{sha256, digest_bytes, hash_after, compress, rounds, schedule, first_words}
+use Rattle.link_seal.specs.Hmac.{hmac_of}
 use Rattle.byte_format.specs.Numbers.{number_bytes, word_bytes}
 use Rattle.byte_format.specs.Reader.{sequel, given, require, bytes_at, number_at}
 use Rattle.link_seal.specs.declared.sizes.TheConstants.{MOST_FRAMES}
@@ -96,3 +98,11 @@ returns-clause-worked_ended c key =
 
 pub returns-clause-worked_twice : goal.returns-clause-worked_twice
 returns-clause-worked_twice c key = taken_twice (small_link key)
+
+pub returns-clause-worked_hmac : goal.returns-clause-worked_hmac
+unfolding hmac_of sha256 digest_bytes hash_after compress rounds schedule first_words
+returns-clause-worked_hmac c = refl
+
+pub returns-clause-worked_blocks : goal.returns-clause-worked_blocks
+unfolding hmac_of sha256 digest_bytes hash_after compress rounds schedule first_words
+returns-clause-worked_blocks c = refl
