@@ -1,7 +1,7 @@
 -- What an opener accepts in order is a beginning of what was sealed, or some string that it accepts is forged.
-use Rattle.std.proofs.Common.{◌≡◌, ◌⊎◌, inl, inr, ℕ, ◌+◌, ◌<◌, ◌≤◌, List, [], ◌∷◌, ◌++◌, length, take, drop, Some, None}
-use Rattle.std.proofs.Common.{Ok, Err, get_or, All, refl, sym, ap, ◌∙◌, arith}
-use Rattle.std.specs.Prelude.{Option, Result, Contains, slice_get}
+use Rattle.std.proofs.Common.{◌≡◌, ◌⊎◌, inl, inr, ℕ, ◌+◌, ◌<◌, ◌≤◌, List, [], ◌∷◌, length, take, drop, Some, None}
+use Rattle.std.proofs.Common.{Ok, Err, All, refl, sym, ap, ◌∙◌, arith}
+use Rattle.std.specs.Prelude.{Option, Result, slice_get}
 use Rattle.std.proofs.lemmas.List.{drop_more, length-append, take_at}
 use Rattle.std.proofs.lemmas.List.Elements.{All-tail}
 use Rattle.std.proofs.lemmas.Nat.{from_be_bytes-to_be_bytes_8}
@@ -14,7 +14,7 @@ use Rattle.byte_format.specs.Numbers.{AreBytes, number_bytes, word_bytes}
 use Rattle.link_seal.specs.declared.errors.OpenError.{OpenError}
 use Rattle.link_seal.specs.declared.sizes.TheConstants.{MOST_FRAMES}
 use Rattle.link_seal.specs.Hmac.{hmac_of}
-use Rattle.link_seal.specs.Links.{LinkShape, new_link, after_one, text_of, sealed, CanSeal}
+use Rattle.link_seal.specs.Links.{LinkShape, new_link, after_one, text_of, sealed}
 use Rattle.link_seal.specs.Opening.{opens}
 use Rattle.link_seal.specs.Accepting.{Accepted, accepted, frames_of, with_answer, IsBeginning, IsForged, SomeForged}
 use Rattle.link_seal.proofs.Opened.{length-hmac, opened}
@@ -85,9 +85,9 @@ module _ (frames : List (List ℕ)) (few : length frames ≤ MOST_FRAMES) where
       Outcome link (record { string = string; frame = frame } ∷ behind)
   first_frame link string frame behind at (inl rest) =
       let left : drop link.next frames ≡ frame ∷ drop (link.next + 1) frames =
-          drop_more frames link.next [] (slice_get_within frames link.next frame at)
-          ∙ ap (λ (one : List ℕ). one ∷ drop (link.next + 1) frames)
-          (get_or_from_slice_get frames link.next frame [] at) in
+      drop_more frames link.next [] (slice_get_within frames link.next frame at)
+      ∙ ap (λ (one : List ℕ). one ∷ drop (link.next + 1) frames)
+      (get_or_from_slice_get frames link.next frame [] at) in
       inl (rest.0, ap (λ (all : List (List ℕ)). frame ∷ all) rest.1 ∙ sym left)
   first_frame link string frame behind at (inr forged) =
       inr (forged.0, Contains-tail _ behind forged.0 forged.1, same_forged forged.2)

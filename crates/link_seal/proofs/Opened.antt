@@ -1,6 +1,6 @@
 -- What an opener opens was sealed for its link, and what was sealed for it is opened.
 use Rattle.std.proofs.Common.{◌≡◌, ◌≢◌, inl, inr, ℕ, ◌+◌, ◌-◌, ◌<◌, ◌≤◌, Bool, true, false, List, [], ◌∷◌, ◌++◌, length, take, drop}
-use Rattle.std.proofs.Common.{Ok, Err, refl, sym, ap, ap₂, subst, ◌∙◌, arith, append_assoc}
+use Rattle.std.proofs.Common.{Ok, Err, refl, sym, ap, ap₂, ◌∙◌, arith}
 use Rattle.std.specs.Prelude.{◌&&◌, if◌then◌else◌, nat_lt, Result}
 use Rattle.std.specs.Str.{bytes_eq}
 use Rattle.std.proofs.lemmas.Slice.Eq.{bytes_eq-Decides}
@@ -8,10 +8,9 @@ use Rattle.std.proofs.lemmas.Bool.{cases_Bool, ltb-true, lt-ltb, leb-true, le-le
 use Rattle.std.proofs.lemmas.Nat.{from_be_bytes-to_be_bytes_8}
 use Rattle.std.specs.Int.{from_be_bytes, w64}
 use Rattle.js_base.specs.declared.ids.HostId.{HostId}
-use Rattle.std.proofs.lemmas.List.{append-nil, take-append-drop, length-append}
+use Rattle.std.proofs.lemmas.List.{append-nil, take-append-drop}
 use Rattle.sha2.proofs.Facts256.{length-sha256}
 use Rattle.byte_format.specs.Numbers.{AreBytes, number_bytes, word_bytes}
-use Rattle.byte_format.specs.Reader.{sequel, given}
 use Rattle.byte_format.proofs.NumberLaws.{bytes_reads, bytes_again, number_reads, number_again}
 use Rattle.byte_format.proofs.Sequels.{Reads, Again, reads_then, reads_last, reads_require}
 use Rattle.byte_format.proofs.Sequels.{again_then, again_last, again_require}
@@ -98,7 +97,7 @@ text_is link text tag frame is =
       ltb-true _ _ tests.1,
       (
         sym (take-append-drop 2 text) ∙ ap₂ (λ (a b : List ℕ). a ++ b) hosts_are
-        (sym (take-append-drop 8 (drop 2 text)) ∙ ap₂ (λ (a b : List ℕ). a ++ b) number_is frame_is),
+            (sym (take-append-drop 8 (drop 2 text)) ∙ ap₂ (λ (a b : List ℕ). a ++ b) number_is frame_is),
         sym ((bytes_eq-Decides (hmac_of link.key text) tag).0 tagged.0),
       ),
     )
@@ -132,10 +131,10 @@ other_refused link number frame below other =
     let test = bytes_eq (word_bytes number) (word_bytes link.next) && nat_lt link.next MOST_FRAMES in
     by_number link number frame ∙ elim (cases_Bool test) [
       | inl passes ↦ absurd (other (
-        let tests = both_true _ _ passes in
-        sym (from_be_bytes-to_be_bytes_8 number (omega (arith, below)))
-        ∙ ap (from_be_bytes w64) ((bytes_eq-Decides (word_bytes number) (word_bytes link.next)).0 tests.0)
-        ∙ from_be_bytes-to_be_bytes_8 link.next (omega (arith, ltb-true _ _ tests.1))))
+          let tests = both_true _ _ passes in
+          sym (from_be_bytes-to_be_bytes_8 number (omega (arith, below)))
+          ∙ ap (from_be_bytes w64) ((bytes_eq-Decides (word_bytes number) (word_bytes link.next)).0 tests.0)
+          ∙ from_be_bytes-to_be_bytes_8 link.next (omega (arith, ltb-true _ _ tests.1))))
       | inr fails ↦ rw fails refl
     ]
 

@@ -1,6 +1,5 @@
 -- Parts of small sealed frames.
 use Rattle.std.specs.Prelude.{ℕ, List, [], ◌∷◌, ◌++◌, replicate}
-use Rattle.js_base.specs.declared.ids.HostId.{HostId}
 use Rattle.link_seal.specs.declared.sizes.TheConstants.{MOST_FRAMES}
 use Rattle.link_seal.specs.Links.{LinkShape, new_link}
 

@@ -22,7 +22,7 @@ pub struct Opener {
     key: [u8; KEY_BYTES],
     from: HostId,
     to: HostId,
-    next: u64,
+    pub(crate) next: u64,
 }
 
 impl Model for Opener {

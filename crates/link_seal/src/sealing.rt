@@ -7,7 +7,7 @@ ghost use Rattle.link_seal.specs.Links.{new_link, after_one, text_of, sealed, ne
 
 use crate::errors::SealError;
 use crate::hmac_sha256::hmac;
-use crate::sizes::{HEAD_BYTES, KEY_BYTES, MOST_FRAMES, MOST_FRAME_BYTES, TAG_BYTES};
+use crate::sizes::{HEAD_BYTES, KEY_BYTES, MOST_FRAME_BYTES, MOST_FRAMES, TAG_BYTES};
 use byte_format::{put_byte, put_number, put_word};
 use js_base::{HostId, OutOfMemory};
 use std::alloc::Global;
@@ -20,7 +20,7 @@ pub struct Sealer {
     key: [u8; KEY_BYTES],
     from: HostId,
     to: HostId,
-    next: u64,
+    pub(crate) next: u64,
 }
 
 impl Model for Sealer {
