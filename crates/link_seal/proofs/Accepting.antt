@@ -25,7 +25,8 @@ number_in : List ℕ → ℕ
 number_in string = from_be_bytes w64 (take 8 (drop 6 string))
 
 module _ (key : List ℕ) (from to : HostId) where
-  number_sealed : (number : ℕ) (frame : List ℕ) → number < MOST_FRAMES → number_in (sealed key from to number frame) ≡ number
+  number_sealed : (number : ℕ) (frame : List ℕ) → number < MOST_FRAMES →
+      number_in (sealed key from to number frame) ≡ number
   unfolding number_in number_bytes word_bytes
   number_sealed number frame below = from_be_bytes-to_be_bytes_8 number (omega (arith, below))
 
@@ -102,14 +103,15 @@ module _ (frames : List (List ℕ)) (few : length frames ≤ MOST_FRAMES) where
         is_other = is.is_other;
       }
 
-  one_more : (link : LinkShape) (string : List ℕ) (answer : Result (List ℕ) OpenError) (behind otherwise : List Accepted) →
-      AreBytes string → opens link string ≡ answer → Outcome (after_one link) behind → Outcome link otherwise →
+  one_more : (link : LinkShape) (string : List ℕ) (answer : Result (List ℕ) OpenError)
+      (behind otherwise : List Accepted) → AreBytes string → opens link string ≡ answer → Outcome (after_one link) behind → Outcome link otherwise →
       Outcome link (with_answer string answer behind otherwise)
   one_more link string (Err why) behind otherwise fits is more same = same
-  one_more link string (Ok frame) behind otherwise fits is more same = elim (is_sealed (slice_get frames link.next) frame) [
-    | inl at ↦ first_frame link string frame behind at more
-    | inr differs ↦ inr (_, Contains-at_head _ _ behind refl, other_frame link string frame fits is differs)
-  ]
+  one_more link string (Ok frame) behind otherwise fits is more same =
+      elim (is_sealed (slice_get frames link.next) frame) [
+        | inl at ↦ first_frame link string frame behind at more
+        | inr differs ↦ inr (_, Contains-at_head _ _ behind refl, other_frame link string frame fits is differs)
+      ]
 
   from_here : (link : LinkShape) (strings : List (List ℕ)) → All AreBytes strings → Outcome link (accepted link strings)
   from_here link [] fits = inl (drop link.next frames, refl)

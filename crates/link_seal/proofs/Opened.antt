@@ -1,15 +1,15 @@
 -- What an opener opens was sealed for its link, and what was sealed for it is opened.
-use Rattle.std.proofs.Common.{◌≡◌, ◌≢◌, inl, inr, ℕ, ◌+◌, ◌-◌, ◌<◌, ◌≤◌, Bool, true, false, List, [], ◌∷◌, ◌++◌, length, take, drop}
-use Rattle.std.proofs.Common.{Ok, Err, refl, sym, ap, ap₂, ◌∙◌, arith}
+use Rattle.std.proofs.Common.{◌≡◌, ◌≢◌, ℕ, ◌+◌, ◌-◌, ◌<◌, ◌≤◌, Bool, true, false, List, [], ◌∷◌, ◌++◌, length, take}
+use Rattle.std.proofs.Common.{drop, inl, inr, Ok, Err, refl, sym, ap, ap₂, ◌∙◌, arith}
 use Rattle.std.specs.Prelude.{◌&&◌, if◌then◌else◌, nat_lt, Result}
+use Rattle.std.specs.Int.{from_be_bytes, w64}
 use Rattle.std.specs.Str.{bytes_eq}
 use Rattle.std.proofs.lemmas.Slice.Eq.{bytes_eq-Decides}
 use Rattle.std.proofs.lemmas.Bool.{cases_Bool, ltb-true, lt-ltb, leb-true, le-leb}
-use Rattle.std.proofs.lemmas.Nat.{from_be_bytes-to_be_bytes_8}
-use Rattle.std.specs.Int.{from_be_bytes, w64}
-use Rattle.js_base.specs.declared.ids.HostId.{HostId}
 use Rattle.std.proofs.lemmas.List.{append-nil, take-append-drop}
+use Rattle.std.proofs.lemmas.Nat.{from_be_bytes-to_be_bytes_8}
 use Rattle.sha2.proofs.Facts256.{length-sha256}
+use Rattle.js_base.specs.declared.ids.HostId.{HostId}
 use Rattle.byte_format.specs.Numbers.{AreBytes, number_bytes, word_bytes}
 use Rattle.byte_format.proofs.NumberLaws.{bytes_reads, bytes_again, number_reads, number_again}
 use Rattle.byte_format.proofs.Sequels.{Reads, Again, reads_then, reads_last, reads_require}
@@ -89,8 +89,9 @@ text_is link text tag frame is =
     let number = take 8 (drop 2 text) in
     let tagged = granted (bytes_eq (hmac_of link.key text) tag) refusal.BadTag _ frame is in
     let linked = granted (bytes_eq (take 2 text) hosts) refusal.WrongLink _ frame tagged.1 in
-    let numbered = granted (bytes_eq number (word_bytes link.next) && nat_lt link.next MOST_FRAMES) _ _ frame linked.1 in
-    let tests = both_true (bytes_eq number (word_bytes link.next)) _ numbered.0 in
+    let is_next = bytes_eq number (word_bytes link.next) in
+    let numbered = granted (is_next && nat_lt link.next MOST_FRAMES) _ _ frame linked.1 in
+    let tests = both_true is_next _ numbered.0 in
     let hosts_are : take 2 text ≡ hosts = (bytes_eq-Decides (take 2 text) hosts).0 linked.0 in
     let number_is : number ≡ word_bytes link.next = (bytes_eq-Decides number (word_bytes link.next)).0 tests.0 in
     let frame_is : drop 8 (drop 2 text) ≡ frame = drop_twice text ∙ giving_is _ _ numbered.1 in (
@@ -163,7 +164,8 @@ opened link bytes frame fits is =
     let said = text_is link text tag frame found.2 in
     let text_of_frame = text_of link.from link.to link.next frame in
     let tag_is : tag ≡ hmac_of link.key text_of_frame = said.1.1 ∙ ap (hmac_of link.key) said.1.0 in
-    let long : length text ≡ length frame + HEAD_BYTES = ap length said.1.0 ∙ length-text link.from link.to link.next frame in (
+    let long : length text ≡ length frame + HEAD_BYTES =
+    ap length said.1.0 ∙ length-text link.from link.to link.next frame in (
       (said.0, omega (arith, long, read.is.1.1.0)),
       read.parts ∙ append-nil read.text ∙ read.is.0
           ∙ ap₂ (λ (a b : List ℕ). number_bytes (length a + TAG_BYTES) ++ (a ++ b)) said.1.0 tag_is,

@@ -1,6 +1,7 @@
 //! Laws of sealed frames.
 
-ghost use Rattle.std.specs.Prelude.{◌≡◌, ◌≢◌, ◌⊎◌, ◌<◌, ◌≤◌, ℕ, List, Ok, Err, length, All, [], ◌∷◌, ◌+◌, take, replicate, codes};
+ghost use Rattle.std.specs.Prelude.{◌≡◌, ◌≢◌, ◌⊎◌, ◌<◌, ◌≤◌, ◌+◌, ℕ, List, [], ◌∷◌, Ok, Err};
+ghost use Rattle.std.specs.Prelude.{All, codes, length, replicate, take};
 ghost use Rattle.byte_format.specs.Numbers.{AreBytes};
 ghost use Rattle.js_base.specs.declared.ids.HostId.{HostId};
 ghost use Rattle.link_seal.specs.declared.errors.OpenError.TheVariants as refusal;
@@ -57,14 +58,16 @@ pub fn seal_laws()
         length (sealed key from to number frame) ≡ length frame + 46 }
     ensures worked_text { (key : List ℕ) → text_of (small_link key).from (small_link key).to 258 (7 ∷ 8 ∷ [])
         ≡ 1 ∷ 2 ∷ 0 ∷ 0 ∷ 0 ∷ 0 ∷ 0 ∷ 0 ∷ 1 ∷ 2 ∷ 7 ∷ 8 ∷ [] }
-    ensures worked_length { (key : List ℕ) → take 4 (next_sealed (small_link key) (replicate 18 0)) ≡ 0 ∷ 0 ∷ 0 ∷ 60 ∷ [] }
+    ensures worked_length { (key : List ℕ) →
+        take 4 (next_sealed (small_link key) (replicate 18 0)) ≡ 0 ∷ 0 ∷ 0 ∷ 60 ∷ [] }
 
     // Refusals in their order, whatever the key is.
     ensures worked_nothing { (key : List ℕ) → opens (small_link key) [] ≡ Err refusal.Short }
     ensures worked_three { (key : List ℕ) → opens (small_link key) (255 ∷ 255 ∷ 255 ∷ []) ≡ Err refusal.Short }
     ensures worked_long { (key : List ℕ) → opens (small_link key) (0 ∷ 0 ∷ 16 ∷ 47 ∷ []) ≡ Err refusal.TooLong }
     ensures worked_longest { (key : List ℕ) → opens (small_link key) (0 ∷ 0 ∷ 16 ∷ 46 ∷ []) ≡ Err refusal.Short }
-    ensures worked_small { (key : List ℕ) → opens (small_link key) (0 ∷ 0 ∷ 0 ∷ 41 ∷ replicate 42 0) ≡ Err refusal.Short }
+    ensures worked_small { (key : List ℕ) →
+        opens (small_link key) (0 ∷ 0 ∷ 0 ∷ 41 ∷ replicate 42 0) ≡ Err refusal.Short }
     ensures worked_cut { (key : List ℕ) → opens (small_link key) (0 ∷ 0 ∷ 0 ∷ 42 ∷ replicate 41 0) ≡ Err refusal.Short }
     ensures worked_behind { (key : List ℕ) →
         opens (small_link key) (0 ∷ 0 ∷ 0 ∷ 42 ∷ replicate 43 0) ≡ Err refusal.Trailing }
@@ -76,8 +79,9 @@ pub fn seal_laws()
         frame_in (small_link key) text (hmac_of key text) ≡ Err refusal.WrongLink }
     ensures worked_number { (key : List ℕ) → let text = small_text 1 2 1 in
         frame_in (small_link key) text (hmac_of key text) ≡ Err (refusal.WrongNumber 0) }
-    ensures worked_ended { (key : List ℕ) → let text = text_of (ended_link key).from (ended_link key).to MOST_FRAMES [] in
-        frame_in (ended_link key) text (hmac_of key text) ≡ Err (refusal.WrongNumber MOST_FRAMES) }
+    ensures worked_ended { (key : List ℕ) → let link = ended_link key in
+        let text = text_of link.from link.to MOST_FRAMES [] in
+        frame_in link text (hmac_of key text) ≡ Err (refusal.WrongNumber MOST_FRAMES) }
     ensures worked_frame { (key : List ℕ) → let text = small_text 1 2 0 in
         frame_in (small_link key) text (hmac_of key text) ≡ Ok (9 ∷ []) }
 
@@ -85,6 +89,7 @@ pub fn seal_laws()
     ensures worked_twice { (key first second : List ℕ) → CanSeal 0 first → CanSeal 1 second →
         let link = small_link key in
         let one = next_sealed link first in
-        accepted link (one ∷ one ∷ next_sealed (after_one link) second ∷ [])
-        ≡ record { string = one; frame = first } ∷ record { string = next_sealed (after_one link) second; frame = second } ∷ [] }
+        let other = next_sealed (after_one link) second in
+        accepted link (one ∷ one ∷ other ∷ [])
+        ≡ record { string = one; frame = first } ∷ record { string = other; frame = second } ∷ [] }
 {}

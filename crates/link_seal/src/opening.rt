@@ -49,8 +49,8 @@ impl Opener {
     /// The frame that was sealed, where it is the next one of the link.
     ///
     /// # Errors
-    /// The bytes are not the next frame of the link, sealed, or memory ran out. The opener is then as before. Of several
-    /// causes the first of these is told, and want of memory only where there is none of them:
+    /// The bytes are not the next frame of the link, sealed, or memory ran out. The opener is then as before. Of
+    /// several causes the first of these is told, and want of memory only where there is none of them:
     ///
     /// 1. `Short`: there are fewer than four bytes;
     /// 2. `TooLong`: the length is above 4,142;
@@ -61,7 +61,8 @@ impl Opener {
     /// 7. `WrongNumber`: the number is not the next one, or the next one is 2^63.
     pub fn open(&mut self, alloc: Global, bytes: &[u8]) -> Result<Vec<u8>, OpenError>
         ensures ok { IfOk result (λ frame. opens self.old bytes.now ≡ Ok frame.items) }
-        ensures refused { IfErr result (λ error. (error ≡ refusal.OutOfMemory) ⊎ (opens self.old bytes.now ≡ Err error)) }
+        ensures refused { IfErr result (λ error.
+            (error ≡ refusal.OutOfMemory) ⊎ (opens self.old bytes.now ≡ Err error)) }
         ensures raised { OnOk result (self.new ≡ after_one self.old) }
         ensures err { OnErr result (self.new ≡ self.old) }
     {

@@ -53,7 +53,8 @@ impl Sealer {
     /// 2. `Ended`: 2^63 frames were sealed;
     /// 3. `OutOfMemory`.
     pub fn seal(&mut self, alloc: Global, frame: &[u8]) -> Result<Vec<u8>, SealError>
-        ensures ok { IfOk result (λ bytes. CanSeal self.old.next frame.now × (bytes.items ≡ next_sealed self.old frame.now)) }
+        ensures ok { IfOk result (λ bytes.
+            CanSeal self.old.next frame.now × (bytes.items ≡ next_sealed self.old frame.now)) }
         ensures raised { OnOk result (self.new ≡ after_one self.old) }
         ensures err { OnErr result (self.new ≡ self.old) }
         ensures too_long { IfErr result (λ error. error ≡ refusal.TooLong → MOST_FRAME_BYTES < length frame.now) }
