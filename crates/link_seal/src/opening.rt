@@ -1,6 +1,6 @@
 //! Opening the frames of a link.
 
-ghost use Rattle.std.specs.Prelude.{◌≡◌, ◌⊎◌, ◌<◌, ◌≤◌, IfOk, IfErr, OnOk, OnErr, Ok, Err, length};
+ghost use Rattle.std.specs.Prelude.{◌≡◌, ◌≢◌, ◌⊎◌, ◌<◌, ◌≤◌, IfOk, IfErr, IsOk, OnOk, OnErr, Ok, Err, length};
 ghost use Rattle.link_seal.specs.declared.errors.OpenError.TheVariants as refusal;
 ghost use Rattle.link_seal.specs.declared.sizes.TheConstants.{HEAD_BYTES, TAG_BYTES, MOST_FRAMES};
 ghost use Rattle.link_seal.specs.Links.{new_link, after_one};
@@ -63,6 +63,7 @@ impl Opener {
         ensures ok { IfOk result (λ frame. opens self.old bytes.now ≡ Ok frame.items) }
         ensures refused { IfErr result (λ error.
             (error ≡ refusal.OutOfMemory) ⊎ (opens self.old bytes.now ≡ Err error)) }
+        ensures memory { IfErr result (λ error. error ≡ refusal.OutOfMemory → IsOk (opens self.old bytes.now)) }
         ensures raised { OnOk result (self.new ≡ after_one self.old) }
         ensures err { OnErr result (self.new ≡ self.old) }
     {
@@ -80,6 +81,7 @@ impl Opener {
         ensures ok { IfOk result (λ frame. opens self.now bytes.now ≡ Ok frame.now) }
         ensures number { IfOk result (λ _. self.now.next < MOST_FRAMES) }
         ensures refused { IfErr result (λ error. opens self.now bytes.now ≡ Err error) }
+        ensures memory { IfErr result (λ error. error ≢ refusal.OutOfMemory) }
     {
         let ((text, tag), behind) = parts_of(bytes)?;
         if !behind.is_empty() {
@@ -96,6 +98,7 @@ impl Opener {
         ensures ok { IfOk result (λ frame. frame_in self.now text.now tag.now ≡ Ok frame.now) }
         ensures number { IfOk result (λ _. self.now.next < MOST_FRAMES) }
         ensures refused { IfErr result (λ error. frame_in self.now text.now tag.now ≡ Err error) }
+        ensures memory { IfErr result (λ error. error ≢ refusal.OutOfMemory) }
     {
         if !is_same_tag(&hmac(&self.key, text), tag) {
             return Err(OpenError::BadTag);

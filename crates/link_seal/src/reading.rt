@@ -1,7 +1,7 @@
 //! Reading the parts of a sealed frame: what stands at the front of some bytes, and the bytes behind it.
 #![tactic(auto, unfolding(byte_format::specs::Reader::sequel, byte_format::specs::Reader::given, byte_format::specs::Reader::require, byte_format::specs::Reader::bytes_at, byte_format::specs::Reader::number_at, crate::specs::Opening::parts_at))]
 
-ghost use Rattle.std.specs.Prelude.{◌≡◌, ◌≤◌, IfOk, length};
+ghost use Rattle.std.specs.Prelude.{◌≡◌, ◌≢◌, ◌≤◌, IfOk, IfErr, length};
 ghost use Rattle.std.specs.Int.{w32};
 ghost use Rattle.byte_format.specs.Reader.{bytes_at, number_at};
 ghost use Rattle.link_seal.specs.declared.errors.OpenError.TheVariants as refusal;
@@ -13,7 +13,8 @@ use crate::sizes::{LEAST_BODY_BYTES, MOST_BODY_BYTES, TAG_BYTES};
 
 /// A number of four bytes.
 fn number_of(bytes: &[u8]) -> Result<(u32, &[u8]), OpenError>
-    ensures { Gives (λ x. (x.0, x.1.now)) result (number_at refusal.Short w32 bytes.now) }
+    ensures read { Gives (λ x. (x.0, x.1.now)) result (number_at refusal.Short w32 bytes.now) }
+    ensures memory { IfErr result (λ error. error ≢ refusal.OutOfMemory) }
 {
     let [first, second, third, fourth, rest @ ..] = bytes else {
         return Err(OpenError::Short);
@@ -25,6 +26,7 @@ fn number_of(bytes: &[u8]) -> Result<(u32, &[u8]), OpenError>
 fn bytes_of(count: usize, bytes: &[u8]) -> Result<(&[u8], &[u8]), OpenError>
     ensures read { Gives (λ x. (x.0.now, x.1.now)) result (bytes_at refusal.Short count bytes.now) }
     ensures count { IfOk result (λ x. length x.0.now ≡ count) }
+    ensures memory { IfErr result (λ error. error ≢ refusal.OutOfMemory) }
 {
     if bytes.len() < count {
         return Err(OpenError::Short);
@@ -37,6 +39,7 @@ pub fn parts_of(bytes: &[u8]) -> Result<((&[u8], &[u8]), &[u8]), OpenError>
     ensures read { Gives (λ x. ((x.0.0.now, x.0.1.now), x.1.now)) result (parts_at bytes.now) }
     ensures text { IfOk result (λ x. HEAD_BYTES ≤ length x.0.0.now) }
     ensures tag { IfOk result (λ x. length x.0.1.now ≡ TAG_BYTES) }
+    ensures memory { IfErr result (λ error. error ≢ refusal.OutOfMemory) }
 {
     let (len, rest) = number_of(bytes)?;
     let len = len as usize;

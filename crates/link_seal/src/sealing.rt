@@ -60,6 +60,7 @@ impl Sealer {
         ensures too_long { IfErr result (λ error. error ≡ refusal.TooLong → MOST_FRAME_BYTES < length frame.now) }
         ensures ended { IfErr result (λ error. error ≡ refusal.Ended →
             (length frame.now ≤ MOST_FRAME_BYTES) × (MOST_FRAMES ≤ self.old.next)) }
+        ensures memory { IfErr result (λ error. error ≡ refusal.OutOfMemory → CanSeal self.old.next frame.now) }
     {
         if frame.len() > MOST_FRAME_BYTES {
             return Err(SealError::TooLong);
