@@ -24,15 +24,15 @@ fn padded(key: &[u8; KEY_BYTES], pad: u8) -> [u8; BLOCK_BYTES]
     block
 }
 
-/// The HMAC (RFC 2104, FIPS 198-1) of a text under a key, with SHA-256. A key of fewer bytes gives that of the key with
-/// zeros behind it.
+/// The HMAC (RFC 2104, FIPS 198-1) of some bytes under a key, with SHA-256 (FIPS 180-4). A shorter key has the HMAC of
+/// that key with zeros behind it.
 #[tactic(auto, unfolding(crate::specs::Hmac::hmac_of))]
-pub fn hmac(key: &[u8; KEY_BYTES], text: &[u8]) -> [u8; TAG_BYTES]
-    ensures { result ≡ hmac_of key.now text.now }
+pub fn hmac(key: &[u8; KEY_BYTES], bytes: &[u8]) -> [u8; TAG_BYTES]
+    ensures { result ≡ hmac_of key.now bytes.now }
 {
     let mut inner = Sha256::new();
     inner.update(&padded(key, INNER_PAD));
-    inner.update(text);
+    inner.update(bytes);
     let inner = inner.finalize();
     let mut outer = Sha256::new();
     outer.update(&padded(key, OUTER_PAD));
