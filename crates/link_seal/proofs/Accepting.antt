@@ -104,7 +104,8 @@ module _ (frames : List (List ℕ)) (few : length frames ≤ MOST_FRAMES) where
       }
 
   one_more : (link : LinkShape) (string : List ℕ) (answer : Result (List ℕ) OpenError)
-      (behind otherwise : List Accepted) → AreBytes string → opens link string ≡ answer → Outcome (after_one link) behind → Outcome link otherwise →
+      (behind otherwise : List Accepted) → AreBytes string → opens link string ≡ answer →
+      Outcome (after_one link) behind → Outcome link otherwise →
       Outcome link (with_answer string answer behind otherwise)
   one_more link string (Err why) behind otherwise fits is more same = same
   one_more link string (Ok frame) behind otherwise fits is more same =

@@ -1,7 +1,7 @@
 -- What an opener opens was sealed for its link, and what was sealed for it is opened.
 use Rattle.std.proofs.Common.{◌≡◌, ◌≢◌, ℕ, ◌+◌, ◌-◌, ◌<◌, ◌≤◌, Bool, true, false, List, [], ◌∷◌, ◌++◌, length, take}
 use Rattle.std.proofs.Common.{drop, inl, inr, Ok, Err, refl, sym, ap, ap₂, ◌∙◌, arith}
-use Rattle.std.specs.Prelude.{◌&&◌, if◌then◌else◌, nat_lt, Result}
+use Rattle.std.specs.Prelude.{◌&&◌, not, if◌then◌else◌, nat_lt, Result}
 use Rattle.std.specs.Int.{from_be_bytes, w64}
 use Rattle.std.specs.Str.{bytes_eq}
 use Rattle.std.proofs.lemmas.Slice.Eq.{bytes_eq-Decides}
@@ -64,7 +64,7 @@ abbrev giving : List ℕ → Result (List ℕ) OpenError
 giving frame = Ok frame
 
 granted : (test : Bool) (why : OpenError) (otherwise : Result (List ℕ) OpenError) (frame : List ℕ) →
-    (if test then otherwise else Err why) ≡ giving frame → (test ≡ true) × (otherwise ≡ giving frame)
+    (if not test then Err why else otherwise) ≡ giving frame → (test ≡ true) × (otherwise ≡ giving frame)
 granted true why otherwise frame is = (refl, is)
 granted false why otherwise frame is = absurd cc
 
@@ -110,8 +110,9 @@ same_bytes bytes = (bytes_eq-Decides bytes bytes).1 refl
 by_number : (link : LinkShape) (number : ℕ) (frame : List ℕ) →
     let text = text_of link.from link.to number frame in
     frame_in link text (hmac_of link.key text)
-    ≡ (if bytes_eq (word_bytes number) (word_bytes link.next) && nat_lt link.next MOST_FRAMES then Ok frame
-    else Err (refusal.WrongNumber link.next))
+    ≡ (if not (bytes_eq (word_bytes number) (word_bytes link.next) && nat_lt link.next MOST_FRAMES)
+    then Err (refusal.WrongNumber link.next)
+    else Ok frame)
 unfolding word_bytes
 by_number link number frame =
     let text = text_of link.from link.to number frame in

@@ -1,6 +1,6 @@
 -- Small cases of what is opened and accepted.
 use Rattle.std.proofs.Common.{◌≡◌, ◌≢◌, ℕ, ◌+◌, false, List, [], ◌∷◌, take, drop, Ok, Err, refl, sym, ap, ◌∙◌, arith}
-use Rattle.std.specs.Prelude.{◌&&◌, if◌then◌else◌, nat_lt}
+use Rattle.std.specs.Prelude.{◌&&◌, not, if◌then◌else◌, nat_lt}
 use Rattle.std.specs.Str.{bytes_eq}
 use Rattle.std.proofs.lemmas.Bool.{false_from_ne_true}
 use Rattle.std.proofs.lemmas.Slice.Eq.{bytes_eq-Decides}
@@ -23,11 +23,10 @@ bad_tag link text tag other =
 -- a text with its own tag is taken by what is in it
 pub with_its_tag : (link : LinkShape) (text : List ℕ) →
     frame_in link text (hmac_of link.key text)
-    ≡ (if bytes_eq (take 2 text) (link.from.0 ∷ link.to.0 ∷ []) then
-    (if bytes_eq (take 8 (drop 2 text)) (word_bytes link.next) && nat_lt link.next MOST_FRAMES then
-    Ok (drop HEAD_BYTES text)
-    else Err (refusal.WrongNumber link.next))
-    else Err refusal.WrongLink)
+    ≡ (if not (bytes_eq (take 2 text) (link.from.0 ∷ link.to.0 ∷ [])) then Err refusal.WrongLink
+    else (if not (bytes_eq (take 8 (drop 2 text)) (word_bytes link.next) && nat_lt link.next MOST_FRAMES)
+    then Err (refusal.WrongNumber link.next)
+    else Ok (drop HEAD_BYTES text)))
 with_its_tag link text = rw (same_bytes (hmac_of link.key text)) refl
 
 pub taken_twice : (link : LinkShape) (first second : List ℕ) → CanSeal link.next first →

@@ -1,5 +1,5 @@
 -- What an opener answers: the frame in a sealed one, or the first fault, in the order of refusals.
-use Rattle.std.specs.Prelude.{◌≡◌, ℕ, ◌-◌, ◌&&◌, if◌then◌else◌, nat_le, nat_lt, List, [], ◌∷◌, take, drop}
+use Rattle.std.specs.Prelude.{◌≡◌, ℕ, ◌-◌, ◌&&◌, not, if◌then◌else◌, nat_le, nat_lt, List, [], ◌∷◌, take, drop}
 use Rattle.std.specs.Prelude.{Result, Ok, Err, MatchResult}
 use Rattle.std.specs.Int.{w32}
 use Rattle.std.specs.Str.{bytes_eq}
@@ -25,13 +25,11 @@ parts_at = do
 -- the frame in a text, where the tag is that of the text, and the text that of the next frame of the link
 abbrev pub frame_in : LinkShape → (text tag : List ℕ) → Result (List ℕ) OpenError
 frame_in link text tag =
-    if bytes_eq (hmac_of link.key text) tag then
-    (if bytes_eq (take 2 text) (link.from.0 ∷ link.to.0 ∷ []) then
-    (if bytes_eq (take 8 (drop 2 text)) (word_bytes link.next) && nat_lt link.next MOST_FRAMES then
-    Ok (drop HEAD_BYTES text)
-    else Err (refusal.WrongNumber link.next))
-    else Err refusal.WrongLink)
-    else Err refusal.BadTag
+    if not (bytes_eq (hmac_of link.key text) tag) then Err refusal.BadTag
+    else (if not (bytes_eq (take 2 text) (link.from.0 ∷ link.to.0 ∷ [])) then Err refusal.WrongLink
+    else (if not (bytes_eq (take 8 (drop 2 text)) (word_bytes link.next) && nat_lt link.next MOST_FRAMES)
+    then Err (refusal.WrongNumber link.next)
+    else Ok (drop HEAD_BYTES text)))
 
 -- nothing stands behind the parts
 abbrev pub frame_alone : LinkShape → Result ((List ℕ × List ℕ) × List ℕ) OpenError → Result (List ℕ) OpenError
