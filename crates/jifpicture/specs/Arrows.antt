@@ -7,6 +7,7 @@ use Rattle.js_base.specs.declared.ids.EntryId.{EntryId}
 use Rattle.js_base.specs.declared.ids.HostId.{HostId}
 use Rattle.js_base.specs.declared.ids.StmtId.{StmtId}
 use Rattle.host_code.specs.Code.{CodeShape, entry_at, instruction_at, part_of}
+use Rattle.host_code.specs.InstructionText.{variables_text}
 use Rattle.host_code.specs.MessageText.{entry_text, field_text, host_text, variable_text}
 use Rattle.host_code.specs.declared.code.Entry.{Entry}
 use Rattle.host_code.specs.declared.instruction.Instr.{Instr}
@@ -90,8 +91,8 @@ pub record AskedShape : Type 0 where
   pub what : List ℕ
 
 -- An element of a field is read or set, a variable goes to a host, an entry is pushed on a stack, and control is
--- handed on to an entry. The other instructions ask nothing of a host that they name: who gets a result, and to whom a
--- token is given back, is told by the token.
+-- handed on to an entry, with the names of the variables that ride. The other instructions ask nothing of a host that
+-- they name: who gets a result, and to whom a token is given back, is told by the token.
 abbrev pub asked_by : SheetShape → Op → Option AskedShape
 asked_by sheet (op.Read field index) = Some (record {
   kind = Get;
@@ -134,6 +135,18 @@ asked_by sheet (op.Call entry on) = Some (record {
   to = on;
   at = row_of_entry sheet on entry;
   what = entry_text entry;
+})
+asked_by sheet (op.GoWith entry on riders) = Some (record {
+  kind = Rgoto;
+  to = on;
+  at = row_of_entry sheet on entry;
+  what = entry_text entry ++ codes " with" ++ variables_text sheet.code riders;
+})
+asked_by sheet (op.CallWith entry on riders) = Some (record {
+  kind = Rgoto;
+  to = on;
+  at = row_of_entry sheet on entry;
+  what = entry_text entry ++ codes " with" ++ variables_text sheet.code riders;
 })
 asked_by sheet (op.Let variable value) = None
 asked_by sheet (op.Frame site) = None

@@ -1,7 +1,8 @@
 //! The arrows of messages: what the instructions of one host ask of another.
 
-ghost use Rattle.std.specs.Prelude.{◌≡◌, ◌++◌, IfOk, OnOk, length, map, option_map};
+ghost use Rattle.std.specs.Prelude.{◌≡◌, ◌++◌, IfOk, OnOk, codes, length, map, option_map};
 ghost use Rattle.std.specs.String.{string_bytes};
+ghost use Rattle.host_code.specs.InstructionText.{variables_text};
 ghost use Rattle.host_code.specs.MessageText as texts;
 ghost use Rattle.jifpicture.specs.Arrows as arrows;
 ghost use Rattle.jifpicture.specs.Arrows.{asked_shape, sheet_shape};
@@ -10,7 +11,7 @@ ghost use Rattle.jifpicture.specs.declared.layout.Row.TheVariants.{Head, OfField
 
 use crate::kind::Kind;
 use crate::layout::{Row, edge_of, top_of};
-use host_code::{Code, Instr, Op, field_name, host_name, var_name};
+use host_code::{Code, Instr, Op, RiderVars, field_name, host_name, var_name};
 use js_base::limits::HOSTS;
 use js_base::text::owned_text;
 use js_base::{EntryId, FieldId, HostId, OutOfMemory, StmtId, VarId};
@@ -185,6 +186,8 @@ fn asked_by(alloc: Global, sheet: &Sheet<'_>, op: &Op) -> Result<Option<Asked>, 
         Op::Ask(entry, on) => Ok(Some(asked_of_entry(alloc, sheet, Kind::Sync, *entry, *on)?)),
         Op::Go(entry, on) => Ok(Some(asked_of_entry(alloc, sheet, Kind::Rgoto, *entry, *on)?)),
         Op::Call(entry, on) => Ok(Some(asked_of_entry(alloc, sheet, Kind::Rgoto, *entry, *on)?)),
+        Op::GoWith(entry, on, riders) => Ok(Some(asked_with(alloc, sheet, *entry, *on, riders)?)),
+        Op::CallWith(entry, on, riders) => Ok(Some(asked_with(alloc, sheet, *entry, *on, riders)?)),
         Op::Let(_, _) => Ok(None),
         Op::Frame(_) => Ok(None),
         Op::Arg(_, _) => Ok(None),
@@ -259,6 +262,34 @@ fn asked_of_entry(
     let what = format!(in alloc; "e{}", entry.0)?;
     Ok(Asked {
         kind,
+        to: on,
+        at: row_of_entry(sheet, on, entry),
+        what,
+    })
+}
+
+/// What a host is asked to which control is handed on at an entry, with the values of variables.
+fn asked_with(
+    alloc: Global,
+    sheet: &Sheet<'_>,
+    entry: EntryId,
+    on: HostId,
+    riders: &RiderVars,
+) -> Result<Asked, OutOfMemory>
+    ensures { IfOk result (λ asked. asked_shape asked ≡ record {
+      kind = Kind.Rgoto;
+      to = on;
+      at = arrows.row_of_entry (sheet_shape sheet.now) on entry;
+      what = texts.entry_text entry ++ codes " with" ++ variables_text sheet.now.code.now riders.now;
+    }) }
+{
+    let mut what = format!(in alloc; "e{} with", entry.0)?;
+    for var in riders.vars() {
+        what.push_str(" ")?;
+        what.push_str(var_name(sheet.code, *var))?;
+    }
+    Ok(Asked {
+        kind: Kind::Rgoto,
         to: on,
         at: row_of_entry(sheet, on, entry),
         what,
