@@ -1,10 +1,10 @@
 -- Laws of split files: what is read is spelled so, and what is spelled so is read.
 use Rattle.std.proofs.Common.{◌≡◌, ◌≢◌, ◌⊎◌, inl, inr, ℕ, ◌+◌, ◌*◌, List, [], ◌∷◌, ◌++◌, length, Result, Ok, Err, refl}
 use Rattle.std.proofs.Common.{sym, ap, subst, ◌∙◌, append_assoc, arith}
-use Rattle.std.specs.Prelude.{⊤}
-use Rattle.std.specs.List.{concat, flat_map}
+use Rattle.std.specs.Prelude.{⊤, ◌==◌}
+use Rattle.std.specs.List.{concat, flat_map, list_any}
 use Rattle.std.specs.Int.{w16, to_be_bytes}
-use Rattle.std.proofs.lemmas.Bool.{ltb-true, lt-ltb}
+use Rattle.std.proofs.lemmas.Bool.{ltb-true, lt-ltb, eqb-true, eq-eqb}
 use Rattle.std.proofs.lemmas.List.{append-nil}
 use Rattle.host_code.specs.declared.code.Entry.{Entry}
 use Rattle.host_code.specs.declared.instruction.Instr.{Instr}
@@ -19,13 +19,15 @@ use Rattle.split_file.specs.declared.fault.ReadError.{ReadError}
 use Rattle.split_file.specs.declared.fault.ReadError.TheVariants as error
 use Rattle.split_file.specs.declared.error.SplitError.{SplitError}
 use Rattle.split_file.specs.declared.error.SplitError.TheVariants as refusal
-use Rattle.split_file.specs.Spelling.{magic, version_of, table_bytes, start_bytes, part_bytes, split_file}
+use Rattle.split_file.specs.declared.reading.Front.{Front}
+use Rattle.split_file.specs.Spelling.{magic, any_ride, version_of, table_bytes, start_bytes, part_bytes, split_file}
 use Rattle.split_file.specs.Reader.{Reader, Fails}
 use Rattle.split_file.specs.Reading.{next_part_at, front_at, with_parts, ended, PLACE_BYTES, ENTRY_BYTES, entries_stand}
-use Rattle.split_file.specs.Reading.{code_at}
+use Rattle.split_file.specs.Reading.{version_stands, code_at}
 use Rattle.split_file.specs.File.{IsRealCode, IsRefusal, refusal_of, outcome, file_code}
+use Rattle.split_file.proofs.Sequels.{require_reads, require_again}
 use Rattle.split_file.proofs.PartLaws.{parts_reads, parts_again}
-use Rattle.split_file.proofs.FrontLaws.{front_bytes, front_reads, front_again}
+use Rattle.split_file.proofs.FrontLaws.{front_bytes, front_reads, front_again, is_version, short_version}
 use Rattle.split_file.proofs.SoundCodes.{Stand, sound_code, front_is, few_items, parts_are, entries_there}
 
 -- ---- entries
@@ -56,43 +58,72 @@ ended_is [] x rest is =
 ended_is (byte ∷ bytes) x rest is = absurd cc
 
 -- what is read behind the front, up to the end
-abbrev behind_parts : CodeShape × ℕ → List (List Instr) → Reader CodeShape
-behind_parts front parts =
-    sequel ended (λ _. sequel (entries_stand (with_parts front.0 parts) front.0.entries front.1)
-    (λ _. given (with_parts front.0 parts)))
+abbrev entries_behind : CodeShape × Front → List (List Instr) → Reader CodeShape
+entries_behind front parts =
+    sequel (entries_stand (with_parts front.0 parts) front.0.entries front.1.behind)
+    (λ _. given (with_parts front.0 parts))
 
-abbrev behind_front : CodeShape × ℕ → Reader CodeShape
-behind_front front = sequel (items_at (next_part_at front.0) [] (length front.0.hosts)) (behind_parts front)
+abbrev behind_parts : CodeShape × Front → List (List Instr) → Reader CodeShape
+behind_parts front parts =
+    sequel ended (λ _. sequel (version_stands (with_parts front.0 parts) front.1) (λ _. entries_behind front parts))
+
+abbrev behind_front : CodeShape × Front → Reader CodeShape
+behind_front front =
+    sequel (items_at (next_part_at front.1.version front.0) [] (length front.0.hosts)) (behind_parts front)
 
 no_bytes : AreBytes []
 no_bytes i = omega arith
 
-end_read : (front : CodeShape × ℕ) (parts : List (List Instr)) (bytes : List ℕ) (code : CodeShape) (rest : List ℕ) →
-    behind_parts front parts bytes ≡ Ok (code, rest) →
-    (bytes ≡ []) × (code ≡ with_parts front.0 parts) × Stand (with_parts front.0 parts) front.0.entries
+version_reads : (code : CodeShape) (front : Front) → Reads (version_stands code front)
+    (λ _ text. (text ≡ []) × (front.version ≡ version_of code))
+unfolding version_stands
+version_reads code front =
+    reads_weaker (require_reads (front.version == version_of code) (fault.BadField front.from_version))
+    (λ _ text is. (is.0, eqb-true _ _ is.1))
+
+-- no bytes are left, the file is of the version of the code, and its entries stand
+record IsEnd (front : CodeShape × Front) (parts : List (List Instr)) (bytes : List ℕ) (code : CodeShape) : Type 0 where
+  none : bytes ≡ []
+  whole : code ≡ with_parts front.0 parts
+  version : front.1.version ≡ version_of (with_parts front.0 parts)
+  stand : Stand (with_parts front.0 parts) front.0.entries
+
+end_read : (front : CodeShape × Front) (parts : List (List Instr)) (bytes : List ℕ) (code : CodeShape)
+    (rest : List ℕ) → behind_parts front parts bytes ≡ Ok (code, rest) → IsEnd front parts bytes code
 unfolding sequel given
 end_read front parts bytes code rest is =
-    let tail = λ (_ : ⊤). sequel (entries_stand (with_parts front.0 parts) front.0.entries front.1)
-    (λ _. given (with_parts front.0 parts)) in
+    let final = with_parts front.0 parts in
+    let tail = λ (_ : ⊤). sequel (version_stands final front.1) (λ _. entries_behind front parts) in
     let step = handed (ended bytes) tail code rest is in
     let over = ended_is bytes step.0 step.1 step.2 in
-    let next = handed (entries_stand (with_parts front.0 parts) front.0.entries front.1 step.1)
-    (λ _. given (with_parts front.0 parts)) code rest step.3 in
-    let stood = (stand_reads (with_parts front.0 parts) front.0.entries front.1).taken step.1 next.0 next.1
-    (subst AreBytes (sym over.1) no_bytes) next.2 in
-    let same = ok_is (with_parts front.0 parts, next.1) (code, rest) next.3 in
-    (over.0, sym (ap (λ (p : CodeShape × List ℕ). p.0) same), stood.is.1)
+    let left = subst AreBytes (sym over.1) no_bytes in
+    let then_entries = λ (_ : ⊤). entries_behind front parts in
+    let next = handed (version_stands final front.1 step.1) then_entries code rest step.3 in
+    let version = (version_reads final front.1).taken step.1 next.0 next.1 left next.2 in
+    let last = handed (entries_stand final front.0.entries front.1.behind next.1) (λ _. given final) code rest
+    next.3 in
+    let stood = (stand_reads final front.0.entries front.1.behind).taken next.1 last.0 last.1 version.left last.2 in
+    let same = ok_is (final, last.1) (code, rest) last.3 in
+    record {
+      none = over.0;
+      whole = sym (ap (λ (p : CodeShape × List ℕ). p.0) same);
+      version = version.is.1;
+      stand = stood.is.1;
+    }
 
 regroup : (one two three four more : List ℕ) →
     concat (one ∷ two ∷ three ∷ four ∷ []) ++ more ≡ concat (one ∷ two ∷ three ∷ four ∷ more ∷ [])
 regroup one two three four more = simp (append_assoc, append-nil)
 
 -- the front and the parts are the file
-whole_file : (code : CodeShape) (parts : List (List Instr)) →
-    front_bytes code ++ flat_map part_bytes parts ≡ split_file (with_parts code parts)
+whole_file : (version : ℕ) (code : CodeShape) (parts : List (List Instr)) →
+    version ≡ version_of (with_parts code parts) →
+    front_bytes version code ++ flat_map part_bytes parts ≡ split_file (with_parts code parts)
 unfolding split_file
-whole_file code parts =
-    regroup magic (to_be_bytes w16 (version_of code)) (table_bytes code) (start_bytes code) (flat_map part_bytes parts)
+whole_file version code parts is =
+    ap (λ v. front_bytes v code ++ flat_map part_bytes parts) is
+    ∙ regroup magic (to_be_bytes w16 (version_of (with_parts code parts))) (table_bytes code) (start_bytes code)
+    (flat_map part_bytes parts)
 
 -- what is read is spelled so, and sound
 pub code_read : (bytes : List ℕ) (code : CodeShape) (rest : List ℕ) → AreBytes bytes → code_at bytes ≡ Ok (code, rest) →
@@ -100,34 +131,50 @@ pub code_read : (bytes : List ℕ) (code : CodeShape) (rest : List ℕ) → AreB
 unfolding code_at sequel
 code_read bytes code rest fits is =
     let step = handed (front_at bytes) behind_front code rest is in
+    let bare = step.0.0 in
+    let version = step.0.1.version in
     let front = front_reads.taken bytes step.0 step.1 fits step.2 in
-    let next = handed (items_at (next_part_at step.0.0) [] (length step.0.0.hosts) step.1)
-    (behind_parts step.0) code rest
-    step.3 in
-    let parts = (parts_reads step.0.0 (length step.0.0.hosts)).taken step.1 next.0 next.1 front.left next.2 in
+    let next = handed (items_at (next_part_at version bare) [] (length bare.hosts) step.1) (behind_parts step.0) code
+    rest step.3 in
+    let parts = (parts_reads version bare (length bare.hosts)).taken step.1 next.0 next.1 front.left next.2 in
     let end = end_read step.0 next.0 next.1 code rest next.3 in
-    let real = sound_code step.0.0 next.0 front.is.1 parts.is.1.0 parts.is.1.1 end.2 in
+    let real = sound_code version bare next.0 front.is.1 parts.is.1.0 parts.is.1.1 end.stand in
     let behind : step.1 ≡ flat_map part_bytes next.0 =
-    parts.parts ∙ ap (λ r. parts.text ++ r) end.0 ∙ append-nil parts.text ∙ parts.is.0 in
-    let spelled : bytes ≡ split_file (with_parts step.0.0 next.0) =
-    front.parts ∙ ap (λ t. t ++ step.1) front.is.0 ∙ ap (λ r. front_bytes step.0.0 ++ r) behind
-    ∙ whole_file step.0.0 next.0 in
-    subst (λ c. IsRealCode c × (bytes ≡ split_file c)) (sym end.1) (real, spelled)
+    parts.parts ∙ ap (λ r. parts.text ++ r) end.none ∙ append-nil parts.text ∙ parts.is.0 in
+    let spelled : bytes ≡ split_file (with_parts bare next.0) =
+    front.parts ∙ ap (λ t. t ++ step.1) front.is.0 ∙ ap (λ r. front_bytes version bare ++ r) behind
+    ∙ whole_file version bare next.0 end.version in
+    subst (λ c. IsRealCode c × (bytes ≡ split_file c)) (sym end.whole) (real, spelled)
+
+-- what is kept of the bytes before the instructions of a code
+abbrev front_of : CodeShape → ℕ → ℕ → CodeShape × Front
+front_of code from_version behind =
+    (with_parts code [], record { version = version_of code; from_version = from_version; behind = behind })
+
+version_again : (code : CodeShape) (from_version behind : ℕ) →
+    version_stands code (front_of code from_version behind).1 [] ≡ Ok (tt, [])
+unfolding version_stands
+version_again code from_version behind =
+    (require_again (version_of code == version_of code) (fault.BadField from_version)
+    (eq-eqb (version_of code) (version_of code) refl)).again []
 
 -- the parts of a sound code are read to the end
-behind_again : (code : CodeShape) (behind : ℕ) → IsRealCode code →
-    behind_front (with_parts code [], behind) (flat_map part_bytes code.parts) ≡ Ok (code, [])
+behind_again : (code : CodeShape) (from_version behind : ℕ) → IsRealCode code →
+    behind_front (front_of code from_version behind) (flat_map part_bytes code.parts) ≡ Ok (code, [])
 unfolding sequel given ended
-behind_again code behind sound =
-    let bare = with_parts code [] in
-    let parts = (parts_again bare code.parts (few_items code sound) (parts_are code sound)).again [] in
-    let read : items_at (next_part_at bare) [] (length code.hosts) (flat_map part_bytes code.parts)
-    ≡ Ok (code.parts, []) =
-    ap (λ n. items_at (next_part_at bare) [] n (flat_map part_bytes code.parts)) (sym sound.0.a_part_each)
-    ∙ ap (items_at (next_part_at bare) [] (length code.parts)) (sym (append-nil (flat_map part_bytes code.parts)))
+behind_again code from_version behind sound =
+    let front = front_of code from_version behind in
+    let next = next_part_at (version_of code) front.0 in
+    let parts = (parts_again (version_of code) front.0 code.parts (few_items code sound) (parts_are code sound)).again []
+    in
+    let read : items_at next [] (length code.hosts) (flat_map part_bytes code.parts) ≡ Ok (code.parts, []) =
+    ap (λ n. items_at next [] n (flat_map part_bytes code.parts)) (sym sound.0.a_part_each)
+    ∙ ap (items_at next [] (length code.parts)) (sym (append-nil (flat_map part_bytes code.parts)))
     ∙ parts in
     let stand = (stand_again code code.entries behind (entries_there code sound)).again [] in
-    ap (λ reading. handed_on reading (behind_parts (bare, behind))) read
+    ap (λ reading. handed_on reading (behind_parts front)) read
+    ∙ ap (λ reading. handed_on reading (λ _. entries_behind front code.parts))
+    (version_again code from_version behind)
     ∙ ap (λ reading. handed_on reading (λ _. given code)) stand
 
 -- what is spelled so is read
@@ -135,10 +182,13 @@ pub code_again : (code : CodeShape) → IsRealCode code → code_at (split_file 
 unfolding code_at sequel
 code_again code sound =
     let parts = flat_map part_bytes code.parts in
-    let found = (front_again code (front_is code sound)).again parts in
-    ap (λ bytes. handed_on (front_at bytes) behind_front) (sym (whole_file code code.parts))
+    let riding = list_any any_ride code.parts in
+    let found = (front_again (version_of code) code (is_version riding) (short_version riding)
+    (front_is code sound)).again parts in
+    ap (λ bytes. handed_on (front_at bytes) behind_front) (sym (whole_file (version_of code) code code.parts refl))
     ∙ ap (λ reading. handed_on reading behind_front) found.1
-    ∙ subst (λ front. behind_front front parts ≡ Ok (code, [])) (sym found.2.1) (behind_again code found.2.0 sound)
+    ∙ subst (λ front. behind_front front parts ≡ Ok (code, [])) (sym found.2.2)
+    (behind_again code found.2.0 found.2.1 sound)
 
 -- ---- files
 
