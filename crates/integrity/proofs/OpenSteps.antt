@@ -5,7 +5,6 @@ use Rattle.std.proofs.Common.{Option, Some, None, refl, sym, ap, subst, arith}
 use Rattle.std.specs.Prelude.{◌⊎◌, ◌==◌, if◌then◌else◌, slice_get, unwrap_or, All, Any, IfSome, IsSomeAnd}
 use Rattle.std.specs.Prelude.{IsTrue, ◌≤◌, length, slice_index, slice_set, ⊤}
 use Rattle.std.specs.List.{AllByRecursion}
-use Rattle.std.specs.Option.{option_map}
 use Rattle.std.proofs.lemmas.Bool.Decides.{eqb_tells, leb_tells}
 use Rattle.std.proofs.lemmas.Grind.{get_or-set_at}
 use Rattle.std.proofs.lemmas.List.{get_or_past, get_or-set_other}
@@ -29,20 +28,17 @@ use Rattle.host_code.specs.declared.instruction.Instr.{Instr}
 use Rattle.host_code.specs.declared.instruction.Op.{Op}
 use Rattle.host_code.specs.declared.instruction.Op.TheVariants as op
 use Rattle.host_code.specs.declared.message.Message.{Message}
-use Rattle.host_code.specs.declared.message.Message.TheVariants as message
 use Rattle.host_code.specs.Riders.{Rider}
 use Rattle.host_code.specs.Sound.{IsSoundCode, OperationFits, temporaries_at}
 use Rattle.host_code.specs.Thread.{ThreadShape, WaitingShape, Awaited}
 use Rattle.host_code.specs.Thread.Awaited.{value_of_field, acknowledgement, token_of_entry}
-use Rattle.host_code.specs.Code.{CodeFieldShape, CodeVariableShape, halt, field_at, variable_at, entry_at}
+use Rattle.host_code.specs.Code.{CodeFieldShape, halt, field_at, entry_at}
 use Rattle.host_code.specs.Code.{part_of, instruction_at}
 use Rattle.host_stores.specs.Stores.{is_same_variable}
-use Rattle.entry_check.specs.Checks.{MayAffect, MayEnter, IsTrustedFor, MaySee, label_at, label_of_host}
 use Rattle.host_core.specs.Fits.{StateFits, EntryFits, IsEntryOf}
-use Rattle.host_core.specs.Host.{HostShape, Outcome, with_running, with_one_ignored, with_token, with_temporary}
+use Rattle.host_core.specs.Host.{HostShape, Outcome, with_running, with_one_ignored}
 use Rattle.host_core.specs.Host.{after_pop, after_entering, after_asking, value_in_thread, without_message, thread_at}
-use Rattle.host_core.specs.Host.{with_row_written, with_variable_set, with_variables_set, after_push, after_clearing}
-use Rattle.host_core.specs.Taking.{place_of_awaiting, IsTaking, Passes, after_taking, after_answer}
+use Rattle.host_core.specs.Host.{with_row_written, with_variable_set, with_variables_set, after_clearing}
 use Rattle.host_core.specs.Turn.{PassesWith, after_frame}
 use Rattle.host_core.specs.Turn.{IsTurn, IsTurnOf, IsRunning, after_operation, after_read, after_put, after_own_push}
 use Rattle.host_core.specs.Turn.{after_ask, after_go, after_go_with, riders_of, after_own_call, after_return}
@@ -50,7 +46,6 @@ use Rattle.host_core.specs.Turn.{after_back, with_thread}
 use Rattle.host_core.proofs.Kept.{kept_at_rest}
 use Rattle.net_world.proofs.Present.{get_other, same_id}
 use Rattle.split_rules.specs.Opening.{IsOpenTo, IsOpenCode, OpensOp, MayChange, MayChangeField, HasNeed}
-use Rattle.token_laws.proofs.HostNumbers.{all_but}
 use Rattle.token_laws.proofs.Tests.{parts_same, number_same}
 use Rattle.integrity.specs.Exposed.{IsAsBefore}
 use Rattle.integrity.specs.Outside.{Threat, PlaceIsOpen, ThreadIsOpen, EntryIsOpen, MessageIsOpen}

@@ -1,10 +1,10 @@
 -- What a host leaves and sends that takes a message which could be the doing of misbehaving hosts: nothing that these
 -- may not affect, and nothing that could not be their doing too. What passes the check of a misbehaving host is such a
 -- message.
-use Rattle.std.specs.Prelude.{slice_get, All, Any, IfSome, IsSomeAnd, IsTrue}
+use Rattle.std.specs.Prelude.{slice_get, Any, IfSome, IsTrue}
 use Rattle.std.specs.List.{AllByRecursion}
 use Rattle.std.specs.Option.{option_map}
-use Rattle.std.proofs.Common.{◌≡◌, ◌∙◌, ℕ, ◌+◌, Bool, true, false, List, [], ◌∷◌, Option, Some, None, refl, sym, ap}
+use Rattle.std.proofs.Common.{◌≡◌, ◌∙◌, ℕ, Bool, true, false, List, [], ◌∷◌, Option, Some, None, refl, sym, ap}
 use Rattle.std.proofs.Common.{subst, arith}
 use Rattle.std.proofs.lemmas.List.Elements.{All-cons}
 use Rattle.js_base.specs.declared.ids.HostId.{HostId}
