@@ -90,7 +90,7 @@ variable_affected threat known x any =
     (any_each (λ label. MayChange threat.code label x) (λ label. IsSomeAnd there (IntegFlows label))
     threat.exposure.bad (λ label. known.variables label x) any)
 
--- so may each of several
+-- each of several variables may be affected
 variables_affected : (threat : Threat) → IsKnown threat → (variables : List VarId) →
     Any (λ label. AllByRecursion (MayChange threat.code label) variables) threat.exposure.bad →
     AllByRecursion (VariableIsAffected threat.exposure) variables
@@ -240,13 +240,14 @@ sets exposure host frame x value affected = record {
       (number_same x.0 another.0 (parts_same _ _ is).1) affected);
 }
 
+-- what is as it was after each of two changes, or may be affected
 pub same_then : {X : Type 0} (first second third : X) (A : Type 0) → (second ≡ first) ⊎ A → (third ≡ second) ⊎ A →
     (third ≡ first) ⊎ A
 same_then first second third A (inl is) (inl also) = inl (also ∙ is)
 same_then first second third A (inl is) (inr may) = inr may
 same_then first second third A (inr may) later = inr may
 
--- so a variable may have been set before that may be affected
+-- what is open behind a change of a variable that may be affected is open with that change
 behind_set : (threat : Threat) (kinds : Kinds threat) (host : HostShape) (frame : FrameId) (x : VarId) (value : ℤ)
     (outcome : Outcome) → VariableIsAffected threat.exposure x →
     LeavesOpen threat kinds (with_variable_set host frame x value) outcome → LeavesOpen threat kinds host outcome
@@ -298,7 +299,7 @@ enters threat kinds host (Some entry) frame token was at =
     stands threat kinds host (with_running host (Some thread)) refl refl refl (runs threat kinds host
     (Some thread) was at)
 
--- it enters where values ride that may be affected
+-- it starts likewise where values ride for variables that may be affected
 pub enters_with : (threat : Threat) (kinds : Kinds threat) (host : HostShape) (found : Option Entry) (frame : FrameId)
     (token : Token) (riders : List Rider) →
     HasOpen threat kinds host → IfSome found (λ entry. PlaceIsOpen threat host.me entry.at) →
