@@ -17,7 +17,7 @@ use Rattle.host_code.specs.declared.instruction.Instr.{Instr}
 use Rattle.host_code.specs.Code.{CodeShape, CodeFieldShape, part_of}
 use Rattle.host_code.specs.Sound.{IsHost, IsLeaving, OperationFits, PartFits, FieldFits, EntryFits, temporaries_at}
 use Rattle.byte_format.proofs.ItemLaws.{AllIn, all_of, in_all, all_weaker, at_place, by_place}
-use Rattle.split_file.specs.Spelling.{has_riders, any_ride, version_of}
+use Rattle.split_file.specs.Spelling.{has_riders, any_ride}
 use Rattle.split_file.specs.Reading.{is_leaving, elements_of, is_empty, with_parts}
 use Rattle.split_file.specs.File.{IsRealInstruction, IsRealCode}
 use Rattle.split_file.proofs.TableLaws.{FieldIs}
@@ -403,20 +403,22 @@ few_items code sound = record {
   sites = omega (arith, sound.0.few_sites);
 }
 
-pub parts_are : (code : CodeShape) → IsRealCode code →
-    AllIn (PartBehind (version_of code) (with_parts code [])) [] code.parts
-parts_are code sound =
-    by_place (PartBehind (version_of code) (with_parts code [])) code.parts (λ front part back whole.
+-- in a file of a version in which all values may ride that do
+pub parts_are : (version : ℕ) (code : CodeShape) → IsRealCode code →
+    (list_any any_ride code.parts ≡ true → version ≡ 2) →
+    AllIn (PartBehind version (with_parts code [])) [] code.parts
+parts_are version code sound riding =
+    by_place (PartBehind version (with_parts code [])) code.parts (λ front part back whole.
     let me : HostId = record { 0 = length front } in
     let found = item_behind front part back code.parts whole in
     let same : part_of code me ≡ part = ap (λ there. unwrap_or there []) found in
     let within = got_within code.parts (length front) part found in
     let is_host : IsHost code me = omega (arith, within, sound.0.a_part_each) in
     let real = fact_behind (All IsRealInstruction) front part back code.parts whole sound.1.parts in
-    subst (λ p. PartIs (version_of code) (with_parts code []) me p) same
-    (part_is (version_of code) code me (sound.0.parts me is_host) (subst (All IsRealInstruction) (sym same) real)
-    (λ rides. ap (λ b. if b then 2 else 1)
-    (any_at any_ride code.parts (length front) part found (ap any_ride (sym same) ∙ rides))))) [] code.parts refl
+    subst (λ p. PartIs version (with_parts code []) me p) same
+    (part_is version code me (sound.0.parts me is_host) (subst (All IsRealInstruction) (sym same) real)
+    (λ rides. riding (any_at any_ride code.parts (length front) part found (ap any_ride (sym same) ∙ rides)))))
+    [] code.parts refl
 
 pub entries_there : (code : CodeShape) → IsRealCode code → Stand code code.entries
 entries_there code sound =
