@@ -1,6 +1,6 @@
 -- Laws of what stands before the instructions of a split file.
-use Rattle.std.proofs.Common.{◌≡◌, ℕ, ◌<◌, ◌^◌, Bool, true, false, ◌||◌, List, [], ◌∷◌, ◌++◌, length, Ok, refl, ap, subst}
-use Rattle.std.proofs.Common.{◌∙◌, arith}
+use Rattle.std.proofs.Common.{◌≡◌, ℕ, ◌<◌, ◌^◌, Bool, true, false, ◌||◌, List, [], ◌∷◌, ◌++◌, length, Ok, refl, ap}
+use Rattle.std.proofs.Common.{subst, ◌∙◌, arith}
 use Rattle.std.specs.Prelude.{if◌then◌else◌, ⊤, ◌==◌}
 use Rattle.std.specs.List.{concat}
 use Rattle.std.specs.Str.{bytes_eq}
@@ -18,8 +18,8 @@ use Rattle.split_file.specs.Spelling.{magic, table_bytes, start_bytes}
 use Rattle.split_file.specs.Reader.{Reader, place, number_at}
 use Rattle.split_file.specs.Reading.{magic_at, version_at, TablesShape, tables_at, StartsShape, starts_at, code_with}
 use Rattle.split_file.specs.Reading.{front_at, with_parts}
-use Rattle.split_file.proofs.Sequels.{AgainSome, reads_place, require_reads, require_again, some_place, some_then}
-use Rattle.split_file.proofs.Sequels.{some_some, some_same}
+use Rattle.split_file.proofs.Sequels.{AgainSome, reads_place, require_reads, require_again, some_then, some_some}
+use Rattle.split_file.proofs.Sequels.{some_same}
 use Rattle.split_file.proofs.TableLaws.{TablesAre, tables_read, tables_again}
 use Rattle.split_file.proofs.StartLaws.{StartsAre, IsStart, starts_read, starts_again}
 
