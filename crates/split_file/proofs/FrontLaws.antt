@@ -1,6 +1,6 @@
 -- Laws of what stands before the instructions of a split file.
-use Rattle.std.proofs.Common.{◌≡◌, ℕ, ◌<◌, ◌^◌, Bool, true, false, ◌||◌, List, [], ◌∷◌, ◌++◌, length, refl, ap, ap₂, subst}
-use Rattle.std.proofs.Common.{◌∙◌, arith}
+use Rattle.std.proofs.Common.{◌≡◌, ℕ, ◌<◌, ◌^◌, Bool, true, false, ◌||◌, List, [], ◌∷◌, ◌++◌, length, Ok, refl, ap}
+use Rattle.std.proofs.Common.{subst, ◌∙◌, arith}
 use Rattle.std.specs.Prelude.{if◌then◌else◌, ⊤, ◌==◌}
 use Rattle.std.specs.List.{concat}
 use Rattle.std.specs.Str.{bytes_eq}
@@ -8,17 +8,18 @@ use Rattle.std.specs.Int.{w16, to_be_bytes}
 use Rattle.std.proofs.lemmas.List.{append-nil}
 use Rattle.std.proofs.lemmas.Slice.Eq.{bytes_eq-Decides}
 use Rattle.host_code.specs.Code.{CodeShape}
-use Rattle.byte_format.specs.Reader.{sequel, given, require}
+use Rattle.byte_format.specs.Reader.{handed_on, sequel, given, require}
 use Rattle.byte_format.proofs.NumberLaws.{bytes_reads, bytes_again, short_reads, short_again}
 use Rattle.byte_format.proofs.Sequels.{Reads, Again, reads_then, reads_given, reads_require, reads_weaker, again_then}
 use Rattle.byte_format.proofs.Sequels.{again_given, again_require}
 use Rattle.split_file.specs.declared.fault.Fault.TheVariants as fault
 use Rattle.split_file.specs.declared.reading.Front.{Front}
 use Rattle.split_file.specs.Spelling.{magic, table_bytes, start_bytes}
-use Rattle.split_file.specs.Reader.{Reader, number_at}
-use Rattle.split_file.specs.Reading.{magic_at, version_at, TablesShape, StartsShape, code_with, front_at, with_parts}
-use Rattle.split_file.proofs.Sequels.{AgainSome, reads_place, require_reads, require_again, some_place, some_then}
-use Rattle.split_file.proofs.Sequels.{some_some, some_same}
+use Rattle.split_file.specs.Reader.{Reader, place, number_at}
+use Rattle.split_file.specs.Reading.{magic_at, version_at, TablesShape, tables_at, StartsShape, starts_at, code_with}
+use Rattle.split_file.specs.Reading.{front_at, with_parts}
+use Rattle.split_file.proofs.Sequels.{AgainSome, reads_place, require_reads, require_again, some_then, some_some}
+use Rattle.split_file.proofs.Sequels.{some_same}
 use Rattle.split_file.proofs.TableLaws.{TablesAre, tables_read, tables_again}
 use Rattle.split_file.proofs.StartLaws.{StartsAre, IsStart, starts_read, starts_again}
 
@@ -48,14 +49,17 @@ behind_place at =
     sequel (number_at w16) (λ version. sequel (require (version == 1 || version == 2) fault.BadVersion)
     (λ _. given (version, at)))
 
-version_again : (version : ℕ) → (version == 1 || version == 2) ≡ true → version < 2 ^ 16 →
-    AgainSome version_at (λ read. read.0 ≡ version) (to_be_bytes w16 version)
-unfolding version_at
-version_again version is short =
-    some_place (λ at. some_same (λ (read : ℕ × ℕ). read.0 ≡ version)
-    (subst (λ text. Again (behind_place at) (version, at) text) (append-nil (to_be_bytes w16 version))
+version_again : (version : ℕ) → (version == 1 || version == 2) ≡ true → version < 2 ^ 16 → (rest : List ℕ) →
+    version_at (to_be_bytes w16 version ++ rest)
+    ≡ Ok ((version, length (to_be_bytes w16 version ++ rest)), rest)
+unfolding version_at sequel place
+version_again version is short rest =
+    let at = length (to_be_bytes w16 version ++ rest) in
+    let one : Again (behind_place at) (version, at) (to_be_bytes w16 version) =
+    subst (λ text. Again (behind_place at) (version, at) text) (append-nil (to_be_bytes w16 version))
     (again_then (λ version. sequel (require (version == 1 || version == 2) fault.BadVersion) (λ _. given (version, at)))
-    (short_again _ version short) (again_require fault.BadVersion is (again_given (version, at))))) refl)
+    (short_again _ version short) (again_require fault.BadVersion is (again_given (version, at)))) in
+    one.again rest
 
 -- a code has a version that is read
 pub is_version : (riding : Bool) →
@@ -88,29 +92,55 @@ front_reads =
     reads_then (starts_read (length tables.hosts) (length tables.labels)) (λ starts starts_are. reads_given _
     (refl, record { tables = tables_are; starts = starts_are })))))
 
--- it is read again, with some places of the version and behind the entries
-abbrev pub IsFront : ℕ → CodeShape → CodeShape × Front → Type 0
-IsFront version code front =
-    (from_version : ℕ) × (behind : ℕ)
-    × (front ≡ (with_parts code [], record { version = version; from_version = from_version; behind = behind }))
+-- ---- what is read again
 
-with_start : (version : ℕ) (code : CodeShape) (read : ℕ × ℕ) (starts : StartsShape) → read.0 ≡ version →
+-- what is kept of the bytes before the instructions of a code
+abbrev pub front_of : ℕ → CodeShape → ℕ → ℕ → CodeShape × Front
+front_of version code from_version behind =
+    (with_parts code [], record { version = version; from_version = from_version; behind = behind })
+
+abbrev IsFront : ℕ × ℕ → CodeShape → CodeShape × Front → Type 0
+IsFront version code front = (behind : ℕ) × (front ≡ front_of version.0 code version.1 behind)
+
+abbrev read_front : ℕ × ℕ → TablesShape → StartsShape → CodeShape × Front
+read_front version tables starts =
+    (code_with tables starts, record { version = version.0; from_version = version.1; behind = starts.behind })
+
+with_start : (version : ℕ × ℕ) (code : CodeShape) (starts : StartsShape) →
     IsStart code.entries code.sites code.root code.main starts →
-    IsFront version code
-    (code_with (tables_in code) starts, record { version = read.0; from_version = read.1; behind = starts.behind })
-with_start version code read starts read_is is = (
-  read.1,
-  is.0,
-  ap₂ (λ (s : StartsShape) (v : ℕ).
-  (code_with (tables_in code) s, record { version = v; from_version = read.1; behind = s.behind })) is.1 read_is,
-)
+    IsFront version code (read_front version (tables_in code) starts)
+with_start version code starts is = (is.0, ap (read_front version (tables_in code)) is.1)
 
-pub front_again : (version : ℕ) (code : CodeShape) → (version == 1 || version == 2) ≡ true → version < 2 ^ 16 →
-    FrontIs code → AgainSome front_at (IsFront version code) (front_bytes version code)
-unfolding front_at
-front_again version code known short is =
-    some_then _ magic_again (some_some (version_again version known short) (λ read read_is.
-    some_then _ (tables_again (tables_in code) is.tables)
+-- what stands behind the version, and its bytes
+abbrev behind_version : ℕ × ℕ → Reader (CodeShape × Front)
+behind_version version =
+    sequel tables_at (λ tables. sequel (starts_at (length tables.hosts) (length tables.labels))
+    (λ starts. given (read_front version tables starts)))
+
+abbrev pub named_bytes : CodeShape → List ℕ
+named_bytes code = concat (table_bytes code ∷ start_bytes code ∷ [])
+
+named_again : (version : ℕ × ℕ) (code : CodeShape) → FrontIs code →
+    AgainSome (behind_version version) (IsFront version code) (named_bytes code)
+named_again version code is =
+    some_then (λ tables. sequel (starts_at (length tables.hosts) (length tables.labels))
+    (λ starts. given (read_front version tables starts))) (tables_again (tables_in code) is.tables)
     (some_some (starts_again (length code.hosts) (length code.labels) code.entries code.sites code.root code.main
     is.tables.few_labels is.starts) (λ starts starts_is.
-    some_same (IsFront version code) (again_given _) (with_start version code read starts read_is starts_is)))))
+    some_same (IsFront version code) (again_given _) (with_start version code starts starts_is)))
+
+pub front_again : (version : ℕ) (code : CodeShape) → (version == 1 || version == 2) ≡ true → version < 2 ^ 16 →
+    FrontIs code → (rest : List ℕ) →
+    (behind : ℕ) × (front_at (magic ++ (to_be_bytes w16 version ++ (named_bytes code ++ rest)))
+    ≡ Ok (front_of version code (length (to_be_bytes w16 version ++ (named_bytes code ++ rest))) behind, rest))
+unfolding front_at sequel
+front_again version code known short is rest =
+    let more = named_bytes code ++ rest in
+    let at = length (to_be_bytes w16 version ++ more) in
+    let found = (named_again (version, at) code is).again rest in (
+      found.2.0,
+      ap (λ reading. handed_on reading (λ _. sequel version_at behind_version))
+          (magic_again.again (to_be_bytes w16 version ++ more))
+          ∙ ap (λ reading. handed_on reading behind_version) (version_again version known short more)
+          ∙ found.1 ∙ ap (λ front. Ok (front, rest)) found.2.1,
+    )

@@ -6,7 +6,8 @@ use Rattle.host_code.specs.Code.{CodeShape}
 use Rattle.host_code.specs.Sound.{temporaries_at}
 use Rattle.split_file.specs.Reading.{instruction_at, next_instruction_at, part_at, next_part_at}
 
-pub next_instruction : (version : ℕ) (code : CodeShape) (me : HostId) (places : ℕ) (before : List Instr) (temporaries number : ℕ) →
+pub next_instruction : (version : ℕ) (code : CodeShape) (me : HostId) (places : ℕ) (before : List Instr)
+    (temporaries number : ℕ) →
     length before ≡ number → temporaries ≡ temporaries_at code.entries me before number →
     next_instruction_at version code me places before ≡ instruction_at version code me places temporaries number
 unfolding next_instruction_at

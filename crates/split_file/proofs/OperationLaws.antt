@@ -40,7 +40,8 @@ ExpressionFor code temporaries nodes = ExpressionIs (length code.variables) temp
 
 -- what an operation names is there, of a host that has so many instructions, in a file of this version
 abbrev pub OperationIs : ℕ → CodeShape → HostId → ℕ → ℕ → Op → Type 0
-OperationIs version code me temporaries places (op.Read field index) = IsField code field × ExpressionFor code temporaries index
+OperationIs version code me temporaries places (op.Read field index) =
+    IsField code field × ExpressionFor code temporaries index
 OperationIs version code me temporaries places (op.Let variable value) =
     IsVariable code variable × ExpressionFor code temporaries value
 OperationIs version code me temporaries places (op.Put field index value) =
@@ -247,7 +248,8 @@ call_reads version code me temporaries places =
     reads_then (some_entry_reads code) (λ entry apart.
     reads_last _ (host_of_entry_reads code entry) (λ on is. (refl, ((apart, is.1), is.0))))
 
-branch_reads : (version : ℕ) (code : CodeShape) (me : HostId) (temporaries places : ℕ) → Reads (branch_at code temporaries places)
+branch_reads : (version : ℕ) (code : CodeShape) (me : HostId) (temporaries places : ℕ) →
+    Reads (branch_at code temporaries places)
     (λ o text. (14 ∷ text ≡ operation_bytes o) × OperationIs version code me temporaries places o)
 unfolding branch_at
 branch_reads version code me temporaries places =
@@ -319,7 +321,8 @@ operation_reads version code me temporaries places =
 -- ---- what is read again
 
 abbrev Tail : ℕ → CodeShape → HostId → ℕ → ℕ → ℕ → Reader Op
-Tail version code me temporaries places at = sequel byte_at (λ byte. operation_of version code me temporaries places at byte)
+Tail version code me temporaries places at =
+    sequel byte_at (λ byte. operation_of version code me temporaries places at byte)
 
 operation_behind : (version : ℕ) (code : CodeShape) (me : HostId) (temporaries places at : ℕ) (o : Op) → IsFew code →
     temporaries < 2 ^ 32 → places < 2 ^ 32 → OperationIs version code me temporaries places o →

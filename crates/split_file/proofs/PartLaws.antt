@@ -26,7 +26,8 @@ use Rattle.split_file.proofs.Temporaries.{few_at}
 -- ---- instructions
 
 -- the instruction of this number, of so many
-pub record InstructionIs (version : ℕ) (code : CodeShape) (me : HostId) (places temporaries number : ℕ) (instruction : Instr) :
+pub record InstructionIs (version : ℕ) (code : CodeShape) (me : HostId) (places temporaries number : ℕ)
+    (instruction : Instr) :
     Type 0 where
   pub label : instruction.label < length code.labels
   pub statement : instruction.statement.0 < 2 ^ 32
@@ -39,11 +40,13 @@ pub instruction_reads : (version : ℕ) (code : CodeShape) (me : HostId) (places
 unfolding instruction_at
 instruction_reads version code me places temporaries number =
     reads_place (λ at. reads_then (index_reads (length code.labels)) (λ label label_is.
-    reads_then (number_reads _) (λ statement short. reads_then (operation_reads version code me temporaries places) (λ o o_is.
+    reads_then (number_reads _) (λ statement short.
+    reads_then (operation_reads version code me temporaries places) (λ o o_is.
     reads_require (fault.BadField at) (λ ends. reads_given _
     (refl, record { label = label_is; statement = short; operation = o_is; end = ends }))))))
 
-pub instruction_again : (version : ℕ) (code : CodeShape) (me : HostId) (places temporaries number : ℕ) (i : Instr) → IsFew code →
+pub instruction_again : (version : ℕ) (code : CodeShape) (me : HostId) (places temporaries number : ℕ) (i : Instr) →
+    IsFew code →
     temporaries < 2 ^ 32 → places < 2 ^ 32 → InstructionIs version code me places temporaries number i →
     Again (instruction_at version code me places temporaries number) i (instruction_bytes i)
 unfolding instruction_at
@@ -85,13 +88,15 @@ part_reads version code me =
       },
     )))
 
-next_again : (version : ℕ) (code : CodeShape) (me : HostId) (places : ℕ) (before : List Instr) (i : Instr) → IsFew code →
+next_again : (version : ℕ) (code : CodeShape) (me : HostId) (places : ℕ) (before : List Instr) (i : Instr) →
+    IsFew code →
     length before < 2 ^ 32 → places < 2 ^ 32 → InstructionBehind version code me places before i →
     Again (next_instruction_at version code me places before) i (instruction_bytes i)
 unfolding next_instruction_at
 next_again version code me places before i few short limit is =
     let below = few_at code.entries me before (length before) in
-    instruction_again version code me places (temporaries_at code.entries me before (length before)) (length before) i few
+    instruction_again version code me places (temporaries_at code.entries me before (length before))
+    (length before) i few
     (omega (arith, below, short)) limit is
 
 -- each of these items stands in a list that is not too long
@@ -106,7 +111,8 @@ short_fronts P limit before (x ∷ xs) short all =
           all.1,
     )
 
-pub part_again : (version : ℕ) (code : CodeShape) (me : HostId) (part : List Instr) → IsFew code → PartIs version code me part →
+pub part_again : (version : ℕ) (code : CodeShape) (me : HostId) (part : List Instr) → IsFew code →
+    PartIs version code me part →
     Again (part_at version code me) part (part_bytes part)
 unfolding part_at
 part_again version code me part few is =
@@ -124,23 +130,28 @@ part_again version code me part few is =
 abbrev pub PartBehind : ℕ → CodeShape → List (List Instr) → List Instr → Type 0
 PartBehind version code before part = PartIs version code (record { 0 = length before }) part
 
-next_part_reads : (version : ℕ) (code : CodeShape) (before : List (List Instr)) → Reads (next_part_at version code before)
+next_part_reads : (version : ℕ) (code : CodeShape) (before : List (List Instr)) →
+    Reads (next_part_at version code before)
     (λ part text. (text ≡ part_bytes part) × PartBehind version code before part)
 unfolding next_part_at
 next_part_reads version code before = part_reads version code (record { 0 = length before })
 
 pub parts_reads : (version : ℕ) (code : CodeShape) (count : ℕ) → Reads (items_at (next_part_at version code) [] count)
-    (λ parts text. (text ≡ flat_map part_bytes parts) × ((length parts ≡ count) × AllIn (PartBehind version code) [] parts))
-parts_reads version code count = all_read (next_part_at version code) part_bytes (PartBehind version code) (next_part_reads version code) count
+    (λ parts text. (text ≡ flat_map part_bytes parts)
+    × ((length parts ≡ count) × AllIn (PartBehind version code) [] parts))
+parts_reads version code count =
+    all_read (next_part_at version code) part_bytes (PartBehind version code) (next_part_reads version code) count
 
 next_part_again : (version : ℕ) (code : CodeShape) (before : List (List Instr)) (part : List Instr) → IsFew code →
     PartBehind version code before part → Again (next_part_at version code before) part (part_bytes part)
 unfolding next_part_at
 next_part_again version code before part few is = part_again version code (record { 0 = length before }) part few is
 
-pub parts_again : (version : ℕ) (code : CodeShape) (parts : List (List Instr)) → IsFew code → AllIn (PartBehind version code) [] parts →
+pub parts_again : (version : ℕ) (code : CodeShape) (parts : List (List Instr)) → IsFew code →
+    AllIn (PartBehind version code) [] parts →
     Again (items_at (next_part_at version code) [] (length parts)) parts (flat_map part_bytes parts)
 parts_again version code parts few all =
     items_again (next_part_at version code) part_bytes [] parts
-    (all_weaker (PartBehind version code) (λ before part. Again (next_part_at version code before) part (part_bytes part))
+    (all_weaker (PartBehind version code)
+    (λ before part. Again (next_part_at version code before) part (part_bytes part))
     (λ before part is. next_part_again version code before part few is) [] parts all)

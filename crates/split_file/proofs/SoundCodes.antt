@@ -2,7 +2,7 @@
 use Rattle.std.proofs.Common.{◌≡◌, ℕ, zero, suc, ◌+◌, ◌-◌, ◌^◌, ◌<◌, ◌≤◌, ◌⊎◌, inl, inr, Bool, true, false, ◌||◌, List}
 use Rattle.std.proofs.Common.{[], ◌∷◌, ◌++◌, length, get_or, take, drop, Option, Some, None, refl, sym, ap, subst, ◌∙◌}
 use Rattle.std.proofs.Common.{append_assoc, arith}
-use Rattle.std.specs.Prelude.{if◌then◌else◌, All, IsSomeAnd, slice_get, nat_lt, FitsSigned, unwrap_or}
+use Rattle.std.specs.Prelude.{All, IsSomeAnd, slice_get, nat_lt, FitsSigned, unwrap_or}
 use Rattle.std.specs.List.{AllByRecursion, list_any}
 use Rattle.std.specs.Int.{w64}
 use Rattle.std.proofs.lemmas.Bool.{cases_lt, lt-ltb, le-ltb}
@@ -17,7 +17,7 @@ use Rattle.host_code.specs.declared.instruction.Instr.{Instr}
 use Rattle.host_code.specs.Code.{CodeShape, CodeFieldShape, part_of}
 use Rattle.host_code.specs.Sound.{IsHost, IsLeaving, OperationFits, PartFits, FieldFits, EntryFits, temporaries_at}
 use Rattle.byte_format.proofs.ItemLaws.{AllIn, all_of, in_all, all_weaker, at_place, by_place}
-use Rattle.split_file.specs.Spelling.{has_riders, any_ride, version_of}
+use Rattle.split_file.specs.Spelling.{has_riders, any_ride}
 use Rattle.split_file.specs.Reading.{is_leaving, elements_of, is_empty, with_parts}
 use Rattle.split_file.specs.File.{IsRealInstruction, IsRealCode}
 use Rattle.split_file.proofs.TableLaws.{FieldIs}
@@ -93,8 +93,10 @@ last_leaves part x at found long (inr leaving') =
 -- ---- parts
 
 -- the instruction at a place of a part that was read
-here : (version : ℕ) (code : CodeShape) (me : HostId) (part : List Instr) (at : ℕ) (i : Instr) → PartIs version code me part →
-    slice_get part at ≡ Some i → InstructionIs version code me (length part) (temporaries_at code.entries me part at) at i
+here : (version : ℕ) (code : CodeShape) (me : HostId) (part : List Instr) (at : ℕ) (i : Instr) →
+    PartIs version code me part →
+    slice_get part at ≡ Some i →
+    InstructionIs version code me (length part) (temporaries_at code.entries me part at) at i
 here version code me part at i is found =
     let within = got_within part at i found in
     let fact = at_place (InstructionBehind version code me (length part)) [] part at i is.each found in
@@ -113,13 +115,15 @@ part_fits version code parts me is =
           let fact = here version code me part at i is found in
           record {
             label = fact.label;
-            operation = operation_fits version code parts me (temporaries_at code.entries me part at) (length part) i.op refl
+            operation = operation_fits version code parts me (temporaries_at code.entries me part at)
+                (length part) i.op refl
                 fact.operation;
           };
       end = end_of part (λ at i found. (here version code me part at i is found).end);
     }
 
-real_part : (version : ℕ) (code : CodeShape) (me : HostId) (part : List Instr) → PartIs version code me part → All IsRealInstruction part
+real_part : (version : ℕ) (code : CodeShape) (me : HostId) (part : List Instr) → PartIs version code me part →
+    All IsRealInstruction part
 real_part version code me part is at d within =
     let fact = here version code me part at (get_or part at d) is (slice_get-get_or part at d within) in (
       fact.statement,
@@ -127,7 +131,8 @@ real_part version code me part is at d within =
           (get_or part at d).op fact.operation,
     )
 
-pub part_is : (version : ℕ) (code : CodeShape) (me : HostId) → PartFits code me → All IsRealInstruction (part_of code me) →
+pub part_is : (version : ℕ) (code : CodeShape) (me : HostId) → PartFits code me →
+    All IsRealInstruction (part_of code me) →
     (any_ride (part_of code me) ≡ true → version ≡ 2) → PartIs version (with_parts code []) me (part_of code me)
 part_is version code me fits real riding =
     let part = part_of code me in
@@ -176,7 +181,8 @@ parts_fit : (version : ℕ) (code : CodeShape) (parts : List (List Instr)) → l
 parts_fit version code parts long all me is_host =
     let found = got parts me.0 (omega (arith, long)) in
     let same : part_of (with_parts code parts) me ≡ found.0 = ap (λ there. unwrap_or there []) found.1 in
-    part_fits version code parts me (subst (λ p. PartIs version code me p) (sym same) (part_there version code parts me found.0 all found.1))
+    part_fits version code parts me (subst (λ p. PartIs version code me p) (sym same)
+    (part_there version code parts me found.0 all found.1))
 
 real_parts : (version : ℕ) (code : CodeShape) (parts : List (List Instr)) → AllIn (PartBehind version code) [] parts →
     All (All IsRealInstruction) parts
@@ -232,7 +238,8 @@ first_entry hosts labels entries e all found =
 abbrev pub Stand : CodeShape → List Entry → Type 0
 Stand code entries = AllByRecursion (λ e. e.at < length (part_of code e.host)) entries
 
-pub sound_code : (version : ℕ) (code : CodeShape) (parts : List (List Instr)) → FrontIs code → length parts ≡ length code.hosts →
+pub sound_code : (version : ℕ) (code : CodeShape) (parts : List (List Instr)) → FrontIs code →
+    length parts ≡ length code.hosts →
     AllIn (PartBehind version code) [] parts → Stand (with_parts code parts) code.entries →
     IsRealCode (with_parts code parts)
 sound_code version code parts front long all stand =
@@ -403,20 +410,22 @@ few_items code sound = record {
   sites = omega (arith, sound.0.few_sites);
 }
 
-pub parts_are : (code : CodeShape) → IsRealCode code →
-    AllIn (PartBehind (version_of code) (with_parts code [])) [] code.parts
-parts_are code sound =
-    by_place (PartBehind (version_of code) (with_parts code [])) code.parts (λ front part back whole.
+-- in a file of a version in which all values may ride that do
+pub parts_are : (version : ℕ) (code : CodeShape) → IsRealCode code →
+    (list_any any_ride code.parts ≡ true → version ≡ 2) →
+    AllIn (PartBehind version (with_parts code [])) [] code.parts
+parts_are version code sound riding =
+    by_place (PartBehind version (with_parts code [])) code.parts (λ front part back whole.
     let me : HostId = record { 0 = length front } in
     let found = item_behind front part back code.parts whole in
     let same : part_of code me ≡ part = ap (λ there. unwrap_or there []) found in
     let within = got_within code.parts (length front) part found in
     let is_host : IsHost code me = omega (arith, within, sound.0.a_part_each) in
     let real = fact_behind (All IsRealInstruction) front part back code.parts whole sound.1.parts in
-    subst (λ p. PartIs (version_of code) (with_parts code []) me p) same
-    (part_is (version_of code) code me (sound.0.parts me is_host) (subst (All IsRealInstruction) (sym same) real)
-    (λ rides. ap (λ b. if b then 2 else 1)
-    (any_at any_ride code.parts (length front) part found (ap any_ride (sym same) ∙ rides))))) [] code.parts refl
+    subst (λ p. PartIs version (with_parts code []) me p) same
+    (part_is version code me (sound.0.parts me is_host) (subst (All IsRealInstruction) (sym same) real)
+    (λ rides. riding (any_at any_ride code.parts (length front) part found (ap any_ride (sym same) ∙ rides)))))
+    [] code.parts refl
 
 pub entries_there : (code : CodeShape) → IsRealCode code → Stand code code.entries
 entries_there code sound =

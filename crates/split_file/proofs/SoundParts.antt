@@ -64,7 +64,8 @@ expression_is code count nodes fits words = record {
 
 -- ---- operations: the code without its instructions tells all but how many there are
 
-pub operation_fits : (version : ℕ) (code : CodeShape) (parts : List (List Instr)) (me : HostId) (count places : ℕ) (o : Op) →
+pub operation_fits : (version : ℕ) (code : CodeShape) (parts : List (List Instr)) (me : HostId) (count places : ℕ)
+    (o : Op) →
     places ≡ length (part_of (with_parts code parts) me) → OperationIs version code me count places o →
     OperationFits (with_parts code parts) me count o
 operation_fits version code parts me count places (op.Read field index) long is =
@@ -113,21 +114,26 @@ operation_words version code me count places (op.CallWith entry on riders) is = 
 pub operation_is : (version : ℕ) (code : CodeShape) (me : HostId) (count : ℕ) (o : Op) →
     (has_riders o ≡ true → version ≡ 2) → OperationFits code me count o → HasExpressions o →
     OperationIs version (with_parts code []) me count (length (part_of code me)) o
-operation_is version code me count (op.Read field index) riding fits words = (fits.0, expression_is code count index fits.1 words)
-operation_is version code me count (op.Let variable value) riding fits words = (fits.0, expression_is code count value fits.1 words)
+operation_is version code me count (op.Read field index) riding fits words =
+    (fits.0, expression_is code count index fits.1 words)
+operation_is version code me count (op.Let variable value) riding fits words =
+    (fits.0, expression_is code count value fits.1 words)
 operation_is version code me count (op.Put field index value) riding fits words =
     (fits.0, (expression_is code count index fits.1 words.0, expression_is code count value fits.2 words.1))
 operation_is version code me count (op.Send variable to) riding fits words = fits
 operation_is version code me count (op.Frame site) riding fits words = fits
-operation_is version code me count (op.Arg variable value) riding fits words = (fits.0, expression_is code count value fits.1 words)
+operation_is version code me count (op.Arg variable value) riding fits words =
+    (fits.0, expression_is code count value fits.1 words)
 operation_is version code me count (op.Pass variable to) riding fits words = fits
 operation_is version code me count (op.Push entry) riding fits words = fits
 operation_is version code me count (op.Ask entry on) riding fits words = fits
 operation_is version code me count (op.Go entry on) riding fits words = fits
 operation_is version code me count (op.Call entry on) riding fits words = fits
-operation_is version code me count (op.Ret variable value) riding fits words = (fits.0, expression_is code count value fits.1 words)
+operation_is version code me count (op.Ret variable value) riding fits words =
+    (fits.0, expression_is code count value fits.1 words)
 operation_is version code me count op.Back riding fits words = tt
-operation_is version code me count (op.Branch guard target) riding fits words = (expression_is code count guard fits.0 words, fits.1)
+operation_is version code me count (op.Branch guard target) riding fits words =
+    (expression_is code count guard fits.0 words, fits.1)
 operation_is version code me count (op.GoWith entry on riders) riding fits words = (riding refl, fits)
 operation_is version code me count (op.CallWith entry on riders) riding fits words = (riding refl, fits)
 

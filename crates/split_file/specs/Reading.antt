@@ -7,9 +7,8 @@
 -- part that ends in another way than code may, at its last instruction. Without an entry the root is out of range. The
 -- version is, where it is 2 and no values ride, and that is tested behind all parts too. All words of a label are taken
 -- as they are. So each file that is none has one refusal.
-use Rattle.std.specs.Prelude.{ℕ, ◌+◌, ◌*◌, suc, Bool, true, false, not, ◌&&◌, ◌||◌, ◌==◌}
-use Rattle.std.specs.Prelude.{if◌then◌else◌, List, [], ◌∷◌, length, nat_lt, nat_le, slice_get, sum_by, codes}
-use Rattle.std.specs.Prelude.{Ok, Err, ⊤}
+use Rattle.std.specs.Prelude.{ℕ, ◌+◌, ◌*◌, suc, Bool, true, false, not, ◌&&◌, ◌||◌, ◌==◌, if◌then◌else◌, List, [], ◌∷◌}
+use Rattle.std.specs.Prelude.{length, nat_lt, nat_le, slice_get, sum_by, codes, Ok, Err, ⊤}
 use Rattle.std.specs.Option.{option_map_or}
 use Rattle.std.specs.List.{before_first, after_first}
 use Rattle.std.specs.Str.{bytes_eq}
@@ -32,16 +31,14 @@ use Rattle.host_code.specs.declared.code_expr.Node.{Node}
 use Rattle.host_code.specs.declared.code_expr.Node.TheVariants as node
 use Rattle.host_code.specs.declared.code_expr.TheConstants.{MOST_NODES}
 use Rattle.host_code.specs.declared.riders.TheConstants.{MOST_RIDERS}
-use Rattle.host_code.specs.Code.{CodeShape, CodeHostShape, CodeFieldShape, CodeVariableShape, part_of}
-use Rattle.host_code.specs.Code.{host_of_site}
+use Rattle.host_code.specs.Code.{CodeShape, CodeHostShape, CodeFieldShape, CodeVariableShape, part_of, host_of_site}
 use Rattle.host_code.specs.CodeExpr.{depth_after}
 use Rattle.host_code.specs.Sound.{temporaries_at}
 use Rattle.byte_format.specs.Reader.{◌>>=◌, given, refused, require, items_at}
 use Rattle.split_file.specs.declared.fault.Fault.TheVariants as fault
 use Rattle.split_file.specs.declared.reading.Front.{Front}
 use Rattle.split_file.specs.Spelling.{magic, version_of}
-use Rattle.split_file.specs.Reader.{Reader, place, in_range, byte_at, bytes_at, number_at, integer_at, text_at}
-use Rattle.split_file.specs.Reader.{list_at}
+use Rattle.split_file.specs.Reader.{Reader, place, in_range, byte_at, bytes_at, number_at, integer_at, text_at, list_at}
 
 -- ---- names
 

@@ -146,8 +146,11 @@ start_bytes code = concat
     (list_bytes entry_bytes code.entries ∷ list_bytes host_id_bytes code.sites ∷ host_id_bytes code.root
     ∷ number_bytes code.main.0 ∷ [])
 
--- The file of a code. The parts have no count of their own, since there is one for each host.
+-- The bytes of a code behind some version. The parts have no count of their own, since there is one for each host.
+abbrev pub file_as : ℕ → CodeShape → List ℕ
+file_as version code = concat
+    (magic ∷ to_be_bytes w16 version ∷ table_bytes code ∷ start_bytes code ∷ flat_map part_bytes code.parts ∷ [])
+
+-- the file of a code
 unfoldable pub split_file : CodeShape → List ℕ
-split_file code = concat
-    (magic ∷ to_be_bytes w16 (version_of code) ∷ table_bytes code ∷ start_bytes code
-    ∷ flat_map part_bytes code.parts ∷ [])
+split_file code = file_as (version_of code) code

@@ -212,11 +212,7 @@ fn variable_ids_of(
 }
 
 /// The variables whose values ride, 1 to 8, of so many.
-pub fn riders_of(
-    alloc: Global,
-    vars: usize,
-    bytes: &[u8],
-) -> Result<(RiderVars, &[u8]), ReadError>
+pub fn riders_of(alloc: Global, vars: usize, bytes: &[u8]) -> Result<(RiderVars, &[u8]), ReadError>
     ensures { Gives (λ x. (x.0, x.1.now)) result (riders_at vars bytes.now) }
 {
     let (count, rest) = rider_count_of(bytes)?;

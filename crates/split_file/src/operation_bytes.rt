@@ -5,8 +5,8 @@ ghost use Rattle.std.specs.Prelude.{◌≡◌, ◌++◌, ◌∷◌, [], ◌≤�
 ghost use Rattle.host_code.specs.declared.code.TheConstants.{MOST_ITEMS};
 ghost use Rattle.byte_format.specs.Numbers.{number_bytes};
 ghost use Rattle.split_file.specs.File.{HasWord, IsWordExpression, HasExpressions, IsRealInstruction};
-ghost use Rattle.split_file.specs.Spelling.{host_id_bytes, operator_byte, node_bytes, expression_bytes};
-ghost use Rattle.split_file.specs.Spelling.{riders_bytes, operation_bytes, instruction_bytes, part_bytes};
+ghost use Rattle.split_file.specs.Spelling.{host_id_bytes, operator_byte, node_bytes, expression_bytes, riders_bytes};
+ghost use Rattle.split_file.specs.Spelling.{operation_bytes, instruction_bytes, part_bytes};
 
 use crate::appending::{put_count, put_host_id};
 use byte_format::{put_byte, put_integer, put_number};

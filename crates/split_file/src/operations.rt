@@ -239,5 +239,15 @@ pub fn operation<'a>(
         (operation_at version (shape_of code.now) me temporaries places bytes.now) }
 {
     let (byte, rest) = byte_of(bytes)?;
-    operation_tail_of(alloc, version, code, me, temporaries, places, byte, bytes, rest)
+    operation_tail_of(
+        alloc,
+        version,
+        code,
+        me,
+        temporaries,
+        places,
+        byte,
+        bytes,
+        rest,
+    )
 }

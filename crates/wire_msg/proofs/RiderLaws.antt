@@ -94,7 +94,13 @@ rgoto_with_reads =
         is.0,
         (
           is.1.0,
-          (is.1.1, (counted_within 1 MOST_RIDERS riding.count riders all.0 few, each_by_recursion IsRider [] riders all.1)),
+          (
+            is.1.1,
+            (
+              counted_within 1 MOST_RIDERS riding.count riders all.0 few,
+              each_by_recursion IsRider [] riders all.1,
+            ),
+          ),
         ),
       ),
     )))))
@@ -133,6 +139,7 @@ unfolding rgoto_with_at
 rgoto_with_again id entry token riders is named =
     let each = all_weaker (λ _ rider. IsRider rider) (λ _ rider. Again rider_at rider (rider_bytes rider))
     (λ _ rider rider_is. rider_again rider rider_is) [] riders (in_by_recursion IsRider [] riders is.1.1.1.1) in
+    let may = within_again 1 MOST_RIDERS (length riders) is.1.1.1.0.0 is.1.1.1.0.1 in
     again_then _ (riding_again (riding_of id entry token riders) (is.0, (is.1.0, is.1.1.0)))
-    (again_require refusal.BadField named (again_require refusal.BadField (within_again 1 MOST_RIDERS (length riders) is.1.1.1.0.0 is.1.1.1.0.1)
+    (again_require refusal.BadField named (again_require refusal.BadField may
     (again_last (message.RgotoWith id entry token) (items_again (λ _. rider_at) rider_bytes [] riders each))))

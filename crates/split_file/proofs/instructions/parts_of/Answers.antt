@@ -28,7 +28,8 @@ loop-host-preserved c =
     let read = subst (λ (item : Reader (List Instr)). item c.loop-host.rest.now
     ≡ Ok (c.in_ok-part.part, c.in_ok-part.after.now)) (sym same) c.in_ok-part.ensures in
     record {
-      read = rw c.in_ok-push.ensures.items (items_more (next_part_at c.args.version code) before c.args.count c.loop-host.host _
+      read = rw c.in_ok-push.ensures.items (items_more (next_part_at c.args.version code) before c.args.count
+          c.loop-host.host _
           c.loop-host.rest.now _ _ c.loop-host-test.true read c.loop-host.invariant.read);
       count = ap length c.in_ok-push.ensures.items ∙ length_push before c.in_ok-part.part
           ∙ ap (λ n. n + 1) c.loop-host.invariant.count;
