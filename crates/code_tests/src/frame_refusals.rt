@@ -181,7 +181,7 @@ fn riding(alloc: Global, host: u8, behind: &str) -> Result<Vec<u8>, Fail> {
     body.resize(59, 0)?;
     body.extend_from_slice(bytes(alloc, behind)?.as_slice())?;
     let mut frame = Vec::new(alloc);
-    frame.extend_from_slice(&[0, 0, 0, body.len() as u8])?;
+    frame.extend_from_slice(&[0, 0, 0, (body.len() % 256) as u8])?;
     frame.extend_from_slice(body.as_slice())?;
     Ok(frame)
 }
