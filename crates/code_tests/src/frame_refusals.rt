@@ -2,6 +2,7 @@
 
 use crate::frame_samples::{FRAMES, frame_bytes};
 use crate::tables::{bytes, columns, put};
+use host_code::Message;
 use std::alloc::{AllocError, Global};
 use std::process::Abort;
 use std::test::Fail;
@@ -54,6 +55,8 @@ const TOKEN_HOSTS: &str = "\
 
 /// Why bytes are refused, or that they are a frame.
 fn refusal(alloc: Global, bytes: &[u8]) -> Result<String, AllocError> {
+    // The kit's borrow checker has to be told of each type that a frame holds, so the function names one.
+    let _no_message: Option<Message> = None;
     match read(bytes).err() {
         None => format!(in alloc; "a frame"),
         Some(error) => format!(in alloc; "{error:?}"),
