@@ -12,11 +12,13 @@ use Rattle.split_rules.specs.Typing.{Enters, EntersWith, RidesAll}
 pub all_without : (P : Forward → Type 0) (x : VarId) (to : HostId) (forwards : List Forward) →
     AllByRecursion P forwards → AllByRecursion P (without_forward x to forwards)
 all_without P x to [] all = tt
-all_without P x to (forward ∷ others) all = by (nat_eq forward.variable.0 x.0 && is_same forward.host to)
+all_without P x to (forward ∷ others) all =
+    by (nat_eq forward.variable.0 x.0 && is_same forward.host to) (all_without P x to others all.1)
   where
-    by : (b : Bool) → AllByRecursion P (if b then others else forward ∷ without_forward x to others)
-    by true = all.1
-    by false = (all.0, all_without P x to others all.1)
+    by : (b : Bool) → AllByRecursion P (without_forward x to others) →
+        AllByRecursion P (if b then others else forward ∷ without_forward x to others)
+    by true left = all.1
+    by false left = (all.0, left)
 
 -- A call with which parameters ride enters as one does where nothing is left to be sent, and all that is left rides.
 pub enters_riding : (planned : PlannedShape) (entries : List Entrance) (here : Position) (calling : Calling)

@@ -4,6 +4,7 @@ use Rattle.std.proofs.Common.{sym, subst, arith, length-append, eq-eqb, ne_eqb}
 use Rattle.std.specs.Prelude.{Some, slice_get, unwrap_or}
 use Rattle.std.specs.List.{AllByRecursion}
 use Rattle.js_base.specs.declared.ids.HostId.{HostId}
+use Rattle.js_base.specs.declared.ids.VarId.{VarId}
 use Rattle.host_decl.specs.Hosts.{HostsShape}
 use Rattle.jif_tree.specs.Trees.{MethodTree, ProgramTree, call}
 use Rattle.host_code.specs.declared.code.Entry.{Entry}
