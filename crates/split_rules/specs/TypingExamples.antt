@@ -122,6 +122,15 @@ lent_local_table =
     ∷ tests_first (calm (under 2) (run reading ∷ []))
     ∷ calm (under 2) [] ∷ []) ∷ [])
 
+-- The same where the way back is long, and the host of the last statement is asked for the entry.
+abbrev pub lent_past_local : PlannedShape
+lent_past_local =
+    planned_on (a_host 3 ∷ a_host 0 ∷ a_host 1 ∷ [])
+    ((0 ∷ 1 ∷ 1 ∷ []) ∷ (10 ∷ 0 ∷ 1 ∷ []) ∷ (1 ∷ 1 ∷ 0 ∷ []) ∷ []) (3 ∷ 3 ∷ 0 ∷ 1 ∷ [])
+    (statement_id 2 ∷ []) (host_id 1 ∷ host_id 2 ∷ []) (host_id 0 ∷ host_id 0 ∷ host_id 1 ∷ host_id 2 ∷ [])
+    (set_local (heading 1) (var_id 0) (number (pos 7))
+    (set_field (heading 2) (field_id 0) (increased 0 (local (var_id 0))) (increase 3 1)))
+
 -- ---- a parameter that is read on the host of the method
 
 abbrev pub argument : Argument
@@ -130,6 +139,14 @@ argument = record { param = var_id 1; value = number (pos 3) }
 -- the parameter is still to be sent to the host of the method
 abbrev pub param_out : List Forward
 param_out = record { variable = var_id 1; host = host_id 1; source = calling } ∷ []
+
+-- the frame of the call is made, and then the parameter is set in it
+abbrev pub framed : Position
+framed = record (calm main_level (run calling ∷ [])) { calling = arguing calling [] (argument ∷ []) }
+
+abbrev pub argued : Position
+argued =
+    record (with_forwards (calm main_level (run calling ∷ [])) param_out) { calling = arguing calling (argument ∷ []) [] }
 
 abbrev pub called_level : Level
 called_level = body (record { 0 = 1 })
@@ -142,10 +159,7 @@ called_table =
     ∷ entrance (calm called_level (run returning ∷ [])) 0
     ∷ entrance (calm main_level (keep calling ∷ [])) 1 ∷ [])
     ((calm main_level (run calling ∷ [])
-    ∷ record (calm main_level (run calling ∷ [])) { calling = arguing calling [] (argument ∷ []) }
-    ∷ record (with_forwards (calm main_level (run calling ∷ [])) param_out) {
-      calling = arguing calling (argument ∷ []) [];
-    }
+    ∷ framed ∷ argued
     ∷ record (with_forwards (calm called_level (run returning ∷ [])) param_out) { calling = entering calling }
     ∷ calm main_level (keep calling ∷ [])
     ∷ calm main_level [] ∷ [])
