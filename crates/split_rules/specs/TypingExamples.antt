@@ -7,8 +7,8 @@ use Rattle.host_code.specs.declared.instruction.Op.TheVariants as op
 use Rattle.host_code.specs.Code.{CodeShape}
 use Rattle.msg_cost.specs.Moves.{PlannedShape}
 use Rattle.split_rules.specs.Emissions.{Emission, instruction}
-use Rattle.split_rules.specs.OpenExamples.{placed_of, main_level, table_of, increase, setting, reading, tests_first}
-use Rattle.split_rules.specs.Positions.{Due, run, keep, body, under, Level, Argument, arguing, entering, Forward}
+use Rattle.split_rules.specs.OpenExamples.{placed_of, main_level, increase, setting, reading, tests_first}
+use Rattle.split_rules.specs.Positions.{run, keep, body, under, Level, Argument, arguing, entering, Forward}
 use Rattle.split_rules.specs.Positions.{Position, Entrance, calm, with_reads, with_forwards}
 use Rattle.split_rules.specs.SplitCode.{emitted_on, code_of_emissions}
 use Rattle.split_rules.specs.TypedCode.{Table, IsTypedCode}
