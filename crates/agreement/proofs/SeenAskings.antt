@@ -106,7 +106,7 @@ index_told eyes old thread field index there are law is bad =
     (may_both own asks (label_of_host eyes.code there.host) may_own may_ask)
 
 -- the value of a variable
-variable_told : (eyes : Eyes) → AreEyes eyes → (to : HostId) (x : VarId) → IsVariable eyes.code x →
+pub variable_told : (eyes : Eyes) → AreEyes eyes → (to : HostId) (x : VarId) → IsVariable eyes.code x →
     MaySee (Some (label_of eyes.scene.basis.labelled x)) (label_of_host eyes.code to) → eyes.bad to ≡ true →
     sees_variable eyes x ≡ true
 variable_told eyes are to x within may bad =
