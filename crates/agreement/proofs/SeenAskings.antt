@@ -349,13 +349,13 @@ operation_asked eyes old thread there token now count (op.Send x to) passes run 
   _,
   refl,
   send_asked eyes old thread there token now thread.frame x to run fits.0
-      (run.are.known.hosts to (label_of eyes.scene.basis.labelled x) law.1.1.3),
+      (run.are.known.hosts to (label_of eyes.scene.basis.labelled x) law.1.1.2.1),
 )
 operation_asked eyes old thread there token now count (op.Pass x to) passes run elsewhere law fits checks = (
   _,
   refl,
   send_asked eyes old thread there token now thread.new_frame x to run fits.0
-      (run.are.known.hosts to (label_of eyes.scene.basis.labelled x) law.1.1.3),
+      (run.are.known.hosts to (label_of eyes.scene.basis.labelled x) law.1.1.2.1),
 )
 operation_asked eyes old thread there token now count (op.Ask entry on) passes run elsewhere law fits checks =
     (_, refl, ask_asked eyes old thread there token now entry on run)

@@ -53,8 +53,8 @@ variable_flows : (eyes : Eyes) → AreEyes eyes → (from to : HostId) (place : 
     IsAt eyes from place (op.Send x to)
     ⊎ (IsAt eyes from place (op.Pass x to) ⊎ ((given : List Node) × IsAt eyes from place (op.Ret x given))) →
     ConfFlows (eyes.shades.at from place).pc (label_of eyes.scene.basis.labelled x)
-variable_flows eyes are from to place x (inl at) = (shaded_at eyes are from place (op.Send x to) at).1.1.2
-variable_flows eyes are from to place x (inr (inl at)) = (shaded_at eyes are from place (op.Pass x to) at).1.1.2
+variable_flows eyes are from to place x (inl at) = (shaded_at eyes are from place (op.Send x to) at).1.1.2.0
+variable_flows eyes are from to place x (inr (inl at)) = (shaded_at eyes are from place (op.Pass x to) at).1.1.2.0
 variable_flows eyes are from to place x (inr (inr gives)) =
     (shaded_at eyes are from place (op.Ret x gives.0) gives.1).1.2.flows.program
 

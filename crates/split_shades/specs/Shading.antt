@@ -98,10 +98,14 @@ pub record Stores (scene : Scene) (here : Shade) (field : FieldId) (at nodes : L
 abbrev pub IsPlain : Shade → Type 0
 IsPlain here = (here.temps ≡ []) × (here.released ≡ [])
 
--- a variable to which the program label flows is sent to a host that may see it
-abbrev pub Sends : Scene → Shade → VarId → HostId → Type 0
-Sends scene here x to = IsPlain here × (here.guard ≡ None) × ConfFlows here.pc (label_of scene.basis.labelled x)
+-- a host may be told the value of a variable here: the program label flows to the variable, which the host may see
+abbrev pub MayTell : Scene → Shade → VarId → HostId → Type 0
+MayTell scene here x to = ConfFlows here.pc (label_of scene.basis.labelled x)
     × IsSeenOn scene.planned to (label_of scene.basis.labelled x)
+
+-- a variable is sent to a host
+abbrev pub Sends : Scene → Shade → VarId → HostId → Type 0
+Sends scene here x to = IsPlain here × (here.guard ≡ None) × MayTell scene here x to
 
 -- ---- pushes
 
@@ -219,10 +223,9 @@ CallsOn scene entries here number on =
     IsPlain here × (here.calls ≡ true) × (here.guard ≡ None) × Enters entries here number
     × IsSeenOn scene.planned on here.pc
 
--- To each variable that rides the program label flows, and the host to which it rides may see it.
+-- The values of these variables ride to a host.
 abbrev pub Rides : Scene → Shade → List VarId → HostId → Type 0
-Rides scene here riders on = AllByRecursion (λ x. ConfFlows here.pc (label_of scene.basis.labelled x)
-    × IsSeenOn scene.planned on (label_of scene.basis.labelled x)) riders
+Rides scene here riders on = AllByRecursion (λ x. MayTell scene here x on) riders
 
 -- An instruction behind which the thread ends.
 abbrev pub Ends : Scene → List EntryShade → Shade → Op → Type 0
