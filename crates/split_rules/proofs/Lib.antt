@@ -57,3 +57,4 @@ pub mod OwnLabels
 pub mod OpenCode
 pub mod CoveredRuns
 pub mod OpenExamples
+pub mod TypingExamples
