@@ -11,7 +11,7 @@ use Rattle.split_rules.specs.SplitCode.{emitted_on, entries_in, code_of_emission
 use Rattle.split_rules.specs.Worked.{host_id, field_id, heading, trusted_by, a_host, field_with, main_of, program_with}
 use Rattle.split_rules.specs.Worked.{nobody, planned_for, placed_with, emissions_on}
 use Rattle.split_shades.specs.Basis.{Basis}
-use Rattle.split_shades.specs.Shades.{Shade}
+use Rattle.split_shades.specs.Shades.{Shade, EntryShade}
 use Rattle.split_shades.specs.Shading.{Scene}
 use Rattle.split_shades.specs.Sites.{program_sites}
 
@@ -110,3 +110,7 @@ shade_under pc = record {
   calls = false;
   released = [];
 }
+
+-- an entry there
+abbrev pub entry_under : Label → EntryShade
+entry_under label = record { level = under 0; block = label; label = label; pushed = None; begun = None }

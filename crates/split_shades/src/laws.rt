@@ -17,7 +17,7 @@ ghost use Rattle.split_shades.specs.Shades.{EntryShade, released_by};
 ghost use Rattle.split_shades.specs.Worked.{branching, looping, scene_on, code_on, entry_words, instruction_words};
 ghost use Rattle.split_shades.specs.Worked.{outer, branching_basis};
 ghost use Rattle.split_shades.specs.Worked.{basis_on, telling, read_at, indexed_by, released_field};
-ghost use Rattle.split_shades.specs.Worked.{secret, scene_with, shade_under};
+ghost use Rattle.split_shades.specs.Worked.{secret, scene_with, shade_under, entry_under};
 ghost use Rattle.split_shades.specs.Basis.{read_label};
 ghost use Rattle.jif_tree.specs.LabelRules.{field_label};
 ghost use Rattle.split_rules.specs.Worked.{host_id, field_id, var_id, statement_id};
@@ -110,7 +110,9 @@ pub fn worked_laws()
     ensures in_index { released_by 0 (indexed_by released_field) ≡ [] }
     ensures by_read { released_by 0 released_field ≡ (node.Temp 0 ∷ []) ∷ [] }
     // A value rides to a host that may see its variable.
-    ensures rides { Rides (scene_with outer) (shade_under outer) (var_id 0 ∷ []) (host_id 0) }
+    ensures rides { (there : EntryId) → there.0 ≡ 0 →
+        Ends (scene_with outer) (entry_under outer ∷ []) (shade_under outer)
+        (op.GoWith there (host_id 0) (var_id 0 ∷ [])) }
     // None rides to one that may not.
     ensures rides_unseen { (entries : List EntryShade) (there : EntryId) →
         ¬ (Ends (scene_with secret) entries (shade_under outer) (op.GoWith there (host_id 0) (var_id 0 ∷ []))) }
