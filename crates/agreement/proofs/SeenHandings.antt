@@ -75,7 +75,7 @@ riding_seen eyes variables view frame same (x ∷ riders) =
     ∙ ap (λ others. (x, shown_variables eyes view frame x) ∷ others)
     (riding_seen eyes variables view frame same riders)
 
--- Where each of the variables may be seen, so may all that rides.
+-- Where each of the variables may be seen, all that rides is seen as it is.
 riding_whole : (eyes : Eyes) (variables : FrameId → VarId → ℤ) (frame : FrameId) (riders : List VarId) →
     AllByRecursion (λ x. sees_variable eyes x ≡ true) riders →
     riding variables frame riders ≡ riders_view eyes (riding variables frame riders)
@@ -106,6 +106,7 @@ record HandsOver (eyes : Eyes) (bare : HostShape) (thread : ThreadShape) (view :
   flies : message_view eyes bare.me to said ≡ seen
   told : eyes.bad to ≡ true → said ≡ seen
 
+-- what is sent where values ride, and what is seen of it
 rides_over : (eyes : Eyes) (bare : HostShape) (view : HostView) (frame : FrameId) (entry : EntryId) (on : HostId)
     (riders : List VarId) (token : Token) → AreEyes eyes →
     ((x : VarId) → sees_variable eyes x ≡ true → bare.variables frame x ≡ view.variables frame x) →
