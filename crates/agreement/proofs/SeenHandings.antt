@@ -117,8 +117,9 @@ rides_over : (eyes : Eyes) (bare : HostShape) (view : HostView) (frame : FrameId
 rides_over eyes bare view frame entry on riders token are same here within rides =
     let flies = riding_seen eyes bare.variables view frame same riders in (
       ap (message.RgotoWith frame entry token) flies,
-      λ bad. ap (message.RgotoWith frame entry token)
-          (riding_whole eyes bare.variables frame riders (riders_told eyes are here on bad riders within rides) ∙ flies),
+      λ bad.
+          let all = riders_told eyes are here on bad riders within rides in
+          ap (message.RgotoWith frame entry token) (riding_whole eyes bare.variables frame riders all ∙ flies),
     )
 
 handed_is : (eyes : Eyes) (bare : HostShape) (thread : ThreadShape) (view : HostView) (token : Token) (it : Op)
