@@ -34,7 +34,7 @@ use Rattle.agreement.proofs.CarriedSame.{Twins, operation_same}
 use Rattle.agreement.proofs.Coming.{comes_once}
 use Rattle.token_laws.proofs.Tests.{some_found}
 use Rattle.agreement.proofs.ViewLaws.{completed_once}
-use Rattle.agreement.proofs.SeenHandings.{same_first, reached_hands, handing_once, handed_same}
+use Rattle.agreement.proofs.SeenHandings.{same_first, reached_hands, handing_once, handed_too}
 use Rattle.agreement.proofs.SeenLeads.{Calm, quiet_calm, calm_open, reached_leads}
 
 -- ---- one view
@@ -240,13 +240,15 @@ turn_agrees eyes rows bad store start events others one other one_after other_af
 -- ---- control that is handed over
 
 -- the other hands control over alike
-handing_too : (eyes : Eyes) (one other after : WorldShape) (now : View) (host : HostId) → AreEyes eyes →
-    ShapeFits eyes.code one → ShapeFits eyes.code other → Calm eyes one now → Calm eyes other now →
-    RunsHanding eyes.code one host → IsStep eyes.code other (Turn host) after → RunsHanding eyes.code other host
-handing_too eyes one other after now host are fits fits_other calm calm_other run step =
+handing_too : (eyes : Eyes) (one other after : WorldShape) (now : View) (host : HostId) → ShapeFits eyes.code one →
+    ShapeFits eyes.code other → Calm eyes one now → Calm eyes other now → RunsHanding eyes.code one host →
+    IsStep eyes.code other (Turn host) after → RunsHanding eyes.code other host
+handing_too eyes one other after now host fits fits_other calm calm_other run step =
     let thread = some_found step.state.running step.runs in
     let twins = twins_of eyes one other now host run.state step.state run.thread thread.0 fits fits_other calm
     calm_other run.there step.obeys run.running thread.1 in
+    let hands = handed_too run.state.variables step.state.variables host run.thread thread.0 run.token
+    run.instruction.op run.to run.said run.hands in
     record {
       state = step.state;
       there = step.obeys;
@@ -257,10 +259,8 @@ handing_too eyes one other after now host are fits fits_other calm calm_other ru
       instruction = run.instruction;
       is = ap (instruction_at eyes.code host) twins.place ∙ run.is;
       to = run.to;
-      said = run.said;
-      hands = handed_same eyes run.state.variables step.state.variables host run.thread thread.0 run.token
-          run.instruction.op (are.shaded.instructions host run.thread.at run.instruction run.is).law twins.frame
-          twins.new_frame ∙ run.hands;
+      said = hands.0;
+      hands = hands.1;
     }
 
 pub hands_agree : (eyes : Eyes) (rows : List declared_hosts.HostShape) (bad : ℕ) (store start : List (List ℤ))
@@ -276,8 +276,8 @@ hands_agree eyes rows bad store start events others one other one_after other_af
     let calm = reached_calm eyes rows bad store events one now are watch reach quiet agree.first in
     let calm_other =
     reached_calm eyes rows bad start others other now are watch_other reach_other quiet_other agree.second in
-    let twin = handing_too eyes one other other_after now host are calm.0 calm_other.0 calm.1 calm_other.1 run
-    step_other in
+    let twin = handing_too eyes one other other_after now host calm.0 calm_other.0 calm.1 calm_other.1 run step_other
+    in
     let first = reached_hands eyes rows bad store events one one_after host now run are watch reach step quiet
     agree.first in
     let second = reached_hands eyes rows bad start others other other_after host now twin are watch_other

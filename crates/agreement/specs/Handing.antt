@@ -21,7 +21,7 @@ use Rattle.agreement.specs.Turns.{host_idle}
 use Rattle.agreement.specs.Views.{View, HostView, masked, sees_variable, with_host}
 
 -- these variables of a frame, with their values
-abbrev riding : (FrameId → VarId → ℤ) → FrameId → List VarId → List Rider
+abbrev pub riding : (FrameId → VarId → ℤ) → FrameId → List VarId → List Rider
 riding variables frame riders = map (λ x. (x, variables frame x)) riders
 
 -- with which message a thread hands control over, and to which other host, where the variables of its host are these
