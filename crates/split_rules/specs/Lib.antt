@@ -3,6 +3,7 @@ pub mod Emissions
 pub mod Expressions
 pub mod Walk
 pub mod Positions
+pub mod Handing
 pub mod Typing
 pub mod Typable
 pub mod TypedCode
