@@ -30,6 +30,7 @@ pub mod TypedPrograms
 pub mod TypedPlaces
 pub mod TypedSplit
 pub mod OneNext
+pub mod Riding
 pub mod LabelsKept
 pub mod BackedLabels
 pub mod AllowedTyping
