@@ -8,7 +8,6 @@ use Rattle.js_base.specs.declared.ids.VarId.{VarId}
 use Rattle.jif_tree.specs.SourceRun.{Configuration}
 use Rattle.jif_tree.specs.Store.{element_at, row_of}
 use Rattle.ics_stack.specs.declared.stack.StackEntry.{StackEntry}
-use Rattle.host_code.specs.declared.code.Entry.{Entry}
 use Rattle.host_code.specs.declared.message.Message.{Message}
 use Rattle.host_code.specs.declared.message.Message.TheVariants as message
 use Rattle.host_code.specs.Code.{entry_at}
@@ -53,6 +52,42 @@ passing split state from m outcome takes may =
 pub may_here : (split : Split) (state : HostShape) (owner : HostId) (what : Ask) (from : HostId) → state.me ≡ owner →
     May split.code owner what from → May split.code state.me what from
 may_here split state owner what from me may = subst (λ host. May split.code host what from) (sym me) may
+
+-- a message that hands a thread over passes where its thread may enter and what rides may be set
+pub arrival_passes : (split : Split) (state : HostShape) (owner from : HostId) (said : Message) (arrival : Arrival) →
+    state.me ≡ owner → arrival_in said ≡ Some arrival →
+    May split.code owner (ask.Enter arrival.entry) from × MayRide split.code owner from (names_of arrival.riders) →
+    Passes split.code state from said
+arrival_passes split state owner from (message.Rgoto frame entry token) arrival me is may =
+    let own : Arrival = record { frame = frame; entry = entry; token = token; riders = [] } in
+    let same : own ≡ arrival = cc in
+    may_here split state owner (ask.Enter entry) from me
+    (subst (λ (a : Arrival). May split.code owner (ask.Enter a.entry) from) (sym same) may.0)
+arrival_passes split state owner from (message.RgotoWith frame entry token riders) arrival me is may =
+    let own : Arrival = record { frame = frame; entry = entry; token = token; riders = riders } in
+    let same : own ≡ arrival = cc in
+    subst (λ host. May split.code host (ask.Enter entry) from × MayRide split.code host from (names_of riders)) (sym me)
+    (subst (λ (a : Arrival). May split.code owner (ask.Enter a.entry) from
+    × MayRide split.code owner from (names_of a.riders)) (sym same) may)
+arrival_passes split state owner from _ arrival me is may = absurd (cc)
+
+-- it sets what rides, and enters
+arrival_does : (split : Split) (state : HostShape) (from : HostId) (said : Message) (arrival : Arrival) →
+    arrival_in said ≡ Some arrival →
+    after_passing split.code state from said
+    ≡ without_message (after_entering (with_variables_set state arrival.frame arrival.riders)
+    (entry_at split.code arrival.entry) arrival.frame arrival.token)
+arrival_does split state from (message.Rgoto frame entry token) arrival is =
+    let own : Arrival = record { frame = frame; entry = entry; token = token; riders = [] } in
+    let same : own ≡ arrival = cc in
+    ap (λ (a : Arrival). without_message (after_entering (with_variables_set state a.frame a.riders)
+    (entry_at split.code a.entry) a.frame a.token)) same
+arrival_does split state from (message.RgotoWith frame entry token riders) arrival is =
+    let own : Arrival = record { frame = frame; entry = entry; token = token; riders = riders } in
+    let same : own ≡ arrival = cc in
+    ap (λ (a : Arrival). without_message (after_entering (with_variables_set state a.frame a.riders)
+    (entry_at split.code a.entry) a.frame a.token)) same
+arrival_does split state from _ arrival is = absurd (cc)
 
 module _ (split : Split) (c : Configuration) (view : View) (world : WorldShape) (holder owner : HostId)
     (waiting : WaitingShape) (old : HostShape) (o : IsOwner split c view world owner old) where
@@ -197,36 +232,6 @@ module _ (split : Split) (c : Configuration) (view : View) (world : WorldShape) 
     (o : IsOwner split c view world owner old) where
   -- ---- the token
 
-  -- the thread starts in the host that has what rode
-  arrived : (from : HostId) (said : Message) (arrival : Arrival) (there : Entry) (outcome : Outcome) →
-      arrival_in said ≡ Some arrival → entry_at split.code arrival.entry ≡ Some there →
-      May split.code owner (ask.Enter arrival.entry) from
-      × MayRide split.code owner from (names_of arrival.riders) → IsTaking split.code old from said outcome →
-      without_message (after_entering (with_variables_set old arrival.frame arrival.riders) (Some there) arrival.frame
-      arrival.token) ≡ outcome
-  arrived from (message.Rgoto frame entry token) arrival there outcome is found may takes =
-      let own : Arrival = record { frame = frame; entry = entry; token = token; riders = [] } in
-      let same : own ≡ arrival = cc in
-      subst (λ (a : Arrival). without_message (after_entering (with_variables_set old a.frame a.riders) (Some there)
-      a.frame a.token) ≡ outcome) same
-      (sym (ap (λ e. without_message (after_entering old e frame token))
-      (ap (λ (a : Arrival). entry_at split.code a.entry) same ∙ found))
-      ∙ passing split old from (message.Rgoto frame entry token) outcome takes
-      (may_here split old owner (ask.Enter entry) from o.me
-      (subst (λ (a : Arrival). May split.code owner (ask.Enter a.entry) from) (sym same) may.0)))
-  arrived from (message.RgotoWith frame entry token riders) arrival there outcome is found may takes =
-      let own : Arrival = record { frame = frame; entry = entry; token = token; riders = riders } in
-      let same : own ≡ arrival = cc in
-      subst (λ (a : Arrival). without_message (after_entering (with_variables_set old a.frame a.riders) (Some there)
-      a.frame a.token) ≡ outcome) same
-      (sym (ap (λ e. without_message (after_entering (with_variables_set old frame riders) e frame token))
-      (ap (λ (a : Arrival). entry_at split.code a.entry) same ∙ found))
-      ∙ passing split old from (message.RgotoWith frame entry token riders) outcome takes
-      (subst (λ h. May split.code h (ask.Enter entry) from × MayRide split.code h from (names_of riders)) (sym o.me)
-      (subst (λ (a : Arrival). May split.code owner (ask.Enter a.entry) from
-      × MayRide split.code owner from (names_of a.riders)) (sym same) may)))
-  arrived from _ arrival there outcome is found may takes = absurd (cc)
-
   pub arrival_taken : (from : HostId) (said : Message) (arrival : Arrival) → arrival_in said ≡ Some arrival →
       (goes : GoesTo split c view from owner arrival) → (outcome : Outcome) →
       IsTaking split.code old from said outcome → Arrives split c view world owner old goes.there arrival outcome
@@ -237,7 +242,10 @@ module _ (split : Split) (c : Configuration) (view : View) (world : WorldShape) 
       record {
         new = new;
         is = ap (λ s. without_message (with_running s (Some thread))) (riding_is old arrival.frame arrival.riders)
-            ∙ arrived from said arrival goes.there outcome arrives goes.found goes.may takes;
+            ∙ sym (ap (λ e. without_message (after_entering set e arrival.frame arrival.token)) goes.found)
+            ∙ sym (arrival_does split old from said arrival arrives)
+            ∙ passing split old from said outcome takes
+            (arrival_passes split old owner from said arrival o.me arrives goes.may);
         running = refl;
         steady = record { me = refl; ignored = refl; halted = refl; waiting = refl };
         entries = refl;
