@@ -267,8 +267,8 @@ token_goes : (split : Split) (c : Configuration) (world after : WorldShape) (sim
     after_step (without_flight world from to 0) to outcome (Some label) ≡ after →
     (Paced split → weight_at split sim.view.chain to going.goes.there.at + 1 ≤ sim.fuel) → Goes split c sim.fuel after
 token_goes split c world after sim from to idle none_halted is_chain going old obeys outcome label takes leaves fueled =
-    let comes = typed.arrival_taken split c sim.view world to old
-    (owner_of split c world sim is_chain to old obeys) from going.flight.message going.arrival going.arrives going.goes
+    let comes = typed.arrival_taken split c sim.view world from to old
+    (owner_of split c world sim is_chain to old obeys) going.flight.message going.arrival going.arrives going.goes
     outcome takes in
     let steady = comes.steady in
     let rested = idle to old obeys tt in

@@ -536,7 +536,7 @@ enter_with_at split c view host thread at entry on riders token apart held law =
     law
 
 -- where nothing rides
-enters_bare : (split : Split) (here : Position) (calling : Calling) (number : ℕ) (on : HostId) →
+pub enters_bare : (split : Split) (here : Position) (calling : Calling) (number : ℕ) (on : HostId) →
     Enters split.planned split.table.entries here calling number →
     EntersWith split.planned split.table.entries here calling number [] on
 enters_bare split here (entering (trees.call heading site method arguments into rest)) number on law =

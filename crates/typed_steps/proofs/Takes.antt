@@ -8,6 +8,7 @@ use Rattle.js_base.specs.declared.ids.VarId.{VarId}
 use Rattle.jif_tree.specs.SourceRun.{Configuration}
 use Rattle.jif_tree.specs.Store.{element_at, row_of}
 use Rattle.ics_stack.specs.declared.stack.StackEntry.{StackEntry}
+use Rattle.host_code.specs.declared.code.Entry.{Entry}
 use Rattle.host_code.specs.declared.message.Message.{Message}
 use Rattle.host_code.specs.declared.message.Message.TheVariants as message
 use Rattle.host_code.specs.Code.{entry_at}
@@ -23,7 +24,7 @@ use Rattle.host_core.specs.Host.{HostShape, Outcome, without_message, with_row_w
 use Rattle.host_core.specs.Host.{with_variable_set, with_temporary, with_token, new_token, after_entering}
 use Rattle.host_core.specs.Host.{with_running, with_variables_set, thread_at}
 use Rattle.host_core.specs.Taking.{IsTaking, Passes, after_taking, after_passing, after_answer, place_of_awaiting}
-use Rattle.net_world.specs.World.{WorldShape}
+use Rattle.net_world.specs.World.{WorldShape, state_at}
 use Rattle.split_rules.specs.Handing.{Arrival, arrival_in}
 use Rattle.split_rules.specs.Positions.{without_forward}
 use Rattle.split_rules.proofs.Riding.{all_without}
@@ -31,10 +32,10 @@ use Rattle.token_laws.proofs.Riding.{riding_is}
 use Rattle.typed_steps.proofs.Alike.{row_read}
 use Rattle.typed_steps.specs.Views.{Split, View, Link, with_chain, with_out, values_set}
 use Rattle.typed_steps.specs.Chains.{IsLinked}
-use Rattle.typed_steps.specs.Variables.{CanSend}
+use Rattle.typed_steps.specs.Variables.{CanSend, Holds}
 use Rattle.typed_steps.specs.Requests.{IsRequest, IsAnswer, GivesResult, GoesTo}
 use Rattle.typed_steps.specs.Weights.{STEP, weight_at, IsFueledRequest}
-use Rattle.typed_steps.specs.Turns.{stays, grows}
+use Rattle.typed_steps.specs.Turns.{Keeps, stays, grows}
 use Rattle.typed_steps.specs.Takes.{IsOwner, Answered, answers, steps, Arrives, Resumes}
 use Rattle.typed_steps.proofs.Rows.{row_there}
 use Rattle.typed_steps.proofs.HeldSteps.{kept, holds_same, holds_chain, holds_written, holds_forwarded, holds_given}
@@ -228,31 +229,48 @@ module _ (split : Split) (c : Configuration) (view : View) (world : WorldShape) 
         pace = λ paced fuel enough. omega arith;
       })
 
-module _ (split : Split) (c : Configuration) (view : View) (world : WorldShape) (owner : HostId) (old : HostShape)
-    (o : IsOwner split c view world owner old) where
-  -- ---- the token
+-- ---- the token
 
-  pub arrival_taken : (from : HostId) (said : Message) (arrival : Arrival) → arrival_in said ≡ Some arrival →
-      (goes : GoesTo split c view from owner arrival) → (outcome : Outcome) →
-      IsTaking split.code old from said outcome → Arrives split c view world owner old goes.there arrival outcome
-  arrival_taken from said arrival arrives goes outcome takes =
+-- a host that has what rode, and runs the thread that was handed over
+abbrev pub arrived : HostShape → Entry → Arrival → HostShape
+arrived old there arrival =
+    with_running (record old { variables = (with_variables_set old arrival.frame arrival.riders).variables })
+    (Some (thread_at there arrival.frame arrival.token))
+
+module _ (split : Split) (c : Configuration) (view : View) (world : WorldShape) (from owner : HostId) (old : HostShape)
+    (arrival : Arrival) (goes : GoesTo split c view from owner arrival) where
+  -- it is what the taking leaves
+  pub arrived_is : (said : Message) (outcome : Outcome) → old.me ≡ owner → arrival_in said ≡ Some arrival →
+      IsTaking split.code old from said outcome → without_message (arrived old goes.there arrival) ≡ outcome
+  arrived_is said outcome me arrives takes =
       let thread = thread_at goes.there arrival.frame arrival.token in
-      let set = with_variables_set old arrival.frame arrival.riders in
-      let new = with_running (record old { variables = set.variables }) (Some thread) in
-      record {
-        new = new;
-        is = ap (λ s. without_message (with_running s (Some thread))) (riding_is old arrival.frame arrival.riders)
-            ∙ sym (ap (λ e. without_message (after_entering set e arrival.frame arrival.token)) goes.found)
-            ∙ sym (arrival_does split old from said arrival arrives)
-            ∙ passing split old from said outcome takes
-            (arrival_passes split old owner from said arrival o.me arrives goes.may);
-        running = refl;
-        steady = record { me = refl; ignored = refl; halted = refl; waiting = refl };
-        entries = refl;
-        keeps = kept split c (with_out view []) world owner new
-            (λ after moved. holds_rode split c view world after owner old new after.flying arrival o.holds goes.rides
-            o.there moved refl refl refl);
-      }
+      ap (λ s. without_message (with_running s (Some thread))) (riding_is old arrival.frame arrival.riders)
+      ∙ sym (ap (λ e. without_message (after_entering (with_variables_set old arrival.frame arrival.riders) e
+      arrival.frame arrival.token)) goes.found)
+      ∙ sym (arrival_does split old from said arrival arrives)
+      ∙ passing split old from said outcome takes (arrival_passes split old owner from said arrival me arrives goes.may)
+
+  -- and nothing is still to be sent
+  pub arrived_keeps : state_at world owner ≡ Some old → Holds split c view world →
+      Keeps split c (with_out view []) world owner (arrived old goes.there arrival)
+  arrived_keeps there holds =
+      let new = arrived old goes.there arrival in
+      kept split c (with_out view []) world owner new
+      (λ after moved. holds_rode split c view world after owner old new after.flying arrival holds goes.rides there
+      moved refl refl refl)
+
+pub arrival_taken : (split : Split) (c : Configuration) (view : View) (world : WorldShape) (from owner : HostId)
+    (old : HostShape) → IsOwner split c view world owner old → (said : Message) (arrival : Arrival) →
+    arrival_in said ≡ Some arrival → (goes : GoesTo split c view from owner arrival) → (outcome : Outcome) →
+    IsTaking split.code old from said outcome → Arrives split c view world owner old goes.there arrival outcome
+arrival_taken split c view world from owner old o said arrival arrives goes outcome takes = record {
+  new = arrived old goes.there arrival;
+  is = arrived_is split c view world from owner old arrival goes said outcome o.me arrives takes;
+  running = refl;
+  steady = record { me = refl; ignored = refl; halted = refl; waiting = refl };
+  entries = refl;
+  keeps = arrived_keeps split c view world from owner old arrival goes o.there o.holds;
+}
 
 -- ---- answers
 

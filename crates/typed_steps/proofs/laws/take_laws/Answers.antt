@@ -15,7 +15,7 @@ returns-clause-result c =
 pub returns-clause-arrival : goal.returns-clause-arrival
 returns-clause-arrival c =
     λ split c view world from to old said arrival outcome owns arrives goes takes.
-    arrival_taken split c view world to old owns from said arrival arrives goes outcome takes
+    arrival_taken split c view world from to old owns said arrival arrives goes outcome takes
 
 pub returns-clause-answer : goal.returns-clause-answer
 returns-clause-answer c =
