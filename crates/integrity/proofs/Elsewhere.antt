@@ -1,6 +1,6 @@
 -- What obeying hosts have of a configuration where a misbehaving host is told to write a field or to set a variable:
 -- none of them has it.
-use Rattle.std.proofs.Common.{◌≡◌, ◌∙◌, ◌⊎◌, inl, inr, ℕ, ℤ, ◌<◌, ◌≤◌, Bool, true, List, [], ◌∷◌, length, Option}
+use Rattle.std.proofs.Common.{◌≡◌, ◌∙◌, ◌⊎◌, inl, inr, ℕ, ℤ, ◌<◌, ◌≤◌, Bool, true, List, [], length, Option}
 use Rattle.std.proofs.Common.{Some, refl, sym, ap, subst}
 use Rattle.std.specs.Prelude.{slice_get, unwrap_or, if◌then◌else◌, ◌==◌}
 use Rattle.std.proofs.lemmas.Bool.Decides.{eqb_tells}

@@ -10,7 +10,7 @@ use Rattle.ics_stack.specs.Stack.{top_token}
 use Rattle.host_code.specs.declared.message.Message.{Message}
 use Rattle.host_code.specs.declared.message.Message.TheVariants as message
 use Rattle.host_code.specs.Thread.{ThreadShape}
-use Rattle.host_core.specs.Host.{HostShape, with_running, with_one_ignored, after_pop, thread_at}
+use Rattle.host_core.specs.Host.{HostShape, with_one_ignored, after_pop, thread_at}
 use Rattle.host_core.specs.Taking.{IsTaking, after_taking}
 use Rattle.net_world.specs.Flying.{Flight, Flying}
 use Rattle.net_world.specs.Told.{token_in}
