@@ -1,5 +1,5 @@
 -- What an instruction sends: a token goes to the host that it enters, or back to the host that the token names.
-use Rattle.std.proofs.Common.{◌≡◌, ◌∙◌, ◌⊎◌, inl, inr, Bool, true, false, List, Option, Some, None, refl}
+use Rattle.std.proofs.Common.{◌≡◌, ◌∙◌, ◌⊎◌, inl, inr, Bool, true, false, List, [], Option, Some, None, refl}
 use Rattle.std.proofs.Common.{sym, ap}
 use Rattle.std.specs.Prelude.{◌==◌, if◌then◌else◌, pos}
 use Rattle.std.specs.Ordering.{int_eq}
@@ -22,6 +22,20 @@ use Rattle.host_core.specs.Host.{value_in_thread}
 use Rattle.host_core.specs.Turn.{after_operation, after_read, after_put, after_own_push, after_ask, after_go}
 use Rattle.host_core.specs.Turn.{after_go_with, after_own_call, after_return, after_back}
 use Rattle.net_world.specs.Told.{token_in}
+use Rattle.split_rules.specs.Handing.{Arrival, arrival_in}
+
+-- a message that hands a thread over has its token
+pub arrival_token : (said : Message) (arrival : Arrival) → arrival_in said ≡ Some arrival →
+    token_in said ≡ Some arrival.token
+arrival_token (message.Rgoto frame entry token) arrival is =
+    let own : Arrival = record { frame = frame; entry = entry; token = token; riders = [] } in
+    let same : own ≡ arrival = cc in
+    ap (λ (a : Arrival). Some a.token) same
+arrival_token (message.RgotoWith frame entry token riders) arrival is =
+    let own : Arrival = record { frame = frame; entry = entry; token = token; riders = riders } in
+    let same : own ≡ arrival = cc in
+    ap (λ (a : Arrival). Some a.token) same
+arrival_token _ arrival is = absurd (cc)
 
 -- the host that an instruction hands control over to, or asks to push an entry
 abbrev pub entered_host : Op → Option HostId

@@ -17,8 +17,9 @@ ghost use Rattle.host_core.specs.Host.{HostShape, Outcome};
 ghost use Rattle.host_core.specs.Taking.{IsTaking, place_of_awaiting};
 ghost use Rattle.host_core.specs.Turn.{IsTurn, label_of_turn};
 ghost use Rattle.net_world.specs.World.{WorldShape};
-ghost use Rattle.typed_steps.specs.Requests.{IsRequest, IsAnswer, GivesResult};
-ghost use Rattle.typed_steps.specs.Takes.{IsOwner, Answered, Resumes};
+ghost use Rattle.split_rules.specs.Handing.{Arrival, arrival_in};
+ghost use Rattle.typed_steps.specs.Requests.{IsRequest, IsAnswer, GivesResult, GoesTo};
+ghost use Rattle.typed_steps.specs.Takes.{IsOwner, Answered, Arrives, Resumes};
 ghost use Rattle.typed_steps.specs.Turns.{IsActing, Turned};
 ghost use Rattle.typed_steps.specs.Views.{Split, View};
 ghost use Rattle.typed_steps.specs.Weights.{IsFueledRequest, STEP, weight_at};
@@ -33,8 +34,8 @@ pub fn turn_laws()
         × Turned split c view world host old thread outcome }
 {}
 
-/// Whoever takes a request of that host, or a result, makes what it is for, and answers. Where that host takes the
-/// answer, its thread goes on.
+/// Whoever takes a request of that host, or a result, makes what it is for, and answers. Whoever takes its token has what
+/// rode with that, and a thread starts there. Where that host takes the answer, its thread goes on.
 pub fn take_laws()
     ensures request { (split : Split) (c : Configuration) (view : View) (world : WorldShape) (holder owner : HostId)
         (waiting : WaitingShape) (old : HostShape) (asked : Message) (outcome : Outcome) →
@@ -50,6 +51,11 @@ pub fn take_laws()
         IsTaking split.code old holder (message.Forward request frame x value) outcome →
         Answered split c view world holder owner waiting old
         (λ fuel. weight_at split view.chain holder waiting.thread.at + 2 ≤ fuel + STEP) outcome }
+    ensures arrival { (split : Split) (c : Configuration) (view : View) (world : WorldShape) (from to : HostId)
+        (old : HostShape) (said : Message) (arrival : Arrival) (outcome : Outcome) →
+        IsOwner split c view world to old → arrival_in said ≡ Some arrival →
+        (goes : GoesTo split c view from to arrival) → IsTaking split.code old from said outcome →
+        Arrives split c view world to old goes.there arrival outcome }
     ensures answer { (split : Split) (c : Configuration) (view : View) (holder owner : HostId)
         (waiting : WaitingShape) (state : HostShape) (place : ℕ) (answer : Message) (outcome : Outcome) →
         place_of_awaiting state waiting.awaited waiting.request owner ≡ Some place →
