@@ -1,4 +1,4 @@
-use Rattle.std.proofs.Common.{ℕ, ap}
+use Rattle.std.proofs.Common.{ap}
 use Rattle.std.specs.Prelude.{Some}
 use Rattle.msg_cost.specs.declared.walk_change.Change.{Change}
 use Rattle.msg_cost.specs.Views.{seated_shape}
