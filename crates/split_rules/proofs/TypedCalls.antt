@@ -17,7 +17,7 @@ use Rattle.host_code.specs.declared.instruction.Op.TheVariants as op
 use Rattle.msg_cost.specs.Moves.{PlannedShape, is_trusted_for, is_to, home_of}
 use Rattle.split_rules.specs.Expressions.{nodes_of}
 use Rattle.split_rules.specs.Walk.{Walked, emitted, expr_emissions, pass_emissions, argument_emissions, kept_emissions}
-use Rattle.split_rules.specs.Walk.{call_emissions, need_of, riders_to, riding_params, call_with, entry_id}
+use Rattle.split_rules.specs.Walk.{called_emissions, call_emissions, need_of, riders_to, riding_params, call_with, entry_id}
 use Rattle.split_rules.specs.Positions.{is_on, Due, run, keep, all_due, kept_due, Level, body, field_reads, Argument}
 use Rattle.split_rules.specs.Positions.{arguments_of, arguing, entering, Forward, Position, calm, with_reads, with_forwards}
 use Rattle.split_rules.specs.Positions.{forwards_of, due_numbers, Entrance, number_of, IsOf}
@@ -327,7 +327,7 @@ pub call_typed : (walked : Walked) (site : Site) (level : Level) (heading : Head
     (out_given walked.planned site.me (call heading at method arguments into done) into carried)))
 call_typed walked site level heading at method arguments into called is there gives home_within carried others own trusted
     inside_due id_is left left_is entries branches methods =
-    rw is (record {
+    subst R (sym is) (record {
       more = behind ∷ [];
       ahead = [];
       typed = (
@@ -380,16 +380,20 @@ call_typed walked site level heading at method arguments into called is there gi
     statement : BlockTree
     statement = call heading at method arguments into done
 
+    R : Option MethodTree → Type 0
+    R it = Leads walked.planned
+        (calm_at site level (run (call heading at method arguments into done) ∷ others) entries branches)
+        (called_emissions walked (counts_in entries branches) site.me site.label site.id at method it arguments into
+        carried left)
+        (here site.me (with_forwards (calm level others)
+        (out_given walked.planned site.me (call heading at method arguments into done) into carried)))
+
     home : HostId
     home = home_of walked.planned called
 
     out : List Forward
     out = out_params walked.planned site.me (call heading at method arguments into done) (home_of walked.planned called)
         called.params arguments
-
-    sourced : AreSourced walked.planned site.me out
-    sourced = params_sourced walked.planned site.me statement own trusted.0.0 trusted.0.1 home called.params arguments
-        params_given
 
     due : List Due
     due = run statement ∷ others
@@ -401,6 +405,10 @@ call_typed walked site level heading at method arguments into called is there gi
     params_given x is =
         let P : Option MethodTree → Type 0 = λ it. IsParam x (params_of it) in
         inr (subst P (sym there) is)
+
+    sourced : AreSourced walked.planned site.me out
+    sourced = params_sourced walked.planned site.me statement own trusted.0.0 trusted.0.1 home called.params arguments
+        params_given
 
     behind : Entrance
     behind = record {

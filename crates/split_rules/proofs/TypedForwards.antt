@@ -178,7 +178,9 @@ all_told : (planned : PlannedShape) (site : Site) (base : Position) → AreDueOn
 all_told planned site base due entries branches source x given what sends carried before sourced are [] = refl
 all_told planned site base due entries branches source x given what sends carried before sourced are
     (number ∷ numbers) =
-    by (is_other_reader planned site.me x number) (is_to carried number) refl
+    by (λ more more_sourced more_are. all_told planned site base due entries branches source x given what sends carried
+    more more_sourced more_are numbers)
+    (is_other_reader planned site.me x number) (is_to carried number) refl
   where
     host : HostId
     host = record { 0 = number }
@@ -200,15 +202,13 @@ all_told planned site base due entries branches source x given what sends carrie
         (known_at (here site.me (with_forwards base (before
         ++ forwards_to source x (hosts_of (cond (c && b) (number ∷ kept) kept))))) entries branches)
 
-    follows : (more : List Forward) → AreSourced planned site.me more → AreCarried carried more →
+    Follows : Type 0
+    Follows = (more : List Forward) → AreSourced planned site.me more → AreCarried carried more →
         AreTyped planned (known_at (here site.me (with_forwards base (more
         ++ forwards_to source x (hosts_of readers)))) entries branches)
         (map (λ to. emitted site.me site.label site.id (what to)) (hosts_of told))
         (known_at (here site.me (with_forwards base (more
         ++ forwards_to source x (hosts_of kept)))) entries branches)
-    follows more more_sourced more_are =
-        all_told planned site base due entries branches source x given what sends carried more more_sourced more_are
-        numbers
 
     one : Forward
     one = record { variable = x; host = record { 0 = number }; source = source }
@@ -216,10 +216,10 @@ all_told planned site base due entries branches source x given what sends carrie
     one_given : AreSourced planned site.me (one ∷ [])
     one_given = are_sourced planned site.me source x given (host ∷ [])
 
-    by : (b c : Bool) → is_to carried number ≡ c → Goal b c
-    by false true is = follows before sourced are
-    by false false is = follows before sourced are
-    by true true is =
+    by : Follows → (b c : Bool) → is_to carried number ≡ c → Goal b c
+    by follows false true is = follows before sourced are
+    by follows false false is = follows before sourced are
+    by follows true true is =
         let P : List Forward → Type 0 = λ out. AreTyped planned
         (known_at (here site.me (with_forwards base out)) entries branches)
         (map (λ to. emitted site.me site.label site.id (what to)) (hosts_of told))
@@ -235,7 +235,7 @@ all_told planned site base due entries branches source x given what sends carrie
         (follows (before ++ one ∷ [])
         (all_both _ before (one ∷ []) sourced one_given)
         (all_both (λ forward. is_to carried forward.host.0 ≡ true) before (one ∷ []) are (is, tt))))
-    by true false is =
+    by follows true false is =
         let all = before ++ forwards_to source x (hosts_of (number ∷ readers)) in
         let left = before ++ forwards_to source x (hosts_of readers) in
         let P : List Forward → Type 0 = λ out. TypedOp planned

@@ -1,6 +1,6 @@
 -- What a walk gives for a statement on the host where it stands: it goes on there, and nothing more is owed behind it.
 use Rattle.std.proofs.Common.{◌≡◌, ℕ, suc, zero, ◌+◌, ◌<◌, ◌≤◌, true, false}
-use Rattle.std.proofs.Common.{List, [], ◌∷◌, ◌++◌, length, refl, subst, arith}
+use Rattle.std.proofs.Common.{List, [], ◌∷◌, ◌++◌, length, refl, sym, subst, arith}
 use Rattle.std.proofs.lemmas.List.Elements.{All-nil, All-cons}
 use Rattle.std.proofs.lemmas.Option.{slice_get_within}
 use Rattle.std.specs.Prelude.{Option, Some, None, slice_get}
@@ -20,11 +20,11 @@ use Rattle.host_code.specs.declared.instruction.Op.TheVariants as op
 use Rattle.host_code.specs.declared.riders.TheConstants.{MOST_RIDERS}
 use Rattle.host_code.specs.Code.{host_of_site}
 use Rattle.msg_cost.specs.Moves.{PlannedShape, home_of}
-use Rattle.split_rules.specs.Emissions.{Emission}
+use Rattle.split_rules.specs.Emissions.{Emission, stands}
 use Rattle.split_rules.specs.Expressions.{reads_in, nodes_of, first_element}
 use Rattle.split_rules.specs.Flow.{Scope, at, Pending, State, NodeFits, IsVariable, Goes}
 use Rattle.split_rules.specs.Walk.{Walked, emitted, expr_emissions, send_emissions, pass_emissions, argument_emissions}
-use Rattle.split_rules.specs.Walk.{kept_emissions, call_emissions, riding_params, result_emissions, entry_id}
+use Rattle.split_rules.specs.Walk.{kept_emissions, called_emissions, call_emissions, riding_params, result_emissions, entry_id}
 use Rattle.split_rules.proofs.WalkedStates.{state_of, goes_on, Reaches}
 use Rattle.split_rules.proofs.WalkedExpressions.{IsScopeOf, field_there, variable_there, nodes_fit, own_nodes_fit}
 use Rattle.split_rules.proofs.WalkedExpressions.{first_fits, expr_goes, send_goes, pass_goes}
@@ -261,7 +261,8 @@ kept_goes scope walked scoped caller called (Some result) (Some into) there into
 
 pub call_goes : (scope : Scope) (walked : Walked) → IsWalkable scope walked.labelled.program walked.planned →
     (caller : MethodId) (site : SiteId) (called : MethodId) (arguments : List ExprTree) (into : Option VarId)
-    (carried : Option HostId) (left : List StmtId) → HasMethod walked.labelled.program (length arguments) (is_some into) called →
+    (carried : Option HostId) (left : List StmtId) →
+    HasMethod walked.labelled.program (length arguments) (is_some into) called →
     AllByRecursion (IsExprIn walked.labelled.program caller) arguments →
     HasOptionalVariable walked.labelled.program caller into → (host : HostId) (label : Label) (id : StmtId) →
     host.0 < scope.hosts → host_of_site scope.sites site.0 ≡ Some host → (named : List HostId) (branches : ℕ)
@@ -271,7 +272,7 @@ pub call_goes : (scope : Scope) (walked : Walked) → IsWalkable scope walked.la
     (at host 0) owed opened
 call_goes scope walked walkable caller site called arguments into carried left there values into_there host label id within
     site_there named branches owed opened are =
-    rw there.1 (record {
+    subst P (sym there.1) (record {
       more = host ∷ [];
       branches = branches;
       goes = (
@@ -285,10 +286,12 @@ call_goes scope walked walkable caller site called arguments into carried left t
                 call_goes_with scope host called_on label id (entry_id (suc called.0))
                     (riding_params walked.planned host called_on tree.params arguments) (named ++ host ∷ []) branches
                     (pending ∷ owed) opened rides (no_halt (suc called.0) (omega arith), home)
-                    (scoped.statements tree.head) _ _ (
+                    (scoped.statements tree.head) (stands host (length named)
+                    ∷ kept_emissions walked host label id tree.result into carried)
+                    (state_of (at host 0) (named ++ host ∷ []) branches owed opened) (
                       (refl, refl),
-                      kept_goes scope walked scoped caller called tree.result into method.result into_there host label id
-                          carried (named ++ host ∷ []) branches owed opened,
+                      kept_goes scope walked scoped caller called tree.result into method.result into_there host label
+                          id carried (named ++ host ∷ []) branches owed opened,
                     ),
               ),
         ),
@@ -303,6 +306,11 @@ call_goes scope walked walkable caller site called arguments into carried left t
 
     method : IsMethodIn walked.labelled.program called there.0
     method = walkable.methods called.0 there.0 there.1
+
+    P : Option MethodTree → Type 0
+    P it = Reaches scope (state_of (at host 0) named branches owed opened)
+        (called_emissions walked (counts_at named branches) host label id site called it arguments into carried left)
+        (at host 0) owed opened
 
     called_on : HostId
     called_on = home_of walked.planned there.0

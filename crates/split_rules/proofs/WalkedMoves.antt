@@ -115,7 +115,8 @@ handed scope walked around statements named branches owed opened from host rider
         within,
         go_goes scope from host around.pc around.owner (entry_id (length named)) riders (named ++ host ∷ []) branches
             (record { host = host; number = length named } ∷ owed) opened can
-            (entry_there named host [] (length named) refl some) (within, back) _ _ ((refl, tt), refl),
+            (entry_there named host [] (length named) refl some) (within, back) (stands host (length named) ∷ [])
+            (state_of (at host 0) (named ++ host ∷ []) branches owed opened) ((refl, tt), refl),
       );
     })
 
@@ -197,7 +198,8 @@ lent scope walked around statements named branches owed opened from host back ri
         (behind (named ++ back ∷ host ∷ []))
     goes = go_goes scope from host around.pc around.owner (entry_id (length named + 1)) riders both branches
         (pending (length (named ++ back ∷ [])) ∷ record { host = back; number = length named } ∷ owed) opened can second
-        (within, other_host host from (λ same. apart (sym same))) _ _ ((number_is, tt), ends)
+        (within, other_host host from (λ same. apart (sym same))) (stands host (length named + 1) ∷ [])
+        (behind (named ++ back ∷ host ∷ [])) ((number_is, tt), ends)
 
 -- ---- where a segment begins
 

@@ -33,7 +33,7 @@ use Rattle.split_rules.proofs.WalkedSites.{sites_there}
 
 -- ---- what a splittable program has
 
-scope_there : (placed : PlacedProgram) → IsSplittable placed →
+pub scope_there : (placed : PlacedProgram) → IsSplittable placed →
     IsScopeOf (scope_of placed.labelled placed.hosts placed.plan) placed.labelled.program (planned_from placed)
 scope_there placed splittable = record {
   fields = refl;

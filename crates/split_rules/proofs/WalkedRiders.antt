@@ -15,8 +15,8 @@ use Rattle.msg_cost.specs.declared.spot.Spot.{Spot}
 use Rattle.msg_cost.specs.Moves.{PlannedShape, carried_to}
 use Rattle.msg_cost.specs.Terms.{reads_on, is_other_reader}
 use Rattle.split_rules.specs.Emissions.{Emission}
-use Rattle.split_rules.specs.Flow.{Scope, stopped, awaited, at, Pending, State, IsVariable, IsOther, IsEntryOn, AreRiding}
-use Rattle.split_rules.specs.Flow.{Goes}
+use Rattle.split_rules.specs.Flow.{Scope, stopped, awaited, at, Pending, State, IsVariable, IsOther, IsEntryOn}
+use Rattle.split_rules.specs.Flow.{AreRiding, Goes}
 use Rattle.split_rules.specs.Walk.{emitted, riders_to, rides_behind, riding_params, go_with, call_with}
 use Rattle.split_rules.proofs.WalkedStates.{state_of}
 
@@ -109,7 +109,7 @@ pub go_goes : (scope : Scope) (from on : HostId) (label : Label) (statement : St
 go_goes scope from on label statement there [] named branches owed opened can is other others last follows =
     ((refl, (is, other)), follows)
 go_goes scope from on label statement there (x ∷ riders) named branches owed opened can is other others last follows =
-    ((refl, (is, (other, can))), follows)
+    ((refl, (is, other, can)), follows)
 
 pub call_goes_with : (scope : Scope) (from on : HostId) (label : Label) (statement : StmtId) (there : EntryId)
     (riders : List VarId) (named : List HostId) (branches : ℕ) (owed opened : List Pending) →
@@ -122,4 +122,4 @@ call_goes_with scope from on label statement there [] named branches owed opened
     ((refl, (is, within)), follows)
 call_goes_with scope from on label statement there (x ∷ riders) named branches owed opened can is within others last
     follows =
-    ((refl, (is, can)), follows)
+    ((refl, (is, can.0, can.1)), follows)

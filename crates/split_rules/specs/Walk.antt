@@ -3,9 +3,9 @@
 -- Moves). The rules are this project's own, in the manner of the secure program partitioning of Zdancewic, Zheng,
 -- Nystrom and Myers.
 --
--- What rides is decided once, where a statement gives a variable its value: the value goes to each other host that reads
--- the variable, but for the host to which the right to go on moves straight from there. For that host it stays with the
--- lane until the lane is left. So what is sent and what rides cannot disagree.
+-- What rides is decided once, where a statement gives a variable its value: the value is sent to each other host that
+-- reads the variable, but for the host to which the right to go on moves straight from there. For that host it stays
+-- with the lane until the lane is left. So what is sent and what rides cannot disagree.
 --
 -- A result is never given back from a lent segment. Whoever is lent the token is not trusted for all that is left, so
 -- more is left than its own statements. A `return` is the last of all, and so its token is that of the method's body.
@@ -50,8 +50,8 @@ pub record Around : Type 0 where
   pub owner : StmtId
   pub pc : Label
 
--- A spot, the number of the entry that gives back what was lent there, where it was, and the variables whose values ride
--- once the spot is left: one at the most.
+-- A spot, the number of the entry that gives back what was lent there, where it was, and the variables whose values
+-- ride once the spot is left: one at the most.
 pub record Lane : Type 0 where
   pub spot : Spot
   pub return_entry : ℕ
@@ -245,12 +245,11 @@ kept_emissions walked host label statement (Some result) (Some into) carried =
     ∷ send_emissions walked.planned host label statement into carried
 kept_emissions walked host label statement result into carried = []
 
--- The entry behind a call is named before its frame is made. It needs what the call and all that is left under the
--- token need.
-abbrev pub call_emissions : Walked → Counts → HostId → Label → StmtId → SiteId → MethodId → List ExprTree →
-    Option VarId → Option HostId → List StmtId → List Emission
-call_emissions walked counts host label statement site method arguments into carried left =
-    let called = method_at walked.labelled.program method in
+-- The entry behind a call of this method is named before its frame is made. It needs what the call and all that is left
+-- under the token need.
+abbrev pub called_emissions : Walked → Counts → HostId → Label → StmtId → SiteId → MethodId → Option MethodTree →
+    List ExprTree → Option VarId → Option HostId → List StmtId → List Emission
+called_emissions walked counts host label statement site method called arguments into carried left =
     let home = called_home walked.planned called in
     entry (record { host = host; label = label; need = need_of walked.planned (statement ∷ left) })
     ∷ emitted host label statement (op.Frame site)
@@ -260,6 +259,12 @@ call_emissions walked counts host label statement site method arguments into car
     (entry_id (suc method.0)) home)
     ∷ stands host counts.entries
     ∷ kept_emissions walked host label statement (result_of called) into carried
+
+abbrev pub call_emissions : Walked → Counts → HostId → Label → StmtId → SiteId → MethodId → List ExprTree →
+    Option VarId → Option HostId → List StmtId → List Emission
+call_emissions walked counts host label statement site method arguments into carried left =
+    called_emissions walked counts host label statement site method (method_at walked.labelled.program method) arguments
+    into carried left
 
 -- what a method gives back
 abbrev pub result_emissions : Walked → HostId → Label → StmtId → ExprTree → List Emission
