@@ -11,7 +11,7 @@ use Rattle.host_code.specs.declared.instruction.Op.{Op}
 use Rattle.host_code.specs.declared.instruction.Op.TheVariants as op
 use Rattle.msg_cost.specs.Moves.{PlannedShape}
 use Rattle.split_rules.specs.Positions.{Due, run, statement_due, FieldRead, Argument, reads_due, Calling, no_call}
-use Rattle.split_rules.specs.Positions.{arguing, Entrance, Forward, Position, calm, under, with_reads, with_forwards}
+use Rattle.split_rules.specs.Positions.{arguing, Entrance, Position, calm, under, with_reads, with_forwards}
 use Rattle.split_rules.specs.Positions.{forwards_of}
 use Rattle.split_rules.specs.Typing.{EntryIs, need_due, Frames, Cuts, Pushes, Reads, Argues, Sends, Follows, Branches}
 use Rattle.split_rules.specs.Typing.{Divides}

@@ -222,8 +222,8 @@ call_typed walked site level heading at method arguments into called is there ot
           typed_on planned (known_at (here site.me (arguing_at level due statement [] all)) more branches)
               (argument_emissions walked site.me site.label site.id called.params arguments) _
               (known_at (here site.me (arguing_at level due statement all [])) more branches) _
-              (arguments_typed walked site level due statement [] on_due own trusted.0.0 trusted.0.1 more branches called.params
-              arguments params_given) (
+              (arguments_typed walked site level due statement [] on_due own trusted.0.0 trusted.0.1 more branches
+              called.params arguments params_given) (
                 known_at (here site.me inside) more branches,
                 (arguing_at level due statement all [], refl, (trusted, tt), (inside, pushes, refl)),
                 (

@@ -19,8 +19,8 @@ use Rattle.split_rules.specs.Walk.{emitted, read_emissions, expr_emissions, send
 use Rattle.split_rules.specs.Walk.{other_readers}
 use Rattle.split_rules.specs.Positions.{Due, statement_due, is_on, FieldRead, field_reads, Argument, reads_due, arguing}
 use Rattle.split_rules.specs.Positions.{no_call, Forward, Position, with_reads, with_forwards, forwards_of, Entrance}
-use Rattle.split_rules.specs.Positions.{number_of, IsOf, without_forward}
-use Rattle.split_rules.specs.Typing.{AreDueOn, IsTrustedAt, AreSourced, Gives, here, AreTyped}
+use Rattle.split_rules.specs.Positions.{number_of, IsOf}
+use Rattle.split_rules.specs.Typing.{AreDueOn, IsTrustedAt, AreSourced, Gives, Sends, here, AreTyped}
 use Rattle.split_rules.proofs.TypedStates.{known_at, typed_on}
 
 pub reads_many : (expr : ExprTree) → length (field_reads expr) ≡ reads_in expr
@@ -177,10 +177,13 @@ are_sourced planned me source x given [] = tt
 are_sourced planned me source x given (host ∷ hosts) =
     ((given.on_host, given.trusted, given.is_of, given.gives), are_sourced planned me source x given hosts)
 
--- sending the first of what has still to be sent leaves the others
-first_sent : (source : BlockTree) (x : VarId) (host : HostId) (hosts : List HostId) →
-    without_forward x host (forwards_to source x (host ∷ hosts)) ≡ forwards_to source x hosts
-first_sent source x host hosts = rw (eq-eqb x.0 x.0 refl, eq-eqb host.0 host.0 refl) refl
+-- where the first is sent of what has still to be sent, the others are left
+first_sends : (base : Position) → base.reads ≡ [] → (source : BlockTree) (x : VarId) (host : HostId)
+    (hosts : List HostId) →
+    Sends (with_forwards base (forwards_to source x (host ∷ hosts))) x host
+    (with_forwards base (forwards_to source x hosts))
+first_sends base none source x host hosts =
+    (none, inl (refl, refl), rw (eq-eqb x.0 x.0 refl, eq-eqb host.0 host.0 refl) refl)
 
 sends_to : (planned : PlannedShape) (site : Site) (base : Position) → base.reads ≡ [] → base.calling ≡ no_call →
     AreDueOn planned site.me base.due → (entries : List Entrance) (branches : List Position) (source : BlockTree)
@@ -197,7 +200,7 @@ sends_to planned site base none no_calls trusted entries branches source x given
     (trusted, are_sourced planned site.me source x given (host ∷ hosts)),
     (
       with_forwards base (forwards_to source x hosts),
-      (no_calls, (none, inl (refl, refl), ap (with_forwards base) (sym (first_sent source x host hosts)))),
+      (no_calls, first_sends base none source x host hosts),
       refl,
     ),
   ),
@@ -230,7 +233,7 @@ passes_to planned site base none statement set left is trusted entries branches 
     (trusted, are_sourced planned site.me source x given (host ∷ hosts)),
     (
       with_forwards base (forwards_to source x hosts),
-      (statement, set, left, is, (none, inl (refl, refl), ap (with_forwards base) (sym (first_sent source x host hosts)))),
+      (statement, set, left, is, first_sends base none source x host hosts),
       refl,
     ),
   ),

@@ -20,3 +20,4 @@ pub mod Pace
 pub mod ThreadRun
 pub mod Opening
 pub mod OpenExamples
+pub mod TypingExamples

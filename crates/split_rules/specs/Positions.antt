@@ -177,8 +177,8 @@ reads_due no_call statement = own_reads statement
 reads_due (arguing called set (next ∷ left)) statement = field_reads next.value
 reads_due other statement = []
 
--- A variable that a host has still to be sent, of the new frame while its parameters are set, otherwise of the frame,
--- and the statement that gave it its value.
+-- A variable that a host has still to be sent, of the new frame while a call is made, otherwise of the frame, and the
+-- statement that gave it its value.
 pub record Forward : Type 0 where
   pub variable : VarId
   pub host : HostId

@@ -58,7 +58,8 @@ Gives planned (call heading site method arguments into rest) x =
     (into ≡ Some x) ⊎ IsParam x (params_of (method_at planned.program method))
 Gives planned other x = ⊥
 
--- what has to be sent was given its value by a statement of the program on this host, which is trusted for the statement
+-- What has to be sent was given its value by a statement of the program on this host, which is trusted for the
+-- statement.
 abbrev pub AreSourced : PlannedShape → HostId → List Forward → Type 0
 AreSourced planned me forwards = AllByRecursion (λ forward. (is_on planned me forward.source ≡ true)
     × (is_trusted_for planned me (number_of forward.source) ≡ true) × IsOf planned.program forward.source
@@ -148,8 +149,8 @@ body_of (Some method) = method.body
 
 -- ---- pushes
 
--- What is due is cut in two: what is behind stays with the entry that is pushed. What has still to be sent is so behind
--- the push as well, and may ride when the thread is handed over.
+-- What is due is cut in two: what is behind stays with the entry that is pushed. What has still to be sent is sent
+-- behind the push, or rides when the thread is handed over.
 pub record Cuts (planned : PlannedShape) (entries : List Entrance) (here : Position) (number : ℕ) (next : Position) :
     Type 0 where
   pub idle : IsIdle here
