@@ -116,8 +116,8 @@ module _ (split : Split) (on : HostId) (position : Position) (need : ℕ) where
 
 -- ---- what the turn leaves
 
--- What a turn leaves that hands a host a token: it is trusted for all that is due, and what is still to be sent rides to
--- it.
+-- What a turn leaves that hands a host a token: the host is trusted for all that is due, and all that is still to be
+-- sent goes to it.
 record HandsToken (split : Split) (c : Configuration) (view : View) (host : HostId) (old : HostShape)
     (thread : ThreadShape) (to : HostId) (m : Message) (outcome : Outcome) : Type 0 where
   new : HostShape
