@@ -63,7 +63,7 @@ use Rattle.typed_steps.proofs.Basics.{all_left}
 use Rattle.typed_steps.proofs.CallsMade.{enters_bare}
 use Rattle.typed_steps.proofs.HeldSteps.{holds_same, holds_told}
 use Rattle.typed_steps.proofs.Holding.{host_within}
-use Rattle.typed_steps.proofs.Transfers.{calm_calling}
+use Rattle.typed_steps.proofs.Transfers.{calm_calling, none_rides}
 use Rattle.integrity.specs.Holding.{IsAmong, runs, lost, halted, first_of, OwnsWaiting}
 use Rattle.integrity.specs.Holding.{AreLinked, StateIsOutside, FlightIsOutside, IsStanding, IsOutsideBut}
 use Rattle.integrity.specs.Loose.{AreUnsentBelow, Loosens}
@@ -116,8 +116,8 @@ module _ (split : Split) (on : HostId) (position : Position) (need : ℕ) where
 
 -- ---- what the turn leaves
 
--- What a turn leaves that hands a host a token: it is trusted for all that is due, and what is still to be sent rides to
--- it.
+-- What a turn leaves that hands a host a token: the host is trusted for all that is due, and all that is still to be
+-- sent goes to it.
 record HandsToken (split : Split) (c : Configuration) (view : View) (host : HostId) (old : HostShape)
     (thread : ThreadShape) (to : HostId) (m : Message) (outcome : Outcome) : Type 0 where
   new : HostShape
@@ -134,10 +134,6 @@ record HandsToken (split : Split) (c : Configuration) (view : View) (host : Host
   due : AreDueOn split.planned to (place_of split host thread.at).due
   gone : AllByRecursion (λ forward. forward.host ≡ to) view.out
   count : view.naming.count ≡ length c.calls
-
--- nothing is still to be sent
-none_gone : (to : HostId) (out : List Forward) → out ≡ [] → AllByRecursion (λ forward. forward.host ≡ to) out
-none_gone to out none = subst (AllByRecursion (λ (forward : Forward). forward.host ≡ to)) (sym none) tt
 
 -- what is known of a thread that goes to a host
 record Called (split : Split) (c : Configuration) (view : View) (on : HostId) (here : Position) : Type 0 where
@@ -275,7 +271,7 @@ module _ (split : Split) (c : Configuration) (view : View) (host : HostId) (thre
             All-push (λ w. ThreadIsOpen (threat_in split) host w.thread) t.step.state.waiting _ all
             (behind_ask entry due law.0 law.2);
         due = due;
-        gone = none_gone to view.out (sym at.forwards ∙ law.2);
+        gone = (none_rides to view.out (sym at.forwards ∙ law.2)).1;
         count = (calm_calling split c view host thread at law.0.idle.1).0;
       }
   by_operation count (op.Go entry on) passes law fits enters is held =
@@ -285,7 +281,7 @@ module _ (split : Split) (c : Configuration) (view : View) (host : HostId) (thre
       sym (ap (after_go bare thread thread.frame entry on) held) ∙ is in
       ended on (message.Rgoto thread.frame entry token) one (record {
         due = entry_trusted split on here _ entry fits.0 law.1;
-        gone = none_gone on here.forwards (ap (λ (p : Position). p.forwards) law.0);
+        gone = (none_rides on here.forwards (ap (λ (p : Position). p.forwards) law.0)).1;
         count = (calm_calling split c view host thread at (ap (λ (p : Position). p.calling) law.0)).0;
       })
   by_operation count (op.Call entry on) passes law fits enters is held =

@@ -263,9 +263,9 @@ holds_forwarded split c view world after host old state flying x value holds obe
     }
 
 -- where no names ride nothing rides
-none_ride : (riders : List Rider) → [] ≡ names_of riders → riders ≡ []
-none_ride [] none = refl
-none_ride (rider ∷ riders) none = absurd (cc)
+no_riders : (riders : List Rider) → [] ≡ names_of riders → riders ≡ []
+no_riders [] none = refl
+no_riders (rider ∷ riders) none = absurd (cc)
 
 -- a host took what was still to be sent, with the token
 pub holds_rode : (split : Split) (c : Configuration) (view : View) (world after : WorldShape) (host : HostId)
@@ -291,7 +291,7 @@ holds_rode split c view world after host old state flying arrival holds rides ob
       result = elim rides.settled [
         | inl none ↦
             let riders : arrival.riders ≡ [] =
-            none_ride arrival.riders
+            no_riders arrival.riders
             (ap (λ (out : List Forward). map (λ forward. forward.variable) out) (sym none) ∙ rides.all.0) in
             result_kept split c view world after host old state flying holds.result obeys moved
             (variables_same split old state

@@ -31,6 +31,7 @@ CanSend split values variables host forward =
     AreAlike split.exposure forward.variable (variables forward.variable) (values forward.variable.0)
     × (forward.host.0 ≢ host.0)
 
+-- and so does all of it
 abbrev pub AreSent : Split → (ℕ → ℤ) → (VarId → ℤ) → HostId → List Forward → Type 0
 AreSent split values variables host out = AllByRecursion (CanSend split values variables host) out
 
