@@ -18,7 +18,7 @@ use Rattle.split_rules.specs.Positions.{no_call, Position, Entrance, calm, with_
 use Rattle.split_rules.specs.TypedCode.{Table, IsTypedOp, IsTypedEntry, IsTypedCode}
 use Rattle.split_rules.specs.Typing.{EntryIs, IsTrustedAt, AreDueOn, AreSourced, Covers, need_due, IsCalm, RidesAll}
 use Rattle.split_rules.specs.Typing.{Reads, Pushes, Follows, Enters}
-use Rattle.split_rules.specs.TypingExamples.{code_instead, CanBeTyped, rides, sent_and_rides, kept_back, rides_called}
+use Rattle.split_rules.specs.TypingExamples.{code_instead, CanBeTyped, as_given, rides, sent_and_rides, kept_back}
 use Rattle.split_rules.specs.TypingExamples.{kept_from_call, ridden_table, lent_local, lent_local_table, called_table}
 use Rattle.split_rules.specs.TypingExamples.{called_level, local_out, lent_past_local, framed, argued, param_out}
 use Rattle.split_rules.specs.Walk.{need_of}
@@ -139,7 +139,7 @@ stores planned entries me level own = (
   refl,
 )
 
-pub local_rides : CanBeTyped sent_local rides
+pub local_rides : CanBeTyped sent_local as_given
 unfolding is_trusted_by
 local_rides =
     let first = host_id 0 in
@@ -154,11 +154,11 @@ local_rides =
         halts = refl;
         methods = each_at (IsMethodEntry sent_local ridden_table) sent_local.program.methods (refl, tt);
         entries = each_at (IsEntryBehind sent_local ridden_table)
-            (drop 1 (code_instead sent_local rides).entries) (
+            (drop 1 (code_instead sent_local as_given).entries) (
               enters sent_local ridden_table 1 _ main_level (run setting ∷ run reading ∷ []) refl refl both refl,
               (enters sent_local ridden_table 2 _ main_level (run reading ∷ []) refl refl there refl, tt),
             );
-        instructions = λ host. each_part (IsTypedThere sent_local ridden_table) (code_instead sent_local rides).parts (
+        instructions = λ host. each_part (IsTypedThere sent_local ridden_table) (code_instead sent_local as_given).parts (
           (
             ((both, tt), sets sent_local entries (run reading ∷ []) refl),
             (((both.1, ((refl, refl, setting_of, refl), tt)), ((refl, refl), (refl, (refl, tt)), refl)), tt),
@@ -182,7 +182,7 @@ setting_lent = (record { 0 = 0 }, (0, setting, omega arith, refl, refl))
 reading_lent : IsOf lent_local.program reading
 reading_lent = (record { 0 = 0 }, (1, reading, omega arith, refl, refl))
 
-pub rides_past_push : CanBeTyped lent_local rides
+pub rides_past_push : CanBeTyped lent_local as_given
 unfolding is_trusted_by
 rides_past_push =
     let first = host_id 0 in
@@ -201,7 +201,7 @@ rides_past_push =
         halts = refl;
         methods = each_at (IsMethodEntry lent_local lent_local_table) lent_local.program.methods (refl, tt);
         entries = each_at (IsEntryBehind lent_local lent_local_table)
-            (drop 1 (code_instead lent_local rides).entries) (
+            (drop 1 (code_instead lent_local as_given).entries) (
               enters lent_local lent_local_table 1 _ main_level (run setting ∷ run reading ∷ run last ∷ []) refl refl
                   all refl,
               (
@@ -210,7 +210,7 @@ rides_past_push =
               ),
             );
         instructions = λ host. each_part (IsTypedThere lent_local lent_local_table)
-            (code_instead lent_local rides).parts (
+            (code_instead lent_local as_given).parts (
               (
                 ((all, tt), sets lent_local entries (run reading ∷ run last ∷ []) refl),
                 (
@@ -275,7 +275,7 @@ argues entries = record {
   goes = refl;
 }
 
-pub parameter_rides : CanBeTyped called rides_called
+pub parameter_rides : CanBeTyped called as_given
 unfolding is_trusted_by
 parameter_rides =
     let first = host_id 0 in
@@ -292,14 +292,14 @@ parameter_rides =
         halts = refl;
         methods = each_at (IsMethodEntry called called_table) called.program.methods (refl, (refl, tt));
         entries = each_at (IsEntryBehind called called_table)
-            (drop 1 (code_instead called rides_called).entries) (
+            (drop 1 (code_instead called as_given).entries) (
               enters called called_table 1 _ main_level (run calling ∷ []) refl refl calls refl,
               (
                 enters called called_table 2 _ called_level (run returning ∷ []) refl refl there refl,
                 (enters called called_table 3 _ main_level (keep calling ∷ []) refl refl keeps refl, tt),
               ),
             );
-        instructions = λ host. each_part (IsTypedThere called called_table) (code_instead called rides_called).parts (
+        instructions = λ host. each_part (IsTypedThere called called_table) (code_instead called as_given).parts (
           (
             ((calls, tt), frames entries),
             (

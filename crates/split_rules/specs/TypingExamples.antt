@@ -1,5 +1,5 @@
--- Code of some small programs in which values ride, as the walk does not give it. What is known at its places is written
--- out.
+-- Code of some small programs in which values ride, as the walk gives it and otherwise. What is known at its places is
+-- written out.
 use Rattle.std.specs.Prelude.{ℕ, List, [], ◌∷◌, ◌++◌, map, slice_get, unwrap_or, pos}
 use Rattle.jif_tree.specs.Trees.{set_local, set_field, number, local}
 use Rattle.host_code.specs.declared.instruction.Op.{Op}
@@ -18,7 +18,7 @@ use Rattle.split_rules.specs.Worked.{calling, returning}
 
 -- ---- other instructions than those of the walk
 
--- in place of each instruction these, with its label and for its statement
+-- in place of each instruction of the walk these, with its label and for its statement
 abbrev pub with_instead : (Op → List Op) → List Emission → List Emission
 with_instead instead [] = []
 with_instead instead (instruction one ∷ others) =
@@ -39,31 +39,29 @@ first_instead planned instead = map (λ one. one.op) (emitted_on (host_id 0) (em
 abbrev pub CanBeTyped : PlannedShape → (Op → List Op) → Type 0
 CanBeTyped planned instead = (table : Table) × IsTypedCode planned (code_instead planned instead) table
 
--- the local is not sent, and rides where the thread is handed over
+-- the code of the walk
+abbrev pub as_given : Op → List Op
+as_given what = what ∷ []
+
+-- the local rides, and is sent too
+abbrev pub sent_and_rides : Op → List Op
+sent_and_rides (op.GoWith there on riders) = op.Send (var_id 0) on ∷ op.GoWith there on riders ∷ []
+sent_and_rides other = other ∷ []
+
+-- it does not ride, and is not sent
+abbrev pub kept_back : Op → List Op
+kept_back (op.GoWith there on riders) = op.Go there on ∷ []
+kept_back other = other ∷ []
+
+-- it is not sent, and rides where the thread is handed over
 abbrev pub rides : Op → List Op
 rides (op.Send x to) = []
 rides (op.Go there on) = op.GoWith there on (var_id 0 ∷ []) ∷ []
 rides other = other ∷ []
 
--- it rides, and is sent too
-abbrev pub sent_and_rides : Op → List Op
-sent_and_rides (op.Go there on) = op.GoWith there on (var_id 0 ∷ []) ∷ []
-sent_and_rides other = other ∷ []
-
--- it is not sent, and does not ride
-abbrev pub kept_back : Op → List Op
-kept_back (op.Send x to) = []
-kept_back other = other ∷ []
-
--- the parameter is not passed, and rides where the method is called
-abbrev pub rides_called : Op → List Op
-rides_called (op.Pass x to) = []
-rides_called (op.Call there on) = op.CallWith there on (var_id 1 ∷ []) ∷ []
-rides_called other = other ∷ []
-
--- it is not passed, and does not ride
+-- the parameter does not ride, and is not passed
 abbrev pub kept_from_call : Op → List Op
-kept_from_call (op.Pass x to) = []
+kept_from_call (op.CallWith there on riders) = op.Call there on ∷ []
 kept_from_call other = other ∷ []
 
 -- ---- a local that is read on another host, which is handed the right to go on
