@@ -205,7 +205,8 @@ move_told walked around counts lane next statements named counted begun sees nex
     one_of_two (AreTold walked.labelled walked.planned named) (is_same lane.spot.host next.host) [] _ tt
     (leaves_then walked.labelled around walked.planned named lane
     (enter_emissions walked around counts (end_of lane.spot) lane.riding next statements)
-    (entering_told walked around counts (end_of lane.spot) next.host next.back lane.riding statements named counted begun.some
+    (entering_told walked around counts (end_of lane.spot) next.host next.back lane.riding statements named counted
+    begun.some
     (spot_ends walked.planned around.pc lane.spot sees) next_sees.0 next_sees.1))
 
 pub end_told : (labelled : Labelled) (planned : PlannedShape) (around : Around) (lane : Lane) (named : List Named) →

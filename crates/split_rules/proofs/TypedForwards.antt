@@ -13,7 +13,8 @@ use Rattle.host_code.specs.declared.instruction.Op.TheVariants as op
 use Rattle.msg_cost.specs.Moves.{PlannedShape, is_same, is_trusted_for, is_to}
 use Rattle.msg_cost.specs.Terms.{is_other_reader, is_told}
 use Rattle.split_rules.specs.Walk.{emitted, riders_to, send_emissions, pass_emissions}
-use Rattle.split_rules.specs.Positions.{is_on, Argument, arguing, no_call, Forward, Position, with_forwards, forwards_of}
+use Rattle.split_rules.specs.Positions.{is_on, Argument, arguing, no_call, Forward, Position, with_forwards}
+use Rattle.split_rules.specs.Positions.{forwards_of}
 use Rattle.split_rules.specs.Positions.{Entrance, number_of, IsOf, IsOut, without_forward}
 use Rattle.split_rules.specs.Typing.{AreDueOn, AreSourced, Gives, RidesAll, here, TypedOp, AreTyped}
 use Rattle.split_rules.proofs.TypedStates.{known_at}

@@ -22,9 +22,10 @@ use Rattle.split_rules.specs.TypingExamples.{code_instead, CanBeTyped, as_given,
 use Rattle.split_rules.specs.TypingExamples.{kept_from_call, ridden_table, lent_local, lent_local_table, called_table}
 use Rattle.split_rules.specs.TypingExamples.{called_level, local_out, lent_past_local, framed, argued, param_out}
 use Rattle.split_rules.specs.Walk.{need_of}
-use Rattle.split_rules.specs.Worked.{host_id, var_id, field_id, site_id, increased, sent_local, called, calling, returning}
+use Rattle.split_rules.specs.Worked.{host_id, var_id, field_id, site_id, increased, sent_local, called, calling}
+use Rattle.split_rules.specs.Worked.{returning}
 use Rattle.split_rules.proofs.OneNext.{one_next}
-use Rattle.split_rules.proofs.TypedMoves.{covers_due}
+use Rattle.split_rules.proofs.TypedRows.{covers_due}
 use Rattle.split_rules.proofs.TypedSplit.{same_there}
 use Rattle.split_rules.proofs.WalkedCalls.{nothing_there}
 
@@ -107,7 +108,8 @@ reading_of : IsOf sent_local.program reading
 reading_of = (record { 0 = 0 }, (1, reading, omega arith, refl, refl))
 
 -- the local is given its value, and has then still to be sent
-sets : (planned : PlannedShape) (entries : List Entrance) (others : List Due) → is_on planned (host_id 0) setting ≡ true →
+sets : (planned : PlannedShape) (entries : List Entrance) (others : List Due) → is_on planned (host_id 0) setting ≡ true
+    →
     let from = calm main_level (run setting ∷ others) in
     Follows planned entries (host_id 0) from (op.Let (var_id 0) (node.Number (pos 7) ∷ [])) (record {
       level = main_level;
@@ -158,19 +160,20 @@ local_rides =
               enters sent_local ridden_table 1 _ main_level (run setting ∷ run reading ∷ []) refl refl both refl,
               (enters sent_local ridden_table 2 _ main_level (run reading ∷ []) refl refl there refl, tt),
             );
-        instructions = λ host. each_part (IsTypedThere sent_local ridden_table) (code_instead sent_local as_given).parts (
-          (
-            ((both, tt), sets sent_local entries (run reading ∷ []) refl),
-            (((both.1, ((refl, refl, setting_of, refl), tt)), ((refl, refl), (refl, (refl, tt)), refl)), tt),
-          ),
-          (
-            (
-              ((there, tt), reads_first sent_local second main_level reading [] (field_id 0) refl refl),
-              (((there, tt), stores sent_local entries second main_level refl), (((tt, tt), refl), tt)),
-            ),
-            tt,
-          ),
-        ) host.0;
+        instructions = λ host. each_part (IsTypedThere sent_local ridden_table)
+            (code_instead sent_local as_given).parts (
+              (
+                ((both, tt), sets sent_local entries (run reading ∷ []) refl),
+                (((both.1, ((refl, refl, setting_of, refl), tt)), ((refl, refl), (refl, (refl, tt)), refl)), tt),
+              ),
+              (
+                (
+                  ((there, tt), reads_first sent_local second main_level reading [] (field_id 0) refl refl),
+                  (((there, tt), stores sent_local entries second main_level refl), (((tt, tt), refl), tt)),
+                ),
+                tt,
+              ),
+            ) host.0;
       },
     )
 
@@ -214,7 +217,17 @@ rides_past_push =
               (
                 ((all, tt), sets lent_local entries (run reading ∷ run last ∷ []) refl),
                 (
-                  ((all.1, out), record { idle = (refl, refl); behind = run last ∷ []; pushed = refl; due = refl; goes = refl }),
+                  (
+                    (all.1, out),
+                    record {
+                      idle = (refl, refl);
+                      behind = run last ∷ [];
+                      pushed = refl;
+                      due = refl;
+                      goes =
+                          refl;
+                    },
+                  ),
                   (
                     (((all.1.0, tt), out), ((refl, refl), (refl, (refl, tt)), refl)),
                     (
@@ -305,7 +318,18 @@ parameter_rides =
             (
               ((calls, tt), argues entries),
               (
-                ((calls, out), record { others = []; due = refl; reads = refl; all_set = refl; pushed = refl; goes = refl }),
+                (
+                  (calls, out),
+                  record {
+                    others = [];
+                    due = refl;
+                    reads = refl;
+                    all_set = refl;
+                    pushed = refl;
+                    goes =
+                        refl;
+                  },
+                ),
                 (
                   ((inside, out), (refl, refl, refl, (refl, (refl, tt)), refl)),
                   (

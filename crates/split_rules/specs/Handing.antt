@@ -1,5 +1,5 @@
--- A thread that is handed over to another host, with nothing or with values that ride: by which message it comes, and by
--- which instruction it leaves.
+-- A thread that is handed over to another host, with nothing or with values that ride: by which message it comes, and
+-- by which instruction it leaves.
 use Rattle.std.specs.Prelude.{Bool, true, false, List, [], Option, Some, None}
 use Rattle.js_base.specs.declared.ids.HostId.{HostId}
 use Rattle.js_base.specs.declared.ids.FrameId.{FrameId}

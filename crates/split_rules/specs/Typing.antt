@@ -58,7 +58,7 @@ Gives planned (call heading site method arguments into rest) x =
     (into ≡ Some x) ⊎ IsParam x (params_of (method_at planned.program method))
 Gives planned other x = ⊥
 
--- what has to be sent was given its value by a statement of the program on this host, which is trusted for the statement
+-- what has to be sent was given its value by a statement of the program on this host, which is trusted for that
 abbrev pub AreSourced : PlannedShape → HostId → List Forward → Type 0
 AreSourced planned me forwards = AllByRecursion (λ forward. (is_on planned me forward.source ≡ true)
     × (is_trusted_for planned me (number_of forward.source) ≡ true) × IsOf planned.program forward.source

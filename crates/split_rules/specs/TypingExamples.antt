@@ -144,7 +144,9 @@ framed = record (calm main_level (run calling ∷ [])) { calling = arguing calli
 
 abbrev pub argued : Position
 argued =
-    record (with_forwards (calm main_level (run calling ∷ [])) param_out) { calling = arguing calling (argument ∷ []) [] }
+    record (with_forwards (calm main_level (run calling ∷ [])) param_out) {
+      calling = arguing calling (argument ∷ []) [];
+    }
 
 abbrev pub called_level : Level
 called_level = body (record { 0 = 1 })

@@ -19,7 +19,8 @@ ghost use Rattle.split_rules.specs.Opening.{IsOpenCode, HasOwnLabels, CoversRuns
 ghost use Rattle.split_rules.specs.Opening.{NamesWithin, IsCoveredBy};
 ghost use Rattle.split_rules.specs.OpenExamples.{code_of, untrusted, trusted_by_first, thread_on_first, lent_table};
 ghost use Rattle.split_rules.specs.OpenExamples.{sent_table, branched_table, looped_table, FirstOpens};
-ghost use Rattle.split_rules.specs.TypingExamples.{first_instead, CanBeTyped, as_given, rides, sent_and_rides, kept_back};
+ghost use Rattle.split_rules.specs.TypingExamples.{first_instead, CanBeTyped, as_given, rides, sent_and_rides};
+ghost use Rattle.split_rules.specs.TypingExamples.{kept_back};
 ghost use Rattle.split_rules.specs.TypingExamples.{kept_from_call, lent_local, lent_past_local};
 ghost use Rattle.split_rules.specs.Settled.{AreSettled};
 ghost use Rattle.split_rules.specs.Walk.{program_emissions};
@@ -74,8 +75,8 @@ pub fn asking_laws()
 {}
 
 /// Where a program is split that passes the label check, a host that is trusted for all that is due at a place of its
-/// code, whatever host the place is on, may change what the instruction there changes and what rides with it, is trusted
-/// for the entries that the instruction pushes, asks for or goes to, and is trusted for all that is due behind it. The
+/// code, whatever host the place is on, may change what the instruction there changes and what rides with it, is
+/// trusted for the entries that the instruction pushes, asks for or goes to, and is trusted for all that is due behind it. The
 /// labels are those of the host file and the program. And wherever a thread comes to that enters at an entry, until it
 /// gives back the token with which it entered, the need of the entry has the needs of all that is due there, and of the
 /// entry that the instruction there names.
@@ -116,8 +117,8 @@ pub fn typing_laws()
         Divides planned me here guard other other_target → (next ≡ other) × (target ≡ other_target) }
 {}
 
-/// Whether there are positions by which code is typed in which values ride: that of the walk over some small programs, and
-/// other code in its place.
+/// Whether there are positions by which code is typed in which values ride: that of the walk over some small programs,
+/// and other code in its place.
 pub fn typing_examples()
     // A local is not sent before the thread is handed over, but rides with it.
     ensures local_rides { CanBeTyped sent_local as_given }
@@ -158,8 +159,8 @@ pub fn worked_laws()
     // It does not where another host is asked to take it back, so it is sent.
     ensures sent_past { operations_on lent_past_local 0 ≡ op.Let (var_id 0) (node.Number (pos 7) ∷ [])
         ∷ op.Send (var_id 0) (host_id 1) ∷ op.Ask (entry_id 2) (host_id 2) ∷ op.Go (entry_id 3) (host_id 1) ∷ [] }
-    // Nor where another statement stands between on the same host, or where a host that was lent the right to go on gives
-    // it back.
+    // Nor where another statement stands between on the same host, or where a host that was lent the right to go on
+    // gives it back.
     ensures sent_before { operations_on read_later 0 ≡ op.Let (var_id 0) (node.Number (pos 7) ∷ [])
         ∷ op.Send (var_id 0) (host_id 1) ∷ op.Put (field_id 1) first_element (node.Number (pos 1) ∷ [])
         ∷ op.Go (entry_id 2) (host_id 1) ∷ [] }
@@ -201,8 +202,8 @@ pub fn worked_laws()
         ∷ op.Put (field_id 1) first_element (node.Temp 0 ∷ node.Number (pos 1) ∷ node.Binary operator.Add ∷ [])
         ∷ op.Back ∷ [] }
     ensures branch_entries { entry_hosts branched ≡ 0 ∷ 0 ∷ 0 ∷ 1 ∷ [] }
-    // A call makes a frame, sets each parameter, and pushes the entry behind it, where the result is kept. The parameter
-    // rides to the home of the method.
+    // A call makes a frame, sets each parameter, and pushes the entry behind it, where the result is kept. The
+    // parameter rides to the home of the method.
     ensures calls { operations_on called 0 ≡ op.Frame (site_id 1) ∷ op.Arg (var_id 1) (node.Number (pos 3) ∷ [])
         ∷ op.Push (entry_id 3) ∷ op.CallWith (entry_id 2) (host_id 1) (var_id 1 ∷ [])
         ∷ op.Let (var_id 0) (node.Var (var_id 2) ∷ []) ∷ op.Back ∷ [] }
