@@ -223,7 +223,8 @@ arguments_lead : (b : Budget) (walked : Walked) → HasFewHosts walked.planned �
     (statement : StmtId) (params : List VarId) (trees : List ExprTree) (k p : ℕ) →
     b.Leads k (p + (sum (map expr_nodes trees) + 17 * length params))
     (argument_emissions walked host home pc statement params trees) k p
-arguments_lead b walked few host home pc statement params [] k p = widened b _ p (b.still k p) (omega arith) (omega arith)
+arguments_lead b walked few host home pc statement params [] k p = widened b _ p (b.still k p) (omega arith)
+    (omega arith)
 arguments_lead b walked few host home pc statement [] (tree ∷ others) k p =
     widened b _ p (b.still k p) (omega arith) (omega arith)
 arguments_lead b walked few host home pc statement (param ∷ params) (tree ∷ others) k p =
@@ -363,7 +364,8 @@ block_leads b walked small method gives is (set_local heading x value rest) numb
     let left = 6 * length (block_statements rest) + 2 + k in
     b.less (statement_leads b walked around counts lane heading.id (own_statements rest) _ _ (left + 2) left k
     (b.less (b.on (expression_leads b next.host around.pc heading.id 0 value (left + 1) 20)
-    (assigned_leads b walked.planned small.hosts _ tt x _ left)) (omega arith) (omega arith) (omega arith) (omega arith))
+    (assigned_leads b walked.planned small.hosts _ tt x _ left)) (omega arith) (omega arith) (omega arith) (omega
+    arith))
     (block_leads b walked small method gives is rest numbered.2
     (All-tail IsFew (expr_nodes value) (block_nodes rest) few) around _ _ k))
     (omega arith) (omega arith) (omega arith) (omega arith)

@@ -24,6 +24,7 @@ pub mod TypedStates
 pub mod TypedValues
 pub mod TypedForwards
 pub mod TypedStatements
+pub mod TypedRows
 pub mod TypedMoves
 pub mod TypedCalls
 pub mod TypedBranches

@@ -176,7 +176,8 @@ arguments_quiet walked named host home pc statement (param ∷ params) (argument
     (arguments_quiet walked named host home pc statement params others well.2)
 
 kept_quiet : (walked : Walked) (named : List Named) (host : HostId) (pc : Label) (statement : StmtId)
-    (result into : Option VarId) (carried : Option HostId) → KeepsWell walked.labelled walked.planned host pc result into →
+    (result into : Option VarId) (carried : Option HostId) → KeepsWell walked.labelled walked.planned host pc result
+    into →
     IsQuiet walked.labelled walked.planned named (kept_emissions walked host pc statement result into carried)
 kept_quiet walked named host pc statement (Some result) (Some into) carried well =
     silent_first walked.labelled walked.planned named host pc statement into _ _
@@ -406,7 +407,8 @@ block_told walked around (set_local heading x value rest) well counts lane named
     let pc = around.pc in
     let next = next_spot planned lane.spot heading.id (own_statements rest) in
     let own : HostId → List Emission = λ host. expr_emissions host pc heading.id 0 value
-    ++ emitted host pc heading.id (op.Let x (nodes_of 0 value)) ∷ send_emissions planned host pc heading.id x (carried_to planned next (own_statements rest)) in
+    ++ emitted host pc heading.id (op.Let x (nodes_of 0 value)) ∷ send_emissions planned host pc heading.id x
+    (carried_to planned next (own_statements rest)) in
     statement_then walked around counts lane heading.id (own_statements rest) named counted begun sees
     (statements_see labelled planned walked.setting pc (set_local heading x value rest) well) (own next.host) _
     (λ host_is counted_there begun_there.

@@ -31,7 +31,8 @@ use Rattle.split_rules.specs.Typable.{IsTrustedInside, AreTrusted}
 use Rattle.split_rules.specs.Typing.{body_of, nowhere, here, Known, AreTyped, AreDueOn, AreSourced, Gives}
 use Rattle.split_rules.specs.TypedCode.{AreMethodEntries}
 use Rattle.split_rules.proofs.Places.{same_host}
-use Rattle.split_rules.proofs.TypedMoves.{run_numbers, row_numbers, AreRunWhereTrusted, ahead_at, lane_level}
+use Rattle.split_rules.proofs.TypedRows.{run_numbers, row_numbers, AreRunWhereTrusted}
+use Rattle.split_rules.proofs.TypedMoves.{ahead_at, lane_level}
 use Rattle.split_rules.proofs.TypedMoves.{lane_place, IsGivenBack, IsLaneKnown, lane_still, MovesTyped, move_typed}
 use Rattle.split_rules.proofs.TypedMoves.{IsLaneTrusted, IsLaneOut}
 use Rattle.split_rules.proofs.TypedForwards.{IsCarried, IsCarriedWithin, none_out, out_rides, out_sourced}
@@ -140,7 +141,8 @@ carried_within planned there spot (statement ∷ others) =
     let next = next_spot planned spot statement others in
     straight_within planned spot.host next.host spot.back next.back
     (elim (eqb_tells spot.host.0 host.0) [
-      | inl same ↦ subst Q (sym (next_here planned spot statement others same.1)) (subst P (sym same.1) (there statement))
+      | inl same ↦ subst Q (sym (next_here planned spot statement others same.1))
+          (subst P (sym same.1) (there statement))
       | inr apart ↦ subst Q (sym (next_there planned spot statement others apart.1)) (entered_within (end_of spot))
     ])
   where
@@ -265,7 +267,8 @@ statement_then walked around level lane out tree trees entries branches methods 
 
     lane_out : IsLaneOut walked.planned lane_there out_there trees
     lane_out =
-        let both = given_out planned there next tree given gives moves.on_host moves.trusted.0.0 moves.trusted.0.1 others in
+        let both = given_out planned there next tree given gives moves.on_host moves.trusted.0.0
+        moves.trusted.0.1 others in
         let P : Spot → Type 0 = λ spot. AreSourced planned spot.host out_there in
         let Q : Spot → Type 0 = λ spot. IsCarried lane_there.riding out_there (carried_to planned spot others) in
         let S : List StmtId → Type 0 = λ it. IsCarried lane_there.riding out_there
@@ -276,8 +279,8 @@ statement_then walked around level lane out tree trees entries branches methods 
         }
 
     behind : Position
-    behind = with_forwards (calm (lane_level level lane_there) (map run (ahead_at walked.planned lane_there.spot trees)))
-        out_there
+    behind = with_forwards
+        (calm (lane_level level lane_there) (map run (ahead_at walked.planned lane_there.spot trees))) out_there
 
     due : Position
     due = calm (lane_level level lane_there) (run tree ∷ map run (ahead_at walked.planned lane_there.spot trees))
@@ -430,13 +433,15 @@ block_typed walked method gives within may (set_local heading x value rest) ther
     let planned = walked.planned in
     let next = next_spot planned lane.spot heading.id (own_statements rest) in
     let trees = statements_of rest in
-    statement_then walked around level lane out (set_local heading x value done) trees entries branches methods within.hosts
+    statement_then walked around level lane out (set_local heading x value done) trees entries branches methods
+    within.hosts
     (own_trusted planned (set_local heading x value rest) trusted) known holds is_out (own_statements rest)
     (own_numbers rest) (Some x) refl _
     (λ counts lane_then. block_emissions walked around counts lane_then rest) _ refl
     (λ own lane_there entries_there methods_there known_there due_there spot_is many.
     leads_still planned _ _ entries_there branches _ (set_local_typed planned (site_at around next heading.id)
-    (lane_level level lane_there) heading x value (carried_to planned next (own_statements rest)) (map run (ahead_at planned lane_there.spot trees)) own due_there
+    (lane_level level lane_there) heading x value (carried_to planned next (own_statements rest))
+    (map run (ahead_at planned lane_there.spot trees)) own due_there
     entries_there
     branches))
     (λ lane_there out_there entries_there branches_there methods_there known_there holds_there out_is.
@@ -447,7 +452,8 @@ block_typed walked method gives within may (set_field heading field value rest) 
     let planned = walked.planned in
     let next = next_spot planned lane.spot heading.id (own_statements rest) in
     let trees = statements_of rest in
-    statement_then walked around level lane out (set_field heading field value done) trees entries branches methods within.hosts
+    statement_then walked around level lane out (set_field heading field value done) trees entries branches methods
+    within.hosts
     (own_trusted planned (set_field heading field value rest) trusted) known holds is_out (own_statements rest)
     (own_numbers rest) None tt _
     (λ counts lane_then. block_emissions walked around counts lane_then rest) _ refl
@@ -463,7 +469,8 @@ block_typed walked method gives within may (set_element heading field index valu
     let planned = walked.planned in
     let next = next_spot planned lane.spot heading.id (own_statements rest) in
     let trees = statements_of rest in
-    statement_then walked around level lane out (set_element heading field index value done) trees entries branches methods within.hosts
+    statement_then walked around level lane out (set_element heading field index value done) trees entries branches
+    methods within.hosts
     (own_trusted planned (set_element heading field index value rest) trusted) known holds is_out (own_statements rest)
     (own_numbers rest) None tt _ (λ counts lane_then. block_emissions walked around counts lane_then rest) _ refl
     (λ own lane_there entries_there methods_there known_there due_there spot_is many.
@@ -489,8 +496,10 @@ block_typed walked method gives within may (branch heading guard first second re
     let own : Counts → List Emission = λ it. branch_own (branch_front walked around it heading guard next others) it
     next.host one two in
     let behind = counts_after counts moved in
-    statement_then walked around level lane out (branch heading guard first second done) trees entries branches methods within.hosts
-    (own_trusted planned (branch heading guard first second rest) trusted) known holds is_out others (own_numbers rest) None tt
+    statement_then walked around level lane out (branch heading guard first second done) trees entries branches methods
+    within.hosts
+    (own_trusted planned (branch heading guard first second rest) trusted) known holds is_out others (own_numbers rest)
+    None tt
     (own behind)
     (λ it lane_then. block_emissions walked around it lane_then rest) (counts_after behind (own behind))
     (sym (counts_more counts moved (own behind)))
@@ -522,7 +531,8 @@ block_typed walked method gives within may (branch heading guard first second re
     block_typed walked method gives within may rest there.3 returns.2 trusted.5
     (all_second (IsIn walked.planned.program method) (all_statements second) (all_statements rest)
     (all_second (IsIn walked.planned.program method) (all_statements first) (all_statements second ++ all_statements
-    rest) in_it.1)) around level at lane_there out_there entries_there branches_there methods_there known_there holds_there out_is)
+    rest) in_it.1)) around level at lane_there out_there entries_there branches_there methods_there known_there
+    holds_there out_is)
 block_typed walked method gives within may (loop heading guard inner rest) there returns trusted in_it around level at
     lane out entries branches methods known holds is_out =
     let planned = walked.planned in
@@ -536,8 +546,10 @@ block_typed walked method gives within may (loop heading guard inner rest) there
     let own : Counts → List Emission = λ it. loop_own (loop_front walked around it heading guard next others) it
     next.host one in
     let behind = counts_after counts moved in
-    statement_then walked around level lane out (loop heading guard inner done) trees entries branches methods within.hosts
-    (own_trusted planned (loop heading guard inner rest) trusted) known holds is_out others (own_numbers rest) None tt (own behind)
+    statement_then walked around level lane out (loop heading guard inner done) trees entries branches methods
+    within.hosts
+    (own_trusted planned (loop heading guard inner rest) trusted) known holds is_out others (own_numbers rest) None tt
+    (own behind)
     (λ it lane_then. block_emissions walked around it lane_then rest) (counts_after behind (own behind))
     (sym (counts_more counts moved (own behind)))
     (λ is_own lane_there entries_there methods_there known_there due_there spot_is many.
@@ -572,7 +584,8 @@ block_typed walked method gives within may (call heading site called arguments i
     arguments into (carried_to planned next others) left in
     statement_then walked around level lane out (call heading site called arguments into done) trees entries branches
     methods within.hosts
-    (own_trusted planned (call heading site called arguments into rest) trusted) known holds is_out others (own_numbers rest) into
+    (own_trusted planned (call heading site called arguments into rest) trusted) known holds is_out others
+    (own_numbers rest) into
     (into_gives planned heading site called arguments into)
     (own (counts_after counts moved)) (λ it lane_then. block_emissions walked around it lane_then rest) _ refl
     (λ is_own lane_there entries_there methods_there known_there due_there spot_is many.
@@ -600,8 +613,10 @@ block_typed walked method gives within may (give_back heading value rest) there 
     let planned = walked.planned in
     let next = next_spot planned lane.spot heading.id (own_statements rest) in
     let trees = statements_of rest in
-    statement_then walked around level lane out (give_back heading value done) trees entries branches methods within.hosts
-    (own_trusted planned (give_back heading value rest) trusted) known holds is_out (own_statements rest) (own_numbers rest) None tt _
+    statement_then walked around level lane out (give_back heading value done) trees entries branches methods
+    within.hosts
+    (own_trusted planned (give_back heading value rest) trusted) known holds is_out (own_statements rest)
+    (own_numbers rest) None tt _
     (λ counts lane_then. block_emissions walked around counts lane_then rest) _ refl
     (λ own lane_there entries_there methods_there known_there due_there spot_is many.
     gives_back walked method gives within around heading value next in_it.0 own level (at returns.0) lane_there trees

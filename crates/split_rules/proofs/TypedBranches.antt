@@ -20,7 +20,7 @@ use Rattle.split_rules.proofs.WalkedBlocks.{inside_of, branch_front, branch_own,
 use Rattle.split_rules.proofs.TypedStates.{known_at, counts_in, typed_on, counts_behind, Leads, leads_still, leads_on}
 use Rattle.split_rules.proofs.WalkedCalls.{still_there}
 use Rattle.split_rules.proofs.WalkedMoves.{at_last}
-use Rattle.split_rules.proofs.TypedMoves.{covers_due}
+use Rattle.split_rules.proofs.TypedRows.{covers_due}
 use Rattle.split_rules.proofs.TypedValues.{Site}
 use Rattle.split_rules.proofs.TypedStatements.{due_on, reads_then}
 use Rattle.split_rules.proofs.TypedCalls.{methods_still}

@@ -17,9 +17,11 @@ use Rattle.host_code.specs.declared.instruction.Op.TheVariants as op
 use Rattle.msg_cost.specs.Moves.{PlannedShape, is_trusted_for, is_to, home_of}
 use Rattle.split_rules.specs.Expressions.{nodes_of}
 use Rattle.split_rules.specs.Walk.{Walked, emitted, expr_emissions, pass_emissions, argument_emissions, kept_emissions}
-use Rattle.split_rules.specs.Walk.{called_emissions, call_emissions, need_of, riders_to, riding_params, call_with, entry_id}
+use Rattle.split_rules.specs.Walk.{called_emissions, call_emissions, need_of, riders_to, riding_params, call_with}
+use Rattle.split_rules.specs.Walk.{entry_id}
 use Rattle.split_rules.specs.Positions.{is_on, Due, run, keep, all_due, kept_due, Level, body, field_reads, Argument}
-use Rattle.split_rules.specs.Positions.{arguments_of, arguing, entering, Forward, Position, calm, with_reads, with_forwards}
+use Rattle.split_rules.specs.Positions.{arguments_of, arguing, entering, Forward, Position, calm, with_reads}
+use Rattle.split_rules.specs.Positions.{with_forwards}
 use Rattle.split_rules.specs.Positions.{forwards_of, due_numbers, Entrance, number_of, IsOf}
 use Rattle.split_rules.specs.Typing.{EntryIs, Frames, PushesCall, nowhere, here, AreTyped, AreDueOn, Covers, need_due}
 use Rattle.split_rules.specs.Typing.{need_of_method, IsParam, Gives, AreSourced, RidesAll, TypedOp}
@@ -27,7 +29,7 @@ use Rattle.split_rules.specs.TypedCode.{AreMethodEntries}
 use Rattle.split_rules.proofs.WalkedCalls.{still_there}
 use Rattle.split_rules.proofs.WalkedMoves.{at_last}
 use Rattle.split_rules.proofs.TypedStates.{known_at, counts_in, typed_on, Leads}
-use Rattle.split_rules.proofs.TypedMoves.{covers_due}
+use Rattle.split_rules.proofs.TypedRows.{covers_due}
 use Rattle.split_rules.proofs.TypedValues.{IsDueOn, Site, expr_typed}
 use Rattle.split_rules.proofs.TypedForwards.{out_behind, out_rides, out_sourced, none_riding, IsGivenOn, all_both}
 use Rattle.split_rules.proofs.TypedForwards.{AreCarried, send_typed, pass_typed}
@@ -60,11 +62,12 @@ out_params planned me statement home (param ∷ params) (argument ∷ others) =
 -- and it rides there
 rides_all_both : (home : HostId) (first second : List VarId) (out more : List Forward) → RidesAll first home out →
     RidesAll second home more → RidesAll (first ++ second) home (out ++ more)
-rides_all_both home first second out more one two =
-    (map-append (λ (forward : Forward). forward.variable) out more
-    ∙ ap (λ names. names ++ map (λ (forward : Forward). forward.variable) more) one.0
-    ∙ ap (λ names. first ++ names) two.0,
-    all_both (λ (forward : Forward). forward.host ≡ home) out more one.1 two.1)
+rides_all_both home first second out more one two = (
+  map-append (λ (forward : Forward). forward.variable) out more
+      ∙ ap (λ names. names ++ map (λ (forward : Forward). forward.variable) more) one.0
+      ∙ ap (λ names. first ++ names) two.0,
+  all_both (λ (forward : Forward). forward.host ≡ home) out more one.1 two.1,
+)
 
 params_ride : (planned : PlannedShape) (me : HostId) (statement : BlockTree) (home : HostId) →
     home.0 < length planned.hosts.hosts → (params : List VarId) (arguments : List ExprTree) →
@@ -176,7 +179,8 @@ arguments_typed walked site level due statement set on_due own trusted is_of hom
     ))
     (subst Q (append_assoc out kept (out_params planned site.me statement home params arguments))
     (subst P (append_assoc set (one ∷ []) left)
-    (arguments_typed walked site level due statement (set ++ one ∷ []) on_due own trusted is_of home within (out ++ kept)
+    (arguments_typed walked site level due statement (set ++ one ∷ []) on_due own trusted is_of home within (out ++
+    kept)
     (all_both _ out kept sourced (out_sourced planned site.me statement param (Some home) given))
     (all_both (λ forward. is_to (Some home) forward.host.0 ≡ true) out kept carried
     (are_carried home (riders_to planned site.me param (Some home)) kept
@@ -204,7 +208,8 @@ kept_typed : (walked : Walked) (site : Site) (level : Level) (heading : Heading)
     (kept_emissions walked site.me site.label site.id result into carried)
     (riding_at site level others (out_given walked.planned site.me (call heading at method arguments into done) into
     carried) entries branches)
-kept_typed walked site level heading at method arguments None None is gives carried others own trusted entries branches =
+kept_typed walked site level heading at method arguments None None is gives carried others own trusted entries branches
+    =
     rw is refl
 kept_typed walked site level heading at method arguments (Some x) None is gives carried others own trusted entries
     branches =
@@ -301,9 +306,16 @@ calls_typed : (planned : PlannedShape) (me home : HostId) (statement : BlockTree
 calls_typed planned me home (call heading at method arguments into rest) called due [] out entries branches rides same
     entered =
     let P : MethodId → Type 0 = λ it. EntryIs entries (suc called.0) (calm (body called) due)
-    (need_of_method planned (method_at planned.program it)) in
-    ((ap (λ (it : MethodId). suc it.0) (sym same), ap body (sym same), refl, none_riding home out rides,
-    subst P (sym same) entered), refl)
+    (need_of_method planned (method_at planned.program it)) in (
+      (
+        ap (λ (it : MethodId). suc it.0) (sym same),
+        ap body (sym same),
+        refl,
+        none_riding home out rides,
+        subst P (sym same) entered,
+      ),
+      refl,
+    )
 calls_typed planned me home (call heading at method arguments into rest) called due (x ∷ riders) out entries branches
     rides same entered =
     let P : MethodId → Type 0 = λ it. EntryIs entries (suc called.0) (calm (body called) due)
@@ -315,17 +327,20 @@ pub call_typed : (walked : Walked) (site : Site) (level : Level) (heading : Head
     (arguments : List ExprTree) (into : Option VarId) (called : MethodTree) →
     method_at walked.labelled.program method ≡ Some called → method_at walked.planned.program method ≡ Some called →
     is_some called.result ≡ is_some into → (home_of walked.planned called).0 < length walked.planned.hosts.hosts →
-    (carried : Option HostId) (others : List Due) → is_on walked.planned site.me (call heading at method arguments into done) ≡ true →
+    (carried : Option HostId) (others : List Due) → is_on walked.planned site.me (call heading at method arguments into
+    done) ≡ true →
     AreDueOn walked.planned site.me (run (call heading at method arguments into done) ∷ others) →
     AreDueOn walked.planned site.me (all_due called.body) → site.id ≡ heading.id → (left : List StmtId) →
     left ≡ due_numbers others → (entries : List Entrance) (branches : List Position) →
     AreMethodEntries walked.planned entries →
     Leads walked.planned
     (calm_at site level (run (call heading at method arguments into done) ∷ others) entries branches)
-    (call_emissions walked (counts_in entries branches) site.me site.label site.id at method arguments into carried left)
+    (call_emissions walked (counts_in entries branches) site.me site.label site.id at method arguments into carried
+    left)
     (here site.me (with_forwards (calm level others)
     (out_given walked.planned site.me (call heading at method arguments into done) into carried)))
-call_typed walked site level heading at method arguments into called is there gives home_within carried others own trusted
+call_typed walked site level heading at method arguments into called is there gives home_within carried others own
+    trusted
     inside_due id_is left left_is entries branches methods =
     subst R (sym is) (record {
       more = behind ∷ [];

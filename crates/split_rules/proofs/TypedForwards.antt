@@ -13,7 +13,8 @@ use Rattle.host_code.specs.declared.instruction.Op.TheVariants as op
 use Rattle.msg_cost.specs.Moves.{PlannedShape, is_same, is_trusted_for, is_to}
 use Rattle.msg_cost.specs.Terms.{is_other_reader, is_told}
 use Rattle.split_rules.specs.Walk.{emitted, riders_to, send_emissions, pass_emissions}
-use Rattle.split_rules.specs.Positions.{is_on, Argument, arguing, no_call, Forward, Position, with_forwards, forwards_of}
+use Rattle.split_rules.specs.Positions.{is_on, Argument, arguing, no_call, Forward, Position, with_forwards}
+use Rattle.split_rules.specs.Positions.{forwards_of}
 use Rattle.split_rules.specs.Positions.{Entrance, number_of, IsOf, IsOut, without_forward}
 use Rattle.split_rules.specs.Typing.{AreDueOn, AreSourced, Gives, RidesAll, here, TypedOp, AreTyped}
 use Rattle.split_rules.proofs.TypedStates.{known_at}
@@ -87,9 +88,11 @@ one_kept p to first (suc count) from within =
 pub out_rides : (planned : PlannedShape) (me : HostId) (source : BlockTree) (x : VarId) (carried : Option HostId) →
     IsCarriedWithin planned carried →
     IsCarried (riders_to planned me x carried) (out_behind planned me source x carried) carried
-out_rides planned me source x None within =
-    (refl, ap (λ numbers. forwards_to source x (hosts_of numbers))
-    (none_kept planned me x (range_with_len 0 (length planned.hosts.hosts))))
+out_rides planned me source x None within = (
+  refl,
+  ap (λ numbers. forwards_to source x (hosts_of numbers))
+      (none_kept planned me x (range_with_len 0 (length planned.hosts.hosts))),
+)
 out_rides planned me source x (Some to) within =
     let P : List ℕ → Type 0 = λ numbers. RidesAll (riders_to planned me x (Some to)) to
     (forwards_to source x (hosts_of numbers)) in

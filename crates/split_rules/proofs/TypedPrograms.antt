@@ -98,7 +98,8 @@ methods_typed principals labelled planned same hosts number (method ∷ methods)
     (begins planned home (suc number) begin (need_of planned (method.head ∷ [])) entries branches bodies
     (known number method own)
     (block_typed walked (record { 0 = number }) (is_some method.result)
-    (record { same = same; result = method_number planned.program method number own; gives_it = refl; hosts = hosts }) true method.body
+    (record { same = same; result = method_number planned.program method number own; gives_it = refl; hosts = hosts })
+    true method.body
     numbered.0.body typable.0.returns typable.0.trusted
     (body_of_method planned.program (record { 0 = number }) method own) (record {
       owner = method.head;

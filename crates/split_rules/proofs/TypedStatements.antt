@@ -13,7 +13,8 @@ use Rattle.split_rules.specs.Emissions.{Emission}
 use Rattle.split_rules.specs.Expressions.{reads_in, nodes_of, first_element}
 use Rattle.split_rules.specs.Walk.{emitted, expr_emissions, send_emissions}
 use Rattle.split_rules.specs.Positions.{IsIn, Due, run, statement_due, is_on, Level, body, FieldRead, field_reads}
-use Rattle.split_rules.specs.Positions.{own_reads, Forward, Position, calm, with_reads, with_forwards, forwards_of, Entrance}
+use Rattle.split_rules.specs.Positions.{own_reads, Forward, Position, calm, with_reads, with_forwards, forwards_of}
+use Rattle.split_rules.specs.Positions.{Entrance}
 use Rattle.split_rules.specs.Typing.{AreDueOn, Known, here, Types, AreTyped}
 use Rattle.split_rules.proofs.TypedStates.{known_at, typed_on}
 use Rattle.split_rules.proofs.TypedValues.{reads_many, IsDueOn, Site, expr_typed}
@@ -68,7 +69,8 @@ pub set_local_typed : (planned : PlannedShape) (site : Site) (level : Level) (he
     (expr_emissions site.me site.label site.id 0 value
     ++ emitted site.me site.label site.id (op.Let x (nodes_of 0 value))
     ∷ send_emissions planned site.me site.label site.id x carried)
-    (riding_at site level others (out_behind planned site.me (set_local heading x value done) x carried) entries branches)
+    (riding_at site level others (out_behind planned site.me (set_local heading x value done) x carried) entries
+    branches)
 set_local_typed planned site level heading x value carried others on_host trusted entries branches =
     let statement = set_local heading x value done in
     let due = run statement ∷ others in

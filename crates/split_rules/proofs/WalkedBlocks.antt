@@ -407,7 +407,8 @@ block_goes scope walked method gives within (set_local heading x value rest) the
     let next = next_spot planned lane.spot heading.id (own_statements rest) in
     statement_then scope walked within.walkable around lane lane_there heading.id (own_statements rest) named branches
     owed opened are (Some x)
-    (variable_there scope program planned within.walkable.scoped method x there.0) _ (λ counts lane_then. block_emissions walked around counts lane_then rest) _ refl
+    (variable_there scope program planned within.walkable.scoped method x there.0) _
+    (λ counts lane_then. block_emissions walked around counts lane_then rest) _ refl
     (λ host_is named_there many owed_there are_there is.
     reaches_flow scope (at next.host 0) (at next.host 0) named_there many owed_there opened _
     (set_local_goes scope program planned within.walkable.scoped method x value there.0 there.1 next.host around.pc
@@ -457,7 +458,8 @@ block_goes scope walked method gives within (branch heading guard first second r
     let own : Counts → List Emission = λ here. branch_own (branch_front walked around here heading guard next others)
     here next.host one two in
     let here = counts_after (counts_at named branches) moved in
-    statement_then scope walked within.walkable around lane lane_there heading.id others named branches owed opened are None tt
+    statement_then scope walked within.walkable around lane lane_there heading.id others named branches owed opened are
+    None tt
     (own here) (λ counts lane_then. block_emissions walked around counts lane_then rest) (counts_after here (own here))
     (sym (counts_more (counts_at named branches) moved (own here)))
     (λ host_is named_there many owed_there are_there is.
@@ -486,7 +488,8 @@ block_goes scope walked method gives within (loop heading guard body rest) there
     let own : Counts → List Emission = λ here. loop_own (loop_front walked around here heading guard next others)
     here next.host inner in
     let here = counts_after (counts_at named branches) moved in
-    statement_then scope walked within.walkable around lane lane_there heading.id others named branches owed opened are None tt
+    statement_then scope walked within.walkable around lane lane_there heading.id others named branches owed opened are
+    None tt
     (own here) (λ counts lane_then. block_emissions walked around counts lane_then rest) (counts_after here (own here))
     (sym (counts_more (counts_at named branches) moved (own here)))
     (λ host_is named_there many owed_there are_there is.
@@ -511,7 +514,8 @@ block_goes scope walked method gives within (call heading site called arguments 
     let moved = move_emissions walked around (counts_at named branches) lane next (heading.id ∷ others) in
     let own : Counts → List Emission = λ here. call_emissions walked here next.host around.pc heading.id site called
     arguments into (carried_to planned next others) left in
-    statement_then scope walked within.walkable around lane lane_there heading.id others named branches owed opened are into
+    statement_then scope walked within.walkable around lane lane_there heading.id others named branches owed opened are
+    into
     (into_there scope walked within.walkable method into there.2)
     (own (counts_after (counts_at named branches) moved))
     (λ counts lane_then. block_emissions walked around counts lane_then rest) _ refl

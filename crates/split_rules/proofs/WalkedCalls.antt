@@ -24,7 +24,8 @@ use Rattle.split_rules.specs.Emissions.{Emission, stands}
 use Rattle.split_rules.specs.Expressions.{reads_in, nodes_of, first_element}
 use Rattle.split_rules.specs.Flow.{Scope, at, Pending, State, NodeFits, IsVariable, Goes}
 use Rattle.split_rules.specs.Walk.{Walked, emitted, expr_emissions, send_emissions, pass_emissions, argument_emissions}
-use Rattle.split_rules.specs.Walk.{kept_emissions, called_emissions, call_emissions, riding_params, result_emissions, entry_id}
+use Rattle.split_rules.specs.Walk.{kept_emissions, called_emissions, call_emissions, riding_params, result_emissions}
+use Rattle.split_rules.specs.Walk.{entry_id}
 use Rattle.split_rules.proofs.WalkedStates.{state_of, goes_on, Reaches}
 use Rattle.split_rules.proofs.WalkedExpressions.{IsScopeOf, field_there, variable_there, nodes_fit, own_nodes_fit}
 use Rattle.split_rules.proofs.WalkedExpressions.{first_fits, expr_goes, send_goes, pass_goes}
@@ -270,7 +271,8 @@ pub call_goes : (scope : Scope) (walked : Walked) → IsWalkable scope walked.la
     Reaches scope (state_of (at host 0) named branches owed opened)
     (call_emissions walked (counts_at named branches) host label id site called arguments into carried left)
     (at host 0) owed opened
-call_goes scope walked walkable caller site called arguments into carried left there values into_there host label id within
+call_goes scope walked walkable caller site called arguments into carried left there values into_there host label id
+    within
     site_there named branches owed opened are =
     subst P (sym there.1) (record {
       more = host ∷ [];
