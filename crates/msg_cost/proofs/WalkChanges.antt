@@ -1,28 +1,27 @@
 -- What walks cost before and behind the move of one statement.
 use Rattle.std.proofs.Common.{◌≡◌, ◌≢◌, ◌∙◌, inl, inr, ℕ, zero, suc, ◌+◌, ◌-◌, ◌^◌, ◌<◌, ◌≤◌, min, List, [], ◌∷◌, ◌++◌}
 use Rattle.std.proofs.Common.{true, false, length, get_or, take, drop, append-nil, refl, ap, sym, subst, arith}
-use Rattle.std.specs.Prelude.{Option, Some, None}
-use Rattle.js_base.specs.declared.ids.VarId.{VarId}
 use Rattle.std.proofs.lemmas.List.{take_more, map-append}
 use Rattle.std.proofs.lemmas.List.Sums.{sum_by-cons, sum_by-append}
 use Rattle.std.proofs.lemmas.Bool.{cases_eq, cases_lt}
+use Rattle.std.specs.Prelude.{Option, Some, None}
 use Rattle.host_decl.specs.Hosts.{HostsShape}
 use Rattle.js_base.specs.declared.ids.HostId.{HostId}
 use Rattle.js_base.specs.declared.ids.StmtId.{StmtId}
+use Rattle.js_base.specs.declared.ids.VarId.{VarId}
 use Rattle.jif_tree.specs.declared.program.Stmt.{Stmt}
+use Rattle.need_labels.specs.Needs.{NeedsShape}
 use Rattle.need_labels.specs.Plan.{PlanShape, statement_host}
 use Rattle.msg_cost.specs.declared.around.Around.{Around}
+use Rattle.msg_cost.specs.declared.piece.Piece.{Piece as Kept}
 use Rattle.msg_cost.specs.declared.spot.Spot.{Spot}
 use Rattle.msg_cost.specs.declared.walk_change.Change.{Change}
 use Rattle.msg_cost.specs.Cost.{cost_of}
-use Rattle.msg_cost.specs.Moves.{PlannedShape, on, end_host}
-use Rattle.msg_cost.specs.declared.piece.Piece.{Piece as Kept}
+use Rattle.msg_cost.specs.Moves.{PlannedShape, on, next_spot, straight_to, end_host}
 use Rattle.msg_cost.specs.Pieces.{Given, given_ids, untouched, gives_behind, walk, walk_terms, piece_cost, walk_cost}
 use Rattle.msg_cost.specs.Pieces.{walks_cost}
 use Rattle.msg_cost.specs.PieceViews.{given_of, givens_of, piece_shape, all_pieces}
-use Rattle.msg_cost.specs.Moves.{next_spot, straight_to}
 use Rattle.msg_cost.specs.Terms.{Term, message, leave_terms, move_terms, given_terms}
-use Rattle.need_labels.specs.Needs.{NeedsShape}
 use Rattle.msg_cost.specs.Views.{ids_of, capped}
 use Rattle.msg_cost.specs.Walks.{number_at, spot_behind, under, SameHosts, IsAround, IsMoved, IsChange}
 use Rattle.msg_cost.proofs.Independent.{ReadersStay, Quiet, walk_same}
