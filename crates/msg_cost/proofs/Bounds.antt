@@ -25,10 +25,10 @@ use Rattle.need_labels.specs.Plan.{field_host, statement_host}
 use Rattle.msg_cost.specs.declared.spot.Spot.{Spot}
 use Rattle.msg_cost.specs.Cost.{cost_of}
 use Rattle.msg_cost.specs.Moves.{PlannedShape, link_cost, is_same, on, end_of, next_spot, own_statements, block_end}
-use Rattle.msg_cost.specs.Moves.{home_of, called_home, called_end}
+use Rattle.msg_cost.specs.Moves.{home_of, called_home, called_end, carried_to}
 use Rattle.msg_cost.specs.Terms.{Term, message, exchange, inside, leave_terms, enter_terms, move_terms, expr_terms}
 use Rattle.msg_cost.specs.Terms.{forwards, argument_terms, result_terms, call_terms, block_terms, method_terms}
-use Rattle.msg_cost.specs.Terms.{program_terms, is_other_reader}
+use Rattle.msg_cost.specs.Terms.{program_terms, is_told, given_terms}
 use Rattle.msg_cost.proofs.Sums.{cost-append}
 
 -- the largest weight, and the cost of an exchange of this weight over the costliest links
@@ -145,14 +145,21 @@ sent_small hosts sound weight light host goes (other ∷ others) =
     omega arith
 
 forwards_small : (planned : PlannedShape) → AreHosts planned.hosts → (weight : ℕ) → weight ≤ most_weight →
-    (host : HostId) (x : VarId) → cost_of planned.hosts (forwards planned weight host x) ≤ 16 * most
-forwards_small planned sound weight light host x =
+    (host : HostId) (x : VarId) (carried : Option HostId) →
+    cost_of planned.hosts (forwards planned weight host x carried) ≤ 16 * most
+forwards_small planned sound weight light host x carried =
     let hosts = range_with_len 0 (length planned.hosts.hosts) in
     let many = length-range_with_len 0 (length planned.hosts.hosts) in
     let named = length-map planned.hosts.hosts (λ (one : HostShape). one.name) in
     let few = sound.names.few in
-    let all = sent_small planned.hosts sound weight light host (is_other_reader planned host x) hosts in
+    let all = sent_small planned.hosts sound weight light host (is_told planned host x carried) hosts in
     omega arith
+
+given_small : (planned : PlannedShape) → AreHosts planned.hosts → (weight : ℕ) → weight ≤ most_weight →
+    (host : HostId) (gives : Option VarId) (carried : Option HostId) →
+    cost_of planned.hosts (given_terms planned weight host gives carried) ≤ 16 * most
+given_small planned sound weight light host None carried = omega arith
+given_small planned sound weight light host (Some x) carried = forwards_small planned sound weight light host x carried
 
 -- ---- moves
 
@@ -191,38 +198,34 @@ nodes-cons : (argument : ExprTree) (others : List ExprTree) →
 nodes-cons argument others = sum_by-cons (λ nodes. nodes) (expr_nodes argument) (map expr_nodes others)
 
 arguments_small : (planned : PlannedShape) → AreHosts planned.hosts → (weight : ℕ) → weight ≤ most_weight →
-    (host : HostId) (params : List VarId) (arguments : List ExprTree) →
-    cost_of planned.hosts (argument_terms planned weight host params arguments)
+    (host home : HostId) (params : List VarId) (arguments : List ExprTree) →
+    cost_of planned.hosts (argument_terms planned weight host home params arguments)
     ≤ sum (map expr_nodes arguments) * most + length params * (16 * most)
-arguments_small planned sound weight light host params [] = omega arith
-arguments_small planned sound weight light host [] (argument ∷ others) =
+arguments_small planned sound weight light host home params [] = omega arith
+arguments_small planned sound weight light host home [] (argument ∷ others) =
     let one = expr_small planned sound weight light host argument in
-    let rest = arguments_small planned sound weight light host [] others in
+    let rest = arguments_small planned sound weight light host home [] others in
     let sum_is = cost-append planned.hosts (expr_terms planned weight host argument)
-    (argument_terms planned weight host [] others) in
+    (argument_terms planned weight host home [] others) in
     let nodes = nodes-cons argument others in
     omega arith
-arguments_small planned sound weight light host (param ∷ params) (argument ∷ others) =
+arguments_small planned sound weight light host home (param ∷ params) (argument ∷ others) =
     let one = expr_small planned sound weight light host argument in
-    let sent_on = forwards_small planned sound weight light host param in
-    let rest = arguments_small planned sound weight light host params others in
+    let sent_on = forwards_small planned sound weight light host param (Some home) in
+    let rest = arguments_small planned sound weight light host home params others in
     let first_is = cost-append planned.hosts (expr_terms planned weight host argument)
-    (forwards planned weight host param) in
+    (forwards planned weight host param (Some home)) in
     let sum_is = cost-append planned.hosts
-    (expr_terms planned weight host argument ++ forwards planned weight host param)
-    (argument_terms planned weight host params others) in
+    (expr_terms planned weight host argument ++ forwards planned weight host param (Some home))
+    (argument_terms planned weight host home params others) in
     let nodes = nodes-cons argument others in
     omega arith
 
 result_small : (planned : PlannedShape) → AreHosts planned.hosts → (weight : ℕ) → weight ≤ most_weight →
-    (host end : HostId) (into : Option VarId) →
-    cost_of planned.hosts (result_terms planned weight host end into) ≤ 17 * most
+    (host end : HostId) (into : Option VarId) → cost_of planned.hosts (result_terms weight host end into) ≤ most
 result_small planned sound weight light host end None = omega arith
 result_small planned sound weight light host end (Some x) =
-    let given = exchange_small planned.hosts sound weight light end host in
-    let sent_on = forwards_small planned sound weight light host x in
-    let sum_is = cost-cons planned.hosts (exchange weight end host) (forwards planned weight host x) in
-    omega arith
+    exchange_small planned.hosts sound weight light end host
 
 params_few : (program : ProgramTree) →
     All (λ (method : MethodTree). length method.params ≤ PARAMETERS) program.methods →
@@ -251,21 +254,21 @@ call_small : (planned : PlannedShape) → AreHosts planned.hosts →
     (into : Option VarId) →
     cost_of planned.hosts
     (call_terms planned weight host (slice_get planned.program.methods place) arguments into)
-    ≤ sum (map expr_nodes arguments) * most + 147 * most
+    ≤ sum (map expr_nodes arguments) * most + 131 * most
 call_small planned sound few weight light host place arguments into =
     let called = slice_get planned.program.methods place in
     let home = called_home planned called in
     let end = called_end planned called in
-    let given = argument_terms planned weight host (params_of called) arguments in
+    let given = argument_terms planned weight host home (params_of called) arguments in
     let params = params_few planned.program few called (each_few planned.program.methods few place) in
-    let given_small = arguments_small planned sound weight light host (params_of called) arguments in
+    let given_small = arguments_small planned sound weight light host home (params_of called) arguments in
     let begins = message_small planned.hosts sound weight light host home in
     let ends = message_small planned.hosts sound weight light end host in
     let kept = result_small planned sound weight light host end into in
     let first_is = cost-append planned.hosts given (message weight host home ∷ message weight end host ∷ []) in
     let ends_is = cost-cons planned.hosts (message weight host home) (message weight end host ∷ []) in
     let sum_is = cost-append planned.hosts (given ++ (message weight host home ∷ message weight end host ∷ []))
-    (result_terms planned weight host end into) in
+    (result_terms weight host end into) in
     omega arith
 
 -- ---- blocks
@@ -339,11 +342,13 @@ block_small planned sound few done nodes weight light spot =
 block_small planned sound few (set_local heading x value rest) nodes weight light spot =
     let host = statement_host planned.plan heading.id in
     let next = next_spot planned spot heading.id (own_statements rest) in
-    let own = expr_terms planned weight host value ++ forwards planned weight host x in
+    let carried = carried_to planned next (own_statements rest) in
+    let own = expr_terms planned weight host value ++ forwards planned weight host x carried in
     let here = All-head IsFew (expr_nodes value) (block_nodes rest) nodes in
     let read = expr_small planned sound weight light host value in
-    let sent_on = forwards_small planned sound weight light host x in
-    let sum_is = cost-append planned.hosts (expr_terms planned weight host value) (forwards planned weight host x) in
+    let sent_on = forwards_small planned sound weight light host x carried in
+    let sum_is = cost-append planned.hosts (expr_terms planned weight host value)
+    (forwards planned weight host x carried) in
     step_small planned.hosts (move_terms weight spot next) own (block_terms planned weight next rest)
     (length (block_statements rest)) (moved planned sound weight light spot next) (omega arith)
     (block_small planned sound few rest (All-tail IsFew (expr_nodes value) (block_nodes rest) nodes) weight light next)
@@ -429,10 +434,14 @@ block_small planned sound few (loop heading guard body rest) nodes weight light 
 block_small planned sound few (call heading site method arguments into rest) nodes weight light spot =
     let host = statement_host planned.plan heading.id in
     let next = next_spot planned spot heading.id (own_statements rest) in
-    let own = call_terms planned weight host (method_at planned.program method) arguments into in
+    let carried = carried_to planned next (own_statements rest) in
+    let calling = call_terms planned weight host (method_at planned.program method) arguments into in
+    let own = calling ++ given_terms planned weight host into carried in
     let many = sum (map expr_nodes arguments) in
     let here = All-head IsFew many (block_nodes rest) nodes in
     let called = call_small planned sound few weight light host method.0 arguments into in
+    let sent_on = given_small planned sound weight light host into carried in
+    let sum_is = cost-append planned.hosts calling (given_terms planned weight host into carried) in
     step_small planned.hosts (move_terms weight spot next) own (block_terms planned weight next rest)
     (length (block_statements rest)) (moved planned sound weight light spot next) (omega arith)
     (block_small planned sound few rest (All-tail IsFew many (block_nodes rest) nodes) weight light next)

@@ -1,8 +1,8 @@
 -- What a move changes: the cost of the pieces that depend on the moved part, and of no others.
-use Rattle.std.proofs.Common.{◌≡◌, ◌≢◌, ℕ, ◌+◌, ◌<◌, ◌≤◌, ◌^◌, Bool, true, false, ◌||◌, cond, nat_eq, List, [], ◌∷◌}
+use Rattle.std.proofs.Common.{◌≡◌, ℕ, ◌+◌, ◌<◌, ◌≤◌, ◌^◌, Bool, true, false, cond, nat_eq, List, [], ◌∷◌}
 use Rattle.std.proofs.Common.{map, filter}
 use Rattle.std.proofs.Common.{refl, ap, sym, arith, inl, inr}
-use Rattle.std.proofs.lemmas.Bool.{cases_Bool, eqb-false}
+use Rattle.std.proofs.lemmas.Bool.{cases_Bool}
 use Rattle.host_decl.specs.Hosts.{AreHosts}
 use Rattle.jif_tree.specs.Limits.{IsWithinLimits}
 use Rattle.std.specs.List.{AllByRecursion}
@@ -24,6 +24,9 @@ use Rattle.msg_cost.proofs.Bounds.{program_small}
 use Rattle.msg_cost.proofs.ByPieces.{pieces-cons, by_pieces}
 use Rattle.msg_cost.specs.Walks.{under, SameHosts}
 use Rattle.msg_cost.proofs.Independent.{piece_same}
+use Rattle.msg_cost.proofs.Quiet.{neither, apart, quiet_moved, quiet_all, not_touched, none_touched}
+use Rattle.msg_cost.specs.Touched.{moved_by}
+use Rattle.std.specs.Prelude.{Option, Some, None}
 use Rattle.msg_cost.proofs.Seats.{set_other}
 
 -- ---- sums
@@ -37,54 +40,44 @@ held_back : (test : Piece → Bool) (piece : Piece) (others : List Piece) → te
 held_back test piece others is = ap (λ (b : Bool). cond b (piece ∷ filter test others) (filter test others)) is
 
 -- two sums differ as those of the pieces differ that pass a test, where the others cost the same
-pub parted : (first second : PlannedShape) (test : Piece → Bool) → ((piece : Piece) → test piece ≡ false →
-    piece_cost first piece ≡ piece_cost second piece) → (pieces : List Piece) →
-    pieces_cost second pieces + pieces_cost first (filter test pieces)
-    ≡ pieces_cost first pieces + pieces_cost second (filter test pieces)
-parted first second test same [] = omega arith
-parted first second test same (piece ∷ others) =
-    let rest = parted first second test same others in
-    let one = pieces-cons first piece others in
-    let two = pieces-cons second piece others in
+pub parted : (first second : PlannedShape) (moved : Option StmtId) (test : Piece → Bool) → ((piece : Piece) →
+    test piece ≡ false → piece_cost first moved piece ≡ piece_cost second moved piece) → (pieces : List Piece) →
+    pieces_cost second moved pieces + pieces_cost first moved (filter test pieces)
+    ≡ pieces_cost first moved pieces + pieces_cost second moved (filter test pieces)
+parted first second moved test same [] = omega arith
+parted first second moved test same (piece ∷ others) =
+    let rest = parted first second moved test same others in
+    let one = pieces-cons first moved piece others in
+    let two = pieces-cons second moved piece others in
     elim (cases_Bool (test piece)) [
       | inl is ↦
-          let three = ap (pieces_cost first) (passed test piece others is) in
-          let four = ap (pieces_cost second) (passed test piece others is) in
-          let five = pieces-cons first piece (filter test others) in
-          let six = pieces-cons second piece (filter test others) in
+          let three = ap (pieces_cost first moved) (passed test piece others is) in
+          let four = ap (pieces_cost second moved) (passed test piece others is) in
+          let five = pieces-cons first moved piece (filter test others) in
+          let six = pieces-cons second moved piece (filter test others) in
           omega arith
       | inr is ↦
-          let three = ap (pieces_cost first) (held_back test piece others is) in
-          let four = ap (pieces_cost second) (held_back test piece others is) in
+          let three = ap (pieces_cost first moved) (held_back test piece others is) in
+          let four = ap (pieces_cost second moved) (held_back test piece others is) in
           let five = same piece is in
           omega arith
     ]
 
-pub fewer : (planned : PlannedShape) (test : Piece → Bool) (pieces : List Piece) →
-    pieces_cost planned (filter test pieces) ≤ pieces_cost planned pieces
-fewer planned test [] = omega arith
-fewer planned test (piece ∷ others) =
-    let rest = fewer planned test others in
-    let one = pieces-cons planned piece others in
+pub fewer : (planned : PlannedShape) (moved : Option StmtId) (test : Piece → Bool) (pieces : List Piece) →
+    pieces_cost planned moved (filter test pieces) ≤ pieces_cost planned moved pieces
+fewer planned moved test [] = omega arith
+fewer planned moved test (piece ∷ others) =
+    let rest = fewer planned moved test others in
+    let one = pieces-cons planned moved piece others in
     elim (cases_Bool (test piece)) [
       | inl is ↦
-          let two = ap (pieces_cost planned) (passed test piece others is) in
-          let three = pieces-cons planned piece (filter test others) in
+          let two = ap (pieces_cost planned moved) (passed test piece others is) in
+          let three = pieces-cons planned moved piece (filter test others) in
           omega arith
-      | inr is ↦ let two = ap (pieces_cost planned) (held_back test piece others is) in omega arith
+      | inr is ↦ let two = ap (pieces_cost planned moved) (held_back test piece others is) in omega arith
     ]
 
 -- ---- parts that are not moved
-
-neither : (first second : Bool) → (first || second) ≡ false → (first ≡ false) × (second ≡ false)
-neither false second is = (refl, is)
-neither true second is = absurd (differ is)
-  where
-    differ : true ≡ false → ⊥
-    differ same = cc
-
-apart : (one other : ℕ) → nat_eq one other ≡ false → other ≢ one
-apart one other not same = eqb-false one other not (sym same)
 
 all_stay : (planned : PlannedShape) (moves : Step) (statement : StmtId) (host : HostId) (statements : List StmtId) →
     has_number statement.0 (map (λ one. one.0) statements) ≡ false →
@@ -121,29 +114,35 @@ all_fields_stay planned field host (one ∷ others) not =
 -- a piece that does not depend on the moved part costs the same
 untouched : (planned : PlannedShape) (move : Step) (piece : Piece) →
     has_number (number_of move) (numbers_of (kind_of move) planned.program planned.needs piece) ≡ false →
-    piece_cost planned piece ≡ piece_cost (under planned (moved planned.plan move)) piece
+    piece_cost planned (moved_by move) piece
+    ≡ piece_cost (under planned (moved planned.plan move)) (moved_by move) piece
 untouched planned (step.Field field host) piece not =
     ap (cost_of planned.hosts)
-    (piece_same planned (moved planned.plan (step.Field field host)) piece
+    (piece_same planned (moved planned.plan (step.Field field host)) None piece
+    (quiet_all planned (moved planned.plan (step.Field field host)) (statements_stay planned field host))
+    (none_touched planned piece)
     (all_fields_stay planned field host (fields_of piece) not)
     (statements_stay planned field host (statements_of planned.program planned.needs piece)))
 untouched planned (step.Statement statement host) piece not =
     ap (cost_of planned.hosts)
-    (piece_same planned (moved planned.plan (step.Statement statement host)) piece
+    (piece_same planned (moved planned.plan (step.Statement statement host)) (Some statement) piece
+    (quiet_moved planned (moved planned.plan (step.Statement statement host)) statement (λ other apart.
+    set_other planned.plan.statements statement.0 other.0 host (λ same. apart (sym same))))
+    (not_touched planned statement piece not)
     (fields_stay planned statement host (fields_of piece))
     (all_stay planned (step.Statement statement host) statement host
     (statements_of planned.program planned.needs piece) not))
 
 -- what a move changes is what the pieces that depend on the part come to
 pub changed : (planned : PlannedShape) (move : Step) (pieces : List Piece) →
-    pieces_cost (under planned (moved planned.plan move)) pieces
-    + pieces_cost planned
+    pieces_cost (under planned (moved planned.plan move)) (moved_by move) pieces
+    + pieces_cost planned (moved_by move)
     (pieces_with (numbers_of (kind_of move) planned.program planned.needs) (number_of move) pieces)
-    ≡ pieces_cost planned pieces
-    + pieces_cost (under planned (moved planned.plan move))
+    ≡ pieces_cost planned (moved_by move) pieces
+    + pieces_cost (under planned (moved planned.plan move)) (moved_by move)
     (pieces_with (numbers_of (kind_of move) planned.program planned.needs) (number_of move) pieces)
 changed planned move pieces =
-    parted planned (under planned (moved planned.plan move))
+    parted planned (under planned (moved planned.plan move)) (moved_by move)
     (λ piece. has_number (number_of move) (numbers_of (kind_of move) planned.program planned.needs piece))
     (untouched planned move) pieces
 
@@ -151,11 +150,12 @@ changed planned move pieces =
 
 -- some pieces of a program within the limits cost little
 pub row_small : (planned : PlannedShape) → AreHosts planned.hosts → IsWithinLimits planned.program →
-    (test : Piece → Bool) (row : List Piece) → row ≡ filter test (program_pieces planned.program) → (total : ℕ) →
-    total ≡ capped (pieces_cost planned row) → (total ≡ pieces_cost planned row) × (total < 2 ^ 62)
-row_small planned sound sized test row is total counted =
+    (part : Option StmtId) (test : Piece → Bool) (row : List Piece) →
+    row ≡ filter test (program_pieces planned.program) → (total : ℕ) →
+    total ≡ capped (pieces_cost planned part row) → (total ≡ pieces_cost planned part row) × (total < 2 ^ 62)
+row_small planned sound sized part test row is total counted =
     let all = program_small planned sound sized in
-    let parts = by_pieces planned in
-    let some = fewer planned test (program_pieces planned.program) in
-    let same = ap (pieces_cost planned) is in
+    let parts = by_pieces planned part in
+    let some = fewer planned part test (program_pieces planned.program) in
+    let same = ap (pieces_cost planned part) is in
     (omega arith, omega arith)

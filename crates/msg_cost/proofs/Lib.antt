@@ -12,8 +12,9 @@ pub mod Between
 pub mod ByPieces
 pub mod Seats
 pub mod PieceWalks
-pub mod PieceSums
 pub mod Independent
+pub mod Quiet
+pub mod Riding
 pub mod Spots
 pub mod WalkChanges
 pub mod Ascending

@@ -18,7 +18,7 @@ use Rattle.msg_cost.specs.declared.piece.Piece.{Piece as Kept}
 use Rattle.msg_cost.specs.Pieces.{Piece}
 use Rattle.msg_cost.specs.PieceViews.{piece_shape, all_pieces}
 use Rattle.msg_cost.specs.Rows.{has_number, AreRows, AreNoted, rows_of}
-use Rattle.msg_cost.specs.Touches.{statements_of_method}
+use Rattle.msg_cost.specs.Touches.{head_of_method, statements_of_method}
 use Rattle.msg_cost.specs.Views.{ids_of}
 use Rattle.msg_cost.proofs.Statements.{own_ids}
 
@@ -196,6 +196,23 @@ pub method_absent : (methods : List Method) (number : ℕ) (old : List ℕ) → 
 method_absent methods number old none =
     let P : Option MethodTree → Type 0 = λ one. old ≡ old ++ map (λ statement. statement.0)
     (statements_of_method one) in
+    let there : slice_get (map method_tree methods) number ≡ None =
+    slice_get-map method_tree methods number ∙ ap (option_map method_tree) none in
+    subst P (sym there) (sym (append-nil old))
+
+pub head_added : (methods : List Method) (number : ℕ) (called : Method) (old next : List ℕ) →
+    slice_get methods number ≡ Some called → next ≡ old ++ called.head.0 ∷ [] →
+    next ≡ old ++ map (λ statement. statement.0) (head_of_method (slice_get (map method_tree methods) number))
+head_added methods number called old next found is =
+    let P : Option MethodTree → Type 0 = λ one. next ≡ old ++ map (λ statement. statement.0) (head_of_method one) in
+    let there : slice_get (map method_tree methods) number ≡ Some (method_tree called) =
+    slice_get-map method_tree methods number ∙ ap (option_map method_tree) found in
+    subst P (sym there) is
+
+pub head_absent : (methods : List Method) (number : ℕ) (old : List ℕ) → slice_get methods number ≡ None →
+    old ≡ old ++ map (λ statement. statement.0) (head_of_method (slice_get (map method_tree methods) number))
+head_absent methods number old none =
+    let P : Option MethodTree → Type 0 = λ one. old ≡ old ++ map (λ statement. statement.0) (head_of_method one) in
     let there : slice_get (map method_tree methods) number ≡ None =
     slice_get-map method_tree methods number ∙ ap (option_map method_tree) none in
     subst P (sym there) (sym (append-nil old))

@@ -25,12 +25,12 @@ use Rattle.msg_cost.specs.declared.spot.Spot.{Spot}
 use Rattle.msg_cost.specs.Cost.{cost_of}
 use Rattle.msg_cost.specs.CostLaws.{StandsOn}
 use Rattle.msg_cost.specs.Moves.{PlannedShape, link_cost, on, end_host, next_spot, own_statements, block_end}
-use Rattle.msg_cost.specs.Moves.{called_home, called_end}
+use Rattle.msg_cost.specs.Moves.{called_home, called_end, carried_to}
 use Rattle.msg_cost.specs.Terms.{Term, message, exchange, inside, move_terms, expr_terms, reads_on, forwards}
-use Rattle.msg_cost.specs.Terms.{is_other_reader}
+use Rattle.msg_cost.specs.Terms.{is_other_reader, is_told, given_terms}
 use Rattle.msg_cost.specs.Terms.{argument_terms, result_terms, call_terms, block_terms, method_terms, program_terms}
 use Rattle.msg_cost.proofs.Bounds.{decided, no_row, all_left, all_right}
-use Rattle.msg_cost.proofs.Forwards.{not_reading, the_sender}
+use Rattle.msg_cost.proofs.Forwards.{not_reading, the_sender, none_told}
 use Rattle.msg_cost.proofs.Sums.{cost-append}
 use Rattle.msg_cost.proofs.Walks.{stays, unmoved}
 
@@ -134,39 +134,43 @@ none_pass : (test : ℕ → Bool) → ((one : ℕ) → test one ≡ false) → (
 none_pass test none [] = refl
 none_pass test none (x ∷ xs) = ap (λ b. cond b (x ∷ filter test xs) (filter test xs)) (none x) ∙ none_pass test none xs
 
-forwards_none : (planned : PlannedShape) (host : HostId) → StandsOn planned host → (x : VarId) (weight : ℕ) →
-    cost_of planned.hosts (forwards planned weight host x) ≡ 0
-forwards_none planned host stands x weight =
+forwards_none : (planned : PlannedShape) (host : HostId) → StandsOn planned host → (x : VarId)
+    (carried : Option HostId) (weight : ℕ) → cost_of planned.hosts (forwards planned weight host x carried) ≡ 0
+forwards_none planned host stands x carried weight =
     let send : ℕ → Term = λ other. exchange weight host (record { 0 = other }) in
     ap (λ others. cost_of planned.hosts (map send others))
-    (none_pass (is_other_reader planned host x) (gets_nothing planned host stands x)
+    (none_pass (is_told planned host x carried)
+    (λ other. none_told planned host x carried other (gets_nothing planned host stands x other))
     (range_with_len 0 (length planned.hosts.hosts)))
+
+given_none : (planned : PlannedShape) (host : HostId) → StandsOn planned host → (gives : Option VarId)
+    (carried : Option HostId) (weight : ℕ) → cost_of planned.hosts (given_terms planned weight host gives carried) ≡ 0
+given_none planned host stands None carried weight = refl
+given_none planned host stands (Some x) carried weight = forwards_none planned host stands x carried weight
 
 -- ---- calls
 
 arguments_none : (planned : PlannedShape) → AreHosts planned.hosts → (host : HostId) → StandsOn planned host →
-    (method : MethodId) (params : List VarId) (arguments : List ExprTree) →
+    (method : MethodId) (home : HostId) (params : List VarId) (arguments : List ExprTree) →
     AllByRecursion (IsExprIn planned.program method) arguments → (weight : ℕ) →
-    cost_of planned.hosts (argument_terms planned weight host params arguments) ≡ 0
-arguments_none planned sound host stands method params [] there weight = refl
-arguments_none planned sound host stands method [] (argument ∷ others) there weight =
-    both_none planned.hosts (expr_terms planned weight host argument) (argument_terms planned weight host [] others)
+    cost_of planned.hosts (argument_terms planned weight host home params arguments) ≡ 0
+arguments_none planned sound host stands method home params [] there weight = refl
+arguments_none planned sound host stands method home [] (argument ∷ others) there weight =
+    both_none planned.hosts (expr_terms planned weight host argument) (argument_terms planned weight host home [] others)
     (expr_none planned sound host stands method argument there.0 weight)
-    (arguments_none planned sound host stands method [] others there.1 weight)
-arguments_none planned sound host stands method (param ∷ params) (argument ∷ others) there weight =
-    both_none planned.hosts (expr_terms planned weight host argument ++ forwards planned weight host param)
-    (argument_terms planned weight host params others)
-    (both_none planned.hosts (expr_terms planned weight host argument) (forwards planned weight host param)
+    (arguments_none planned sound host stands method home [] others there.1 weight)
+arguments_none planned sound host stands method home (param ∷ params) (argument ∷ others) there weight =
+    both_none planned.hosts (expr_terms planned weight host argument ++ forwards planned weight host param (Some home))
+    (argument_terms planned weight host home params others)
+    (both_none planned.hosts (expr_terms planned weight host argument) (forwards planned weight host param (Some home))
     (expr_none planned sound host stands method argument there.0 weight)
-    (forwards_none planned host stands param weight))
-    (arguments_none planned sound host stands method params others there.1 weight)
+    (forwards_none planned host stands param (Some home) weight))
+    (arguments_none planned sound host stands method home params others there.1 weight)
 
-result_none : (planned : PlannedShape) → AreHosts planned.hosts → (host : HostId) → StandsOn planned host →
-    (into : Option VarId) (weight : ℕ) → cost_of planned.hosts (result_terms planned weight host host into) ≡ 0
-result_none planned sound host stands None weight = refl
-result_none planned sound host stands (Some x) weight =
-    both_none planned.hosts (exchange weight host host ∷ []) (forwards planned weight host x)
-    (exchange_none planned.hosts sound weight host) (forwards_none planned host stands x weight)
+result_none : (planned : PlannedShape) → AreHosts planned.hosts → (host : HostId) (into : Option VarId) (weight : ℕ) →
+    cost_of planned.hosts (result_terms weight host host into) ≡ 0
+result_none planned sound host None weight = refl
+result_none planned sound host (Some x) weight = exchange_none planned.hosts sound weight host
 
 abbrev IsOn : PlannedShape → HostId → ℕ → Type 0
 IsOn planned host place = statement_host planned.plan (record { 0 = place }) ≡ host
@@ -271,22 +275,22 @@ call_none : (planned : PlannedShape) → AreHosts planned.hosts → (host : Host
     cost_of planned.hosts (call_terms planned weight host (method_at planned.program called) arguments into) ≡ 0
 call_none planned sound host stands method called arguments into there all weight =
     let tree = method_at planned.program called in
-    let given = argument_terms planned weight host (params_of tree) arguments in
+    let given = argument_terms planned weight host (called_home planned tree) (params_of tree) arguments in
     let P : HostId → Type 0 = λ home. cost_of planned.hosts (message weight host home ∷ []) ≡ 0 in
     let Q : HostId → Type 0 = λ end. cost_of planned.hosts (message weight end host ∷ []) ≡ 0 in
-    let R : HostId → Type 0 = λ end. cost_of planned.hosts (result_terms planned weight host end into) ≡ 0 in
+    let R : HostId → Type 0 = λ end. cost_of planned.hosts (result_terms weight host end into) ≡ 0 in
     let home_is = home_on planned host stands (length arguments) (is_some into) called there in
     let end_is = end_on planned host stands (length arguments) (is_some into) called there in
     let alone = message_none planned.hosts sound weight host in
     both_none planned.hosts
     (given ++ (message weight host (called_home planned tree) ∷ message weight (called_end planned tree) host ∷ []))
-    (result_terms planned weight host (called_end planned tree) into)
+    (result_terms weight host (called_end planned tree) into)
     (both_none planned.hosts given
     (message weight host (called_home planned tree) ∷ message weight (called_end planned tree) host ∷ [])
-    (arguments_none planned sound host stands method (params_of tree) arguments all weight)
+    (arguments_none planned sound host stands method (called_home planned tree) (params_of tree) arguments all weight)
     (both_none planned.hosts (message weight host (called_home planned tree) ∷ [])
     (message weight (called_end planned tree) host ∷ []) (subst P (sym home_is) alone) (subst Q (sym end_is) alone)))
-    (subst R (sym end_is) (result_none planned sound host stands into weight))
+    (subst R (sym end_is) (result_none planned sound host into weight))
 
 -- ---- blocks
 
@@ -326,11 +330,14 @@ block_none : (planned : PlannedShape) → AreHosts planned.hosts → (host : Hos
 block_none planned sound host stands method gives done there all weight = refl
 block_none planned sound host stands method gives (set_local heading x value rest) there all weight =
     let P = IsOn planned host in
+    let carried = carried_to planned (next_spot planned (on host) heading.id (own_statements rest))
+    (own_statements rest) in
     step_none planned host heading.id
-    (λ one. expr_terms planned weight one value ++ forwards planned weight one x) weight rest
+    (λ one. expr_terms planned weight one value ++ forwards planned weight one x carried) weight rest
     (All-head P heading.id.0 (block_statements rest) all)
-    (both_none planned.hosts (expr_terms planned weight host value) (forwards planned weight host x)
-    (expr_none planned sound host stands method value there.1 weight) (forwards_none planned host stands x weight))
+    (both_none planned.hosts (expr_terms planned weight host value) (forwards planned weight host x carried)
+    (expr_none planned sound host stands method value there.1 weight)
+    (forwards_none planned host stands x carried weight))
     (block_none planned sound host stands method gives rest there.2
     (All-tail P heading.id.0 (block_statements rest) all) weight)
 block_none planned sound host stands method gives (set_field heading field value rest) there all weight =
@@ -402,10 +409,16 @@ block_none planned sound host stands method gives (loop heading guard body rest)
     (all_right P (block_statements body) (block_statements rest) others) weight)
 block_none planned sound host stands method gives (call heading site called arguments into rest) there all weight =
     let P = IsOn planned host in
+    let carried = carried_to planned (next_spot planned (on host) heading.id (own_statements rest))
+    (own_statements rest) in
     step_none planned host heading.id
-    (λ one. call_terms planned weight one (method_at planned.program called) arguments into) weight rest
+    (λ one. call_terms planned weight one (method_at planned.program called) arguments into
+    ++ given_terms planned weight one into carried) weight rest
     (All-head P heading.id.0 (block_statements rest) all)
+    (both_none planned.hosts (call_terms planned weight host (method_at planned.program called) arguments into)
+    (given_terms planned weight host into carried)
     (call_none planned sound host stands method called arguments into there.0 there.1 weight)
+    (given_none planned host stands into carried weight))
     (block_none planned sound host stands method gives rest there.3
     (All-tail P heading.id.0 (block_statements rest) all) weight)
 block_none planned sound host stands method gives (give_back heading value rest) there all weight =

@@ -22,7 +22,7 @@ id_there block place statement within is =
     ∙ ap (λ (one : Stmt). one.id) (sym is)
 
 -- a walk stands on the host of the statement that it went over last
-stands_on : (planned : PlannedShape) (spot : Spot) (block : List Stmt) (place : ℕ) (statement : Stmt) →
+pub stands_on : (planned : PlannedShape) (spot : Spot) (block : List Stmt) (place : ℕ) (statement : Stmt) →
     place < length block → statement ≡ get_or block place statement →
     (spot_behind planned spot (ids_of block) (suc place)).host ≡ statement_host planned.plan statement.id
 stands_on planned spot block place statement within is =

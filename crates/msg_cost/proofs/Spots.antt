@@ -6,24 +6,27 @@ use Rattle.std.specs.Prelude.{Option, Some, None, if◌then◌else◌}
 use Rattle.std.proofs.lemmas.Bool.{cases_Bool, cases_eq, eqb-true, eq-eqb}
 use Rattle.js_base.specs.declared.ids.HostId.{HostId}
 use Rattle.js_base.specs.declared.ids.StmtId.{StmtId}
+use Rattle.js_base.specs.declared.ids.VarId.{VarId}
 use Rattle.need_labels.specs.Plan.{PlanShape, statement_host}
 use Rattle.msg_cost.specs.declared.spot.Spot.{Spot}
 use Rattle.msg_cost.specs.Moves.{PlannedShape, is_same, is_trusted_for, is_trusted_for_all, host_behind}
 use Rattle.msg_cost.specs.Moves.{return_host, on}
 use Rattle.msg_cost.specs.Moves.{end_of, entered, next_spot, end_host}
-use Rattle.msg_cost.specs.Pieces.{walk_terms}
-use Rattle.msg_cost.specs.Terms.{Term, move_terms}
+use Rattle.msg_cost.specs.Moves.{straight_to}
+use Rattle.msg_cost.specs.Pieces.{Given, given_ids, untouched, gives_behind, walk_terms}
+use Rattle.msg_cost.specs.Terms.{Term, move_terms, given_terms}
 use Rattle.msg_cost.specs.Walks.{spot_behind, under, SameHosts}
+use Rattle.msg_cost.proofs.Independent.{ReadersStay, Quiet, given_same}
 
 -- ---- choices
 
 -- what holds of both choices holds of the one that a test makes
-chosen : (test : Bool) (P : Spot → Type 0) (first second : Spot) → (test ≡ true → P first) →
+pub chosen : (test : Bool) (P : Spot → Type 0) (first second : Spot) → (test ≡ true → P first) →
     (test ≡ false → P second) → P (if test then first else second)
 chosen true P first second one other = one refl
 chosen false P first second one other = other refl
 
-same_host : (first second : HostId) → is_same first second ≡ true → first ≡ second
+pub same_host : (first second : HostId) → is_same first second ≡ true → first ≡ second
 same_host first second is = ap (λ (number : ℕ). record { 0 = number }) (eqb-true first.0 second.0 is)
 
 -- ---- hosts of spots
@@ -36,7 +39,7 @@ entered_host planned from host statements =
     (λ is. chosen (is_trusted_for_all planned host statements) Stands _ _ (λ is. refl) (λ is. refl))
 
 -- a statement runs on the host on which it stands
-next_host : (planned : PlannedShape) (spot : Spot) (statement : StmtId) (others : List StmtId) →
+pub next_host : (planned : PlannedShape) (spot : Spot) (statement : StmtId) (others : List StmtId) →
     (next_spot planned spot statement others).host ≡ statement_host planned.plan statement
 next_host planned spot statement others =
     let host = statement_host planned.plan statement in
@@ -61,25 +64,31 @@ spot_host planned spot (statement ∷ others) (suc place) d within =
 
 -- ---- walks in two parts
 
--- the moves over the first statements, so many
-abbrev pub moves_behind : PlannedShape → ℕ → Spot → List StmtId → ℕ → List Term
-moves_behind planned weight spot own zero = []
-moves_behind planned weight spot [] (suc count) = []
-moves_behind planned weight spot (statement ∷ others) (suc count) =
-    let next = next_spot planned spot statement others in
-    move_terms weight spot next ++ moves_behind planned weight next others count
+-- the moves over the first statements, so many, without what the last of them gives
+abbrev pub moves_behind : PlannedShape → Option StmtId → ℕ → Spot → Option VarId → List Given → ℕ → List Term
+moves_behind planned moved weight spot gives own zero = []
+moves_behind planned moved weight spot gives [] (suc count) = []
+moves_behind planned moved weight spot gives (given ∷ others) (suc count) =
+    let next = next_spot planned spot given.id (given_ids others) in
+    (given_terms planned weight spot.host gives (straight_to spot next) ++ move_terms weight spot next)
+    ++ moves_behind planned moved weight next (untouched planned.needs moved given) others count
 
-pub walk_parts : (planned : PlannedShape) (weight : ℕ) (spot : Spot) (own : List StmtId) (count : ℕ) →
-    walk_terms planned weight spot own
-    ≡ moves_behind planned weight spot own count
-    ++ walk_terms planned weight (spot_behind planned spot own count) (drop count own)
-walk_parts planned weight spot own zero = refl
-walk_parts planned weight spot [] (suc count) = refl
-walk_parts planned weight spot (statement ∷ others) (suc count) =
-    let next = next_spot planned spot statement others in
-    ap (λ (rest : List Term). move_terms weight spot next ++ rest) (walk_parts planned weight next others count)
-    ∙ sym (append_assoc (move_terms weight spot next) (moves_behind planned weight next others count)
-    (walk_terms planned weight (spot_behind planned next others count) (drop count others)))
+pub walk_parts : (planned : PlannedShape) (moved : Option StmtId) (weight : ℕ) (spot : Spot) (gives : Option VarId)
+    (own : List Given) (count : ℕ) →
+    walk_terms planned moved weight spot gives own
+    ≡ moves_behind planned moved weight spot gives own count
+    ++ walk_terms planned moved weight (spot_behind planned spot (given_ids own) count)
+    (gives_behind planned.needs moved gives own count) (drop count own)
+walk_parts planned moved weight spot gives own zero = refl
+walk_parts planned moved weight spot gives [] (suc count) = refl
+walk_parts planned moved weight spot gives (given ∷ others) (suc count) =
+    let next = next_spot planned spot given.id (given_ids others) in
+    let first = given_terms planned weight spot.host gives (straight_to spot next) ++ move_terms weight spot next in
+    let left = untouched planned.needs moved given in
+    ap (λ (rest : List Term). first ++ rest) (walk_parts planned moved weight next left others count)
+    ∙ sym (append_assoc first (moves_behind planned moved weight next left others count)
+    (walk_terms planned moved weight (spot_behind planned next (given_ids others) count)
+    (gives_behind planned.needs moved left others count) (drop count others)))
 
 -- a walk ends where it stands behind all statements
 pub ends_behind : (planned : PlannedShape) (spot : Spot) (own : List StmtId) →
@@ -126,7 +135,7 @@ next_not_lent planned host spot statement others trusted not =
           (sym (ap (λ (one : HostId). one.0) (next_host planned spot statement others)) ∙ same))
     ]
 
-tail_trusted : (first rest : Bool) → (first && rest) ≡ true → rest ≡ true
+pub tail_trusted : (first rest : Bool) → (first && rest) ≡ true → rest ≡ true
 tail_trusted true rest is = is
 tail_trusted false rest is = absurd (cc)
 
@@ -262,25 +271,37 @@ next_before planned plan spot statement others count here same alone =
         same alone
 
 -- the first statements, so many, cost the same under two plans, and lead to the same spot
-pub record IsSameBefore (planned : PlannedShape) (plan : PlanShape) (weight : ℕ) (spot : Spot) (own : List StmtId)
-    (count : ℕ) : Type 0 where
-  pub at : spot_behind planned spot own count ≡ spot_behind (under planned plan) spot own count
-  pub moves : moves_behind planned weight spot own count ≡ moves_behind (under planned plan) weight spot own count
+pub record IsSameBefore (planned : PlannedShape) (plan : PlanShape) (moved : Option StmtId) (weight : ℕ) (spot : Spot)
+    (gives : Option VarId) (own : List Given) (count : ℕ) : Type 0 where
+  pub at : spot_behind planned spot (given_ids own) count ≡ spot_behind (under planned plan) spot (given_ids own) count
+  pub moves : moves_behind planned moved weight spot gives own count
+      ≡ moves_behind (under planned plan) moved weight spot gives own count
 
 -- They do where they stand on the same hosts, and the walk comes to the spot of a host alone.
-pub same_before : (planned : PlannedShape) (plan : PlanShape) (weight : ℕ) (spot : Spot) (own : List StmtId)
-    (count : ℕ) → SameHosts planned plan (take count own) → (spot_behind planned spot own count).back ≡ None →
-    IsSameBefore planned plan weight spot own count
-same_before planned plan weight spot own zero same alone = record { at = refl; moves = refl }
-same_before planned plan weight spot [] (suc count) same alone = record { at = refl; moves = refl }
-same_before planned plan weight spot (statement ∷ others) (suc count) same alone =
-    let next = next_spot planned spot statement others in
-    let moved = under planned plan in
-    let is : next ≡ next_spot moved spot statement others =
-    next_before planned plan spot statement others count same.0 same.1 alone in
-    let rest = same_before planned plan weight next others count same.1 alone in
+pub same_before : (planned : PlannedShape) (plan : PlanShape) (moved : Option StmtId) (weight : ℕ) (spot : Spot)
+    (gives : Option VarId) (own : List Given) (count : ℕ) → Quiet planned plan moved → ReadersStay planned plan gives →
+    SameHosts planned plan (take count (given_ids own)) →
+    (spot_behind planned spot (given_ids own) count).back ≡ None →
+    IsSameBefore planned plan moved weight spot gives own count
+same_before planned plan moved weight spot gives own zero quiet stay same alone = record { at = refl; moves = refl }
+same_before planned plan moved weight spot gives [] (suc count) quiet stay same alone =
+    record { at = refl; moves = refl }
+same_before planned plan moved weight spot gives (given ∷ others) (suc count) quiet stay same alone =
+    let next = next_spot planned spot given.id (given_ids others) in
+    let behind = under planned plan in
+    let left = untouched planned.needs moved given in
+    let is : next ≡ next_spot behind spot given.id (given_ids others) =
+    next_before planned plan spot given.id (given_ids others) count same.0 same.1 alone in
+    let rest = same_before planned plan moved weight next left others count quiet (quiet given) same.1 alone in
     record {
-      at = rest.at ∙ ap (λ (one : Spot). spot_behind moved one others count) is;
-      moves = ap (λ (left : List Term). move_terms weight spot next ++ left) rest.moves
-          ∙ ap (λ (one : Spot). move_terms weight spot one ++ moves_behind moved weight one others count) is;
+      at = rest.at ∙ ap (λ (one : Spot). spot_behind behind one (given_ids others) count) is;
+      moves = ap (λ (more : List Term).
+          (given_terms planned weight spot.host gives (straight_to spot next) ++ move_terms weight spot next) ++ more)
+          rest.moves
+          ∙ ap (λ (terms : List Term). (terms ++ move_terms weight spot next)
+          ++ moves_behind behind moved weight next left others count)
+          (given_same planned plan weight spot.host gives (straight_to spot next) stay)
+          ∙ ap (λ (one : Spot).
+          (given_terms behind weight spot.host gives (straight_to spot one) ++ move_terms weight spot one)
+          ++ moves_behind behind moved weight one left others count) is;
     }

@@ -16,13 +16,15 @@ use Rattle.msg_cost.specs.declared.step.Step.TheVariants as step
 use Rattle.msg_cost.specs.declared.walk_change.Change.{Change}
 use Rattle.msg_cost.specs.Cost.{cost_of}
 use Rattle.msg_cost.specs.Moves.{PlannedShape}
-use Rattle.msg_cost.specs.Pieces.{Piece, access, giving, calling, walk, ending, piece_cost, pieces_cost, walk_cost}
+use Rattle.msg_cost.specs.Pieces.{Piece, access, giving, passing, calling, walk, ending, piece_cost, pieces_cost}
+use Rattle.msg_cost.specs.Pieces.{walk_cost}
 use Rattle.msg_cost.specs.Pieces.{walks_cost, other_cost, others_cost, program_pieces}
 use Rattle.msg_cost.specs.PieceViews.{all_pieces}
 use Rattle.msg_cost.specs.Rows.{HasRows, AreRows, rows_of, numbers_of, pieces_with, kind_of, number_of}
 use Rattle.msg_cost.specs.Steps.{moved}
 use Rattle.msg_cost.specs.Terms.{program_terms}
-use Rattle.msg_cost.specs.Touched.{row_others, touched_others}
+use Rattle.msg_cost.specs.Touched.{moved_by, row_others, touched_others}
+use Rattle.msg_cost.proofs.Quiet.{quiet_all}
 use Rattle.msg_cost.specs.Touches.{statements_of}
 use Rattle.msg_cost.specs.Views.{capped}
 use Rattle.msg_cost.specs.Walks.{under, IsMoved, IsChange}
@@ -79,63 +81,66 @@ touched_are planned index is (step.Statement statement host) =
 
 -- ---- walks and other pieces
 
-one_or_other : (planned : PlannedShape) (piece : Piece) →
-    walk_cost planned piece + other_cost planned piece ≡ piece_cost planned piece
-one_or_other planned (access weight statement field) = omega arith
-one_or_other planned (giving weight statement x) = omega arith
-one_or_other planned (calling weight statement method kept) = omega arith
-one_or_other planned (walk weight home nested own) = omega arith
-one_or_other planned (ending method) = omega arith
+one_or_other : (planned : PlannedShape) (part : Option StmtId) (piece : Piece) →
+    walk_cost planned part piece + other_cost planned part piece ≡ piece_cost planned part piece
+one_or_other planned part (access weight statement field) = omega arith
+one_or_other planned part (giving weight statement x home own place) = omega arith
+one_or_other planned part (passing weight statement method x) = omega arith
+one_or_other planned part (calling weight statement method kept) = omega arith
+one_or_other planned part (walk weight home nested own) = omega arith
+one_or_other planned part (ending method) = omega arith
 
-both_kinds : (planned : PlannedShape) (pieces : List Piece) →
-    walks_cost planned pieces + others_cost planned pieces ≡ pieces_cost planned pieces
-both_kinds planned [] = omega arith
-both_kinds planned (piece ∷ others) =
-    let one = one_or_other planned piece in
-    let rest = both_kinds planned others in
-    let walks = sum_by-cons (walk_cost planned) piece others in
-    let other = sum_by-cons (other_cost planned) piece others in
-    let all = sum_by-cons (piece_cost planned) piece others in
+both_kinds : (planned : PlannedShape) (part : Option StmtId) (pieces : List Piece) →
+    walks_cost planned part pieces + others_cost planned part pieces ≡ pieces_cost planned part pieces
+both_kinds planned part [] = omega arith
+both_kinds planned part (piece ∷ others) =
+    let one = one_or_other planned part piece in
+    let rest = both_kinds planned part others in
+    let walks = sum_by-cons (walk_cost planned part) piece others in
+    let other = sum_by-cons (other_cost planned part) piece others in
+    let all = sum_by-cons (piece_cost planned part) piece others in
     omega arith
 
 -- what the walks of a row cost, nothing where there is no such row
-abbrev row_walks : PlannedShape → List (Vec Kept) → ℕ → ℕ
-row_walks planned rows number =
-    unwrap_or (option_map (λ row. walks_cost planned (all_pieces row.items)) (slice_get rows number)) 0
+abbrev row_walks : PlannedShape → Option StmtId → List (Vec Kept) → ℕ → ℕ
+row_walks planned part rows number =
+    unwrap_or (option_map (λ row. walks_cost planned part (all_pieces row.items)) (slice_get rows number)) 0
 
 abbrev pub touched_walks : PlannedShape → Index → Step → ℕ
-touched_walks planned index (step.Field field host) = row_walks planned index.fields.items field.0
-touched_walks planned index (step.Statement statement host) = row_walks planned index.statements.items statement.0
+touched_walks planned index (step.Field field host) = row_walks planned None index.fields.items field.0
+touched_walks planned index (step.Statement statement host) =
+    row_walks planned (Some statement) index.statements.items statement.0
 
-row_parts : (planned : PlannedShape) (rows : List (Vec Kept)) (number : ℕ) →
-    row_walks planned rows number + row_others planned rows number
-    ≡ pieces_cost planned (row_or_all rows number (program_pieces planned.program))
-row_parts planned [] number = omega arith
-row_parts planned (row ∷ rows) zero = both_kinds planned (all_pieces row.items)
-row_parts planned (row ∷ rows) (suc number) = row_parts planned rows number
+row_parts : (planned : PlannedShape) (part : Option StmtId) (rows : List (Vec Kept)) (number : ℕ) →
+    row_walks planned part rows number + row_others planned part rows number
+    ≡ pieces_cost planned part (row_or_all rows number (program_pieces planned.program))
+row_parts planned part [] number = omega arith
+row_parts planned part (row ∷ rows) zero = both_kinds planned part (all_pieces row.items)
+row_parts planned part (row ∷ rows) (suc number) = row_parts planned part rows number
 
 touched_parts : (planned : PlannedShape) (index : Index) (move : Step) →
     touched_walks planned index move + touched_others planned index move
-    ≡ pieces_cost planned (touched_pieces planned index move)
-touched_parts planned index (step.Field field host) = row_parts planned index.fields.items field.0
-touched_parts planned index (step.Statement statement host) = row_parts planned index.statements.items statement.0
+    ≡ pieces_cost planned (moved_by move) (touched_pieces planned index move)
+touched_parts planned index (step.Field field host) = row_parts planned None index.fields.items field.0
+touched_parts planned index (step.Statement statement host) =
+    row_parts planned (Some statement) index.statements.items statement.0
 
 -- ---- costs
 
 all_small : (planned : PlannedShape) → AreHosts planned.hosts → IsWithinLimits planned.program →
     (index : Index) → HasRows planned.program planned.needs index → (move : Step) →
-    pieces_cost planned (touched_pieces planned index move) < 2 ^ 62
+    pieces_cost planned (moved_by move) (touched_pieces planned index move) < 2 ^ 62
 all_small planned sound sized index is move = elim (touched_are planned index is move) [
   | inl row ↦
-      let counted = row_small planned sound sized _ (touched_pieces planned index move) row
-      (capped (pieces_cost planned (touched_pieces planned index move))) refl in
+      let counted = row_small planned sound sized (moved_by move) _ (touched_pieces planned index move) row
+      (capped (pieces_cost planned (moved_by move) (touched_pieces planned index move))) refl in
       let same = counted.0 in
       let small = counted.1 in
       omega arith
   | inr all ↦
       let whole = program_small planned sound sized in
-      let parts = by_pieces planned in
-      let same = ap (pieces_cost planned) all in
+      let parts = by_pieces planned (moved_by move) in
+      let same = ap (pieces_cost planned (moved_by move)) all in
       omega arith
 ]
 
@@ -152,22 +157,22 @@ others_small planned sound sized index is move total counted =
 touched_changed : (planned : PlannedShape) (index : Index) → HasRows planned.program planned.needs index →
     (move : Step) →
     cost_of planned.hosts (program_terms (under planned (moved planned.plan move)))
-    + pieces_cost planned (touched_pieces planned index move)
+    + pieces_cost planned (moved_by move) (touched_pieces planned index move)
     ≡ cost_of planned.hosts (program_terms planned)
-    + pieces_cost (under planned (moved planned.plan move)) (touched_pieces planned index move)
+    + pieces_cost (under planned (moved planned.plan move)) (moved_by move) (touched_pieces planned index move)
 touched_changed planned index is move =
     let then = under planned (moved planned.plan move) in
-    let parts = by_pieces planned in
-    let then_parts = by_pieces then in
+    let parts = by_pieces planned (moved_by move) in
+    let then_parts = by_pieces then (moved_by move) in
     elim (touched_are planned index is move) [
       | inl row ↦
           let change = changed planned move (program_pieces planned.program) in
-          let same = ap (pieces_cost planned) row in
-          let then_same = ap (pieces_cost then) row in
+          let same = ap (pieces_cost planned (moved_by move)) row in
+          let then_same = ap (pieces_cost then (moved_by move)) row in
           omega arith
       | inr all ↦
-          let same = ap (pieces_cost planned) all in
-          let then_same = ap (pieces_cost then) all in
+          let same = ap (pieces_cost planned (moved_by move)) all in
+          let then_same = ap (pieces_cost then (moved_by move)) all in
           omega arith
     ]
 
@@ -191,7 +196,7 @@ walks_changed planned sound sized index is move change are =
     let all = touched_changed planned index is move in
     let first = touched_parts planned index move in
     let second = touched_parts then index move in
-    let same = ap (pieces_cost then) (same_pieces planned index move) in
+    let same = ap (pieces_cost then (moved_by move)) (same_pieces planned index move) in
     let small = all_small planned sound sized index is move in
     let then_small = all_small then sound sized index is move in
     let was = are.was in
@@ -202,29 +207,33 @@ walks_changed planned sound sized index is move change are =
 
 -- walks don't depend on the hosts of fields
 walk_stays : (planned : PlannedShape) (field : FieldId) (host : HostId) (piece : Piece) →
-    walk_cost planned piece ≡ walk_cost (under planned (moved planned.plan (step.Field field host))) piece
+    walk_cost planned None piece
+    ≡ walk_cost (under planned (moved planned.plan (step.Field field host))) None piece
 walk_stays planned field host (access weight statement other) = refl
-walk_stays planned field host (giving weight statement x) = refl
+walk_stays planned field host (giving weight statement x home own place) = refl
+walk_stays planned field host (passing weight statement method x) = refl
 walk_stays planned field host (calling weight statement method kept) = refl
 walk_stays planned field host (walk weight home nested own) =
     ap (cost_of planned.hosts)
-    (piece_same planned (moved planned.plan (step.Field field host)) (walk weight home nested own) tt
+    (piece_same planned (moved planned.plan (step.Field field host)) None (walk weight home nested own)
+    (quiet_all planned (moved planned.plan (step.Field field host)) (statements_stay planned field host)) tt tt
     (statements_stay planned field host (statements_of planned.program planned.needs (walk weight home nested own))))
 walk_stays planned field host (ending method) = refl
 
 walks_stay : (planned : PlannedShape) (field : FieldId) (host : HostId) (pieces : List Piece) →
-    walks_cost planned pieces ≡ walks_cost (under planned (moved planned.plan (step.Field field host))) pieces
+    walks_cost planned None pieces
+    ≡ walks_cost (under planned (moved planned.plan (step.Field field host))) None pieces
 walks_stay planned field host [] = refl
 walks_stay planned field host (piece ∷ others) =
     let one = walk_stays planned field host piece in
     let rest = walks_stay planned field host others in
-    let was = sum_by-cons (walk_cost planned) piece others in
-    let now = sum_by-cons (walk_cost (under planned (moved planned.plan (step.Field field host)))) piece others in
+    let was = sum_by-cons (walk_cost planned None) piece others in
+    let now = sum_by-cons (walk_cost (under planned (moved planned.plan (step.Field field host))) None) piece others in
     omega arith
 
 row_stays : (planned : PlannedShape) (field : FieldId) (host : HostId) (rows : List (Vec Kept)) (number : ℕ) →
-    row_walks planned rows number
-    ≡ row_walks (under planned (moved planned.plan (step.Field field host))) rows number
+    row_walks planned None rows number
+    ≡ row_walks (under planned (moved planned.plan (step.Field field host))) None rows number
 row_stays planned field host [] number = refl
 row_stays planned field host (row ∷ rows) zero = walks_stay planned field host (all_pieces row.items)
 row_stays planned field host (row ∷ rows) (suc number) = row_stays planned field host rows number
@@ -254,18 +263,18 @@ statement_moves planned statement host = record {
 touched_there : (planned : PlannedShape) (index : Index) (move : Step) (statement : StmtId) (host : HostId)
     (row : Vec Kept) → move ≡ step.Statement statement host →
     slice_get index.statements.items statement.0 ≡ Some row →
-    touched_walks planned index move ≡ walks_cost planned (all_pieces row.items)
+    touched_walks planned index move ≡ walks_cost planned (Some statement) (all_pieces row.items)
 touched_there planned index move statement host row is found =
     ap (touched_walks planned index) is
     ∙ ap (λ (one : Option (Vec Kept)).
-    unwrap_or (option_map (λ (row : Vec Kept). walks_cost planned (all_pieces row.items)) one) 0) found
+    unwrap_or (option_map (λ (row : Vec Kept). walks_cost planned (Some statement) (all_pieces row.items)) one) 0) found
 
 -- the walks of the row of the statement are those that the move touches
 pub row_moved : (planned : PlannedShape) (index : Index) (move : Step) (statement : StmtId) (host : HostId)
     (row : Vec Kept) (change : Change) → move ≡ step.Statement statement host →
     slice_get index.statements.items statement.0 ≡ Some row →
-    IsChange (walks_cost planned (all_pieces row.items))
-    (walks_cost (under planned (moved planned.plan move)) (all_pieces row.items)) change →
+    IsChange (walks_cost planned (Some statement) (all_pieces row.items))
+    (walks_cost (under planned (moved planned.plan move)) (Some statement) (all_pieces row.items)) change →
     IsChange (touched_walks planned index move)
     (touched_walks (under planned (moved planned.plan move)) index move) change
 row_moved planned index move statement host row change is found changed =
@@ -273,7 +282,7 @@ row_moved planned index move statement host row change is found changed =
     let Changed : ℕ → ℕ → Type 0 = λ was now. IsChange was now change in
     subst (Changed (touched_walks planned index move))
     (sym (touched_there behind index move statement host row is found))
-    (subst (λ (was : ℕ). Changed was (walks_cost behind (all_pieces row.items)))
+    (subst (λ (was : ℕ). Changed was (walks_cost behind (Some statement) (all_pieces row.items)))
     (sym (touched_there planned index move statement host row is found)) changed)
 
 touched_nowhere : (planned : PlannedShape) (index : Index) (move : Step) (statement : StmtId) (host : HostId) →
@@ -282,7 +291,7 @@ touched_nowhere : (planned : PlannedShape) (index : Index) (move : Step) (statem
 touched_nowhere planned index move statement host is none =
     ap (touched_walks planned index) is
     ∙ ap (λ (one : Option (Vec Kept)).
-    unwrap_or (option_map (λ (row : Vec Kept). walks_cost planned (all_pieces row.items)) one) 0) none
+    unwrap_or (option_map (λ (row : Vec Kept). walks_cost planned (Some statement) (all_pieces row.items)) one) 0) none
 
 -- where there is no row for the statement, no walks are counted
 pub absent_moved : (planned : PlannedShape) (index : Index) (move : Step) (statement : StmtId) (host : HostId) →

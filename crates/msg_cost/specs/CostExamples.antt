@@ -175,3 +175,76 @@ nested_hosts = hosts_of 0
 
 abbrev pub nested_plan : PlanShape
 nested_plan = plan_of (0 ∷ 0 ∷ 1 ∷ []) (0 ∷ 0 ∷ 0 ∷ 0 ∷ 0 ∷ 0 ∷ [])
+
+-- where each message costs 1
+abbrev pub plain_hosts : HostsShape
+plain_hosts = hosts_of 0
+
+-- `add(7);` on the first host, and `add(n) { b = b + n; }`, whose statement runs on the second, which holds `b`
+abbrev pub added : Labelled
+added = methods_of
+    (method_of [] None 0 (call (at 1) (record { 0 = 1 }) (record { 0 = 1 }) (number (pos 7) ∷ []) None done)
+    ∷ method_of (variable 0 ∷ []) None 2
+    (set_field (at 3) (field 0) (binary Add (scalar (field 0)) (local (variable 0))) done) ∷ [])
+
+abbrev pub added_needs : NeedsShape
+added_needs = needs_with (0 ∷ 0 ∷ 0 ∷ 0 ∷ []) ((3 ∷ []) ∷ [])
+
+-- the head of `add` on the second host, and on the first
+abbrev pub added_plan : PlanShape
+added_plan = plan_of (1 ∷ []) (0 ∷ 0 ∷ 1 ∷ 1 ∷ [])
+
+abbrev pub apart_plan : PlanShape
+apart_plan = plan_of (1 ∷ []) (0 ∷ 0 ∷ 0 ∷ 1 ∷ [])
+
+-- `x = k; p = x;`, where the first host holds `k` and the second holds `p`
+abbrev pub released : Labelled
+released = program_of (set_local (at 1) (variable 0) (scalar (field 0))
+    (set_field (at 2) (field 1) (local (variable 0)) done))
+
+-- both on the first host, and each where its field is
+abbrev pub first_plan : PlanShape
+first_plan = plan_of (0 ∷ 1 ∷ []) (0 ∷ 0 ∷ 0 ∷ [])
+
+abbrev pub second_plan : PlanShape
+second_plan = plan_of (0 ∷ 1 ∷ []) (0 ∷ 0 ∷ 1 ∷ [])
+
+-- `while (n < 4) { x = n; s = s + x; n = n + 1; }`, as the first loop, with `x` in between
+abbrev pub read_in_a_loop : Labelled
+read_in_a_loop = program_of (loop (at 1) (binary Less (scalar (field 0)) (number (pos 4)))
+    (set_local (at 2) (variable 0) (scalar (field 0))
+    (set_field (at 3) (field 1) (binary Add (scalar (field 1)) (local (variable 0)))
+    (set_field (at 4) (field 0) (binary Add (scalar (field 0)) (number (pos 1))) done))) done)
+
+abbrev pub read_needs : NeedsShape
+read_needs = needs_with (1 ∷ 1 ∷ 1 ∷ 0 ∷ 1 ∷ []) ((3 ∷ []) ∷ [])
+
+abbrev pub read_plan : PlanShape
+read_plan = plan_of (0 ∷ 1 ∷ []) (0 ∷ 0 ∷ 0 ∷ 1 ∷ 0 ∷ [])
+
+-- `x = 2; p = p + x; q = q + 1;`, each on another host, of which the second is lent the right to go on
+abbrev pub read_ahead : Labelled
+read_ahead = program_of (set_local (at 1) (variable 0) (number (pos 2))
+    (set_field (at 2) (field 0) (binary Add (scalar (field 0)) (local (variable 0)))
+    (set_field (at 3) (field 1) (binary Add (scalar (field 1)) (number (pos 1))) done)))
+
+abbrev pub ahead_needs : NeedsShape
+ahead_needs = needs_with (3 ∷ 0 ∷ 0 ∷ 1 ∷ []) ((2 ∷ []) ∷ [])
+
+abbrev pub ahead_plan : PlanShape
+ahead_plan = plan_of (1 ∷ 2 ∷ []) (0 ∷ 0 ∷ 1 ∷ 2 ∷ [])
+
+-- the same three hosts as for `told_ahead`, where the way back costs 1
+abbrev pub near_hosts : HostsShape
+near_hosts = record told_hosts { costs = (0 ∷ 1 ∷ 1 ∷ []) ∷ (1 ∷ 0 ∷ 1 ∷ []) ∷ (1 ∷ 1 ∷ 0 ∷ []) ∷ [] }
+
+-- `x = 3; q = q + x;`, the first on a host that is lent the right to go on
+abbrev pub lent_value : Labelled
+lent_value = program_of (set_local (at 1) (variable 0) (number (pos 3))
+    (set_field (at 2) (field 0) (binary Add (scalar (field 0)) (local (variable 0))) done))
+
+abbrev pub lent_needs : NeedsShape
+lent_needs = needs_with (3 ∷ 0 ∷ 1 ∷ []) ((2 ∷ []) ∷ [])
+
+abbrev pub lent_plan : PlanShape
+lent_plan = plan_of (2 ∷ []) (0 ∷ 1 ∷ 2 ∷ [])

@@ -105,6 +105,31 @@ next_spot planned spot statement others =
     let host = statement_host planned.plan statement in
     if is_same spot.host host then spot else entered planned (end_of spot) host (statement ∷ others)
 
+-- ---- what rides
+
+-- The host to which the token goes from a spot straight to the next: it is handed on, or the host that has it pushes
+-- the entry that is to get it back. There is none where the token stays, where a lent segment gives it back first, or
+-- where another host is asked for the entry.
+abbrev pub straight_to : Spot → Spot → Option HostId
+straight_to spot next = if is_same spot.host next.host then None else leaves spot.back next.back
+  where
+    leaves : Option HostId → Option HostId → Option HostId
+    leaves None None = Some next.host
+    leaves None (Some back) = if is_same back spot.host then Some next.host else None
+    leaves (Some back) other = None
+
+-- the host to which a value rides that is given at a spot by a statement with these behind it
+abbrev pub carried_to : PlannedShape → Spot → List StmtId → Option HostId
+carried_to planned spot [] = None
+carried_to planned spot (statement ∷ others) = straight_to spot (next_spot planned spot statement others)
+
+-- whether it rides to the host of this number
+abbrev pub is_to : Option HostId → ℕ → Bool
+is_to None other = false
+is_to (Some host) other = nat_eq other host.0
+
+-- ---- ends
+
 -- the host that holds the token behind the statements of a block
 abbrev pub end_host : PlannedShape → Spot → List StmtId → HostId
 end_host planned spot [] = end_of spot

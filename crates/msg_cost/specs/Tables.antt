@@ -50,15 +50,16 @@ pub record KnowsBlock (needs : NeedsShape) (hosts : HostsShape) (walk : Walk) : 
   pub ascends : IsTrue walk.ascending ↔ IsAscending walk.block.now
   pub table : IsTable needs hosts walk.block.now walk.table
 
--- a piece knows its block, where it is a walk
+-- a piece knows its block, where it is a walk or depends on one
 abbrev pub HasTable : NeedsShape → HostsShape → Kept → Type 0
 HasTable needs hosts (kept.Access weight statement field) = Unit {0}
-HasTable needs hosts (kept.Giving weight statement variable) = Unit {0}
+HasTable needs hosts (kept.Giving walk place statement variable) = KnowsBlock needs hosts walk
+HasTable needs hosts (kept.Passing weight statement method variable) = Unit {0}
 HasTable needs hosts (kept.Calling weight statement method kept) = Unit {0}
 HasTable needs hosts (kept.Walk walk) = KnowsBlock needs hosts walk
 HasTable needs hosts (kept.Ending method) = Unit {0}
 
--- each walk among these pieces knows its block
+-- each of these pieces knows its block, where it depends on one
 abbrev pub HaveTables : NeedsShape → HostsShape → List Kept → Type 0
 HaveTables needs hosts pieces = All (HasTable needs hosts) pieces
 

@@ -15,8 +15,8 @@ use Rattle.jif_tree.specs.LabelRules.{method_at, params_of}
 use Rattle.need_labels.specs.Plan.{field_host, statement_host}
 use Rattle.msg_cost.specs.declared.spot.Spot.{Spot}
 use Rattle.msg_cost.specs.declared.weight.TheConstants.{LOOP_DEPTH}
-use Rattle.msg_cost.specs.Moves.{PlannedShape, is_same, on, end_of, next_spot, own_statements, block_end, home_of}
-use Rattle.msg_cost.specs.Moves.{called_home, called_end}
+use Rattle.msg_cost.specs.Moves.{PlannedShape, is_same, on, end_of, next_spot, carried_to, is_to, own_statements}
+use Rattle.msg_cost.specs.Moves.{block_end, home_of, called_home, called_end}
 
 pub data Way : Type 0 where
   one_way : Way
@@ -89,33 +89,43 @@ reads_on planned x host =
 abbrev pub is_other_reader : PlannedShape → HostId → VarId → ℕ → Bool
 is_other_reader planned host x other = not (nat_eq other host.0) && reads_on planned x other
 
--- a host that gives a variable a value sends it to each other host that reads the variable
-abbrev pub forwards : PlannedShape → ℕ → HostId → VarId → List Term
-forwards planned weight host x =
+-- whether the host of this number is sent the variable's value: it reads the variable, and the value does not ride to it
+abbrev pub is_told : PlannedShape → HostId → VarId → Option HostId → ℕ → Bool
+is_told planned host x carried other = is_other_reader planned host x other && not (is_to carried other)
+
+-- a host that gives a variable a value sends it to each other host that reads the variable, but for the one to which
+-- the value rides
+abbrev pub forwards : PlannedShape → ℕ → HostId → VarId → Option HostId → List Term
+forwards planned weight host x carried =
     map (λ other. exchange weight host (record { 0 = other }))
-    (filter (is_other_reader planned host x) (range_with_len 0 (length planned.hosts.hosts)))
+    (filter (is_told planned host x carried) (range_with_len 0 (length planned.hosts.hosts)))
+
+-- the same where it gives a value to a variable at all
+abbrev pub given_terms : PlannedShape → ℕ → HostId → Option VarId → Option HostId → List Term
+given_terms planned weight host None carried = []
+given_terms planned weight host (Some x) carried = forwards planned weight host x carried
 
 -- ---- statements
 
--- arguments, each with the parameter that gets it
-abbrev pub argument_terms : PlannedShape → ℕ → HostId → List VarId → List ExprTree → List Term
-argument_terms planned weight host params [] = []
-argument_terms planned weight host [] (argument ∷ others) =
-    expr_terms planned weight host argument ++ argument_terms planned weight host [] others
-argument_terms planned weight host (param ∷ params) (argument ∷ others) =
-    (expr_terms planned weight host argument ++ forwards planned weight host param)
-    ++ argument_terms planned weight host params others
+-- arguments, each with the parameter that gets it, whose values ride to the home of the method
+abbrev pub argument_terms : PlannedShape → ℕ → HostId → HostId → List VarId → List ExprTree → List Term
+argument_terms planned weight host home params [] = []
+argument_terms planned weight host home [] (argument ∷ others) =
+    expr_terms planned weight host argument ++ argument_terms planned weight host home [] others
+argument_terms planned weight host home (param ∷ params) (argument ∷ others) =
+    (expr_terms planned weight host argument ++ forwards planned weight host param (Some home))
+    ++ argument_terms planned weight host home params others
 
 -- a result that is kept, from the host on which the method ended
-abbrev pub result_terms : PlannedShape → ℕ → HostId → HostId → Option VarId → List Term
-result_terms planned weight host end None = []
-result_terms planned weight host end (Some x) = exchange weight end host ∷ forwards planned weight host x
+abbrev pub result_terms : ℕ → HostId → HostId → Option VarId → List Term
+result_terms weight host end None = []
+result_terms weight host end (Some x) = exchange weight end host ∷ []
 
 abbrev pub call_terms : PlannedShape → ℕ → HostId → Option MethodTree → List ExprTree → Option VarId → List Term
 call_terms planned weight host called arguments into =
-    argument_terms planned weight host (params_of called) arguments
+    argument_terms planned weight host (called_home planned called) (params_of called) arguments
     ++ (message weight host (called_home planned called) ∷ message weight (called_end planned called) host ∷ [])
-    ++ result_terms planned weight host (called_end planned called) into
+    ++ result_terms weight host (called_end planned called) into
 
 -- The statements of a block, from a spot on. Behind a nested block the host of its branch or loop gets the token back.
 abbrev pub block_terms : PlannedShape → ℕ → Spot → BlockTree → List Term
@@ -124,7 +134,8 @@ block_terms planned weight spot (set_local heading x value rest) =
     let host = statement_host planned.plan heading.id in
     let next = next_spot planned spot heading.id (own_statements rest) in
     move_terms weight spot next
-    ++ (expr_terms planned weight host value ++ forwards planned weight host x)
+    ++ (expr_terms planned weight host value
+    ++ forwards planned weight host x (carried_to planned next (own_statements rest)))
     ++ block_terms planned weight next rest
 block_terms planned weight spot (set_field heading field value rest) =
     let host = statement_host planned.plan heading.id in
@@ -159,7 +170,8 @@ block_terms planned weight spot (call heading site method arguments into rest) =
     let host = statement_host planned.plan heading.id in
     let next = next_spot planned spot heading.id (own_statements rest) in
     move_terms weight spot next
-    ++ call_terms planned weight host (method_at planned.program method) arguments into
+    ++ (call_terms planned weight host (method_at planned.program method) arguments into
+    ++ given_terms planned weight host into (carried_to planned next (own_statements rest)))
     ++ block_terms planned weight next rest
 block_terms planned weight spot (give_back heading value rest) =
     let host = statement_host planned.plan heading.id in
@@ -167,6 +179,34 @@ block_terms planned weight spot (give_back heading value rest) =
     move_terms weight spot next
     ++ expr_terms planned weight host value
     ++ block_terms planned weight next rest
+
+-- what the first statement of a block costs on its host, but for what it gives
+abbrev pub own_terms : PlannedShape → ℕ → BlockTree → List Term
+own_terms planned weight done = []
+own_terms planned weight (set_local heading x value rest) =
+    expr_terms planned weight (statement_host planned.plan heading.id) value
+own_terms planned weight (set_field heading field value rest) =
+    let host = statement_host planned.plan heading.id in
+    expr_terms planned weight host value ++ exchange weight host (field_host planned.plan field) ∷ []
+own_terms planned weight (set_element heading field index value rest) =
+    let host = statement_host planned.plan heading.id in
+    expr_terms planned weight host index ++ expr_terms planned weight host value
+    ++ exchange weight host (field_host planned.plan field) ∷ []
+own_terms planned weight (branch heading guard first second rest) =
+    let host = statement_host planned.plan heading.id in
+    expr_terms planned weight host guard
+    ++ (block_terms planned weight (on host) first ++ message weight (block_end planned host first) host ∷ [])
+    ++ (block_terms planned weight (on host) second ++ message weight (block_end planned host second) host ∷ [])
+own_terms planned weight (loop heading guard body rest) =
+    let host = statement_host planned.plan heading.id in
+    let deeper = inside weight in
+    expr_terms planned deeper host guard
+    ++ (block_terms planned deeper (on host) body ++ message deeper (block_end planned host body) host ∷ [])
+own_terms planned weight (call heading site method arguments into rest) =
+    let host = statement_host planned.plan heading.id in
+    call_terms planned weight host (method_at planned.program method) arguments into
+own_terms planned weight (give_back heading value rest) =
+    expr_terms planned weight (statement_host planned.plan heading.id) value
 
 -- ---- programs
 

@@ -17,25 +17,28 @@ use crate::values::{expr_cost, forwards};
 use jif_tree::{Expr, params_of};
 use js_base::{HostId, MethodId, VarId};
 
-/// The cost of the arguments of a call, each with the parameter that gets it.
+/// The cost of the arguments of a call, each with the parameter that gets it, whose values ride to the home of the
+/// method.
 fn argument_cost(
     planned: &Seated<'_>,
     kept: &Kept<'_>,
     weight: u64,
     host: HostId,
+    home: HostId,
     params: &[VarId],
     args: &[Expr],
 ) -> u64
     requires { IsKept (seated_shape planned.now) kept.now }
     ensures { result ≡ capped (cost_of planned.now.hosts.now
-        (argument_terms (seated_shape planned.now) weight host params.now (map expr_tree args.now))) }
+        (argument_terms (seated_shape planned.now) weight host home params.now (map expr_tree args.now))) }
 {
     let mut total: u64 = 0;
     let mut left = params;
     for arg in args {
         total = total.saturating_add(expr_cost(planned, weight, host, arg));
         if let [param, more @ ..] = left {
-            total = total.saturating_add(forwards(planned, kept, weight, host, *param));
+            let sent = forwards(planned, kept, weight, host, *param, Some(home));
+            total = total.saturating_add(sent);
             left = more;
         }
     }
@@ -45,26 +48,20 @@ fn argument_cost(
 /// The cost of a result that is kept, from the host on which the method ended.
 fn result_cost(
     planned: &Seated<'_>,
-    kept: &Kept<'_>,
     weight: u64,
     host: HostId,
     end: HostId,
     into: Option<VarId>,
 ) -> u64
-    requires { IsKept (seated_shape planned.now) kept.now }
-    ensures { result ≡ capped (cost_of planned.now.hosts.now
-        (result_terms (seated_shape planned.now) weight host end into)) }
+    ensures { result ≡ capped (cost_of planned.now.hosts.now (result_terms weight host end into)) }
 {
     match into {
-        Some(x) => {
-            let given = exchange(planned.hosts, weight, end, host);
-            given.saturating_add(forwards(planned, kept, weight, host, x))
-        }
+        Some(_) => exchange(planned.hosts, weight, end, host),
         None => 0,
     }
 }
 
-/// The cost of a call.
+/// The cost of a call, without what the variable costs that keeps its result.
 pub fn call_cost(
     planned: &Seated<'_>,
     kept: &Kept<'_>,
@@ -85,11 +82,12 @@ pub fn call_cost(
         kept,
         weight,
         host,
+        home,
         params_of(planned.program, method),
         args,
     );
     given
         .saturating_add(message(planned.hosts, weight, host, home))
         .saturating_add(message(planned.hosts, weight, end, host))
-        .saturating_add(result_cost(planned, kept, weight, host, end, into))
+        .saturating_add(result_cost(planned, weight, host, end, into))
 }

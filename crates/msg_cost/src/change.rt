@@ -1,6 +1,7 @@
 //! What a move adds to the cost, by the pieces that it touches.
 
-ghost use Rattle.std.specs.Prelude.{◌≡◌, ◌<◌, ◌≤◌, ◌^◌, ◌+◌, length};
+ghost use Rattle.std.specs.Prelude.{◌≡◌, ◌<◌, ◌≤◌, ◌^◌, ◌+◌, Option, Some, length};
+ghost use Rattle.js_base.specs.declared.ids.StmtId.{StmtId};
 ghost use Rattle.jif_tree.specs.Trees.{program_tree};
 ghost use Rattle.jif_tree.specs.Limits.{IsWithinLimits};
 ghost use Rattle.js_base.specs.declared.limits.TheConstants.{METHODS};
@@ -10,8 +11,8 @@ ghost use Rattle.msg_cost.specs.Pieces.{pieces_cost, others_cost, walk_cost, wal
 ghost use Rattle.msg_cost.specs.PieceViews.{piece_shape, all_pieces};
 ghost use Rattle.msg_cost.specs.Rows.{IsIndex};
 ghost use Rattle.msg_cost.specs.Steps.{moved};
-ghost use Rattle.msg_cost.specs.Tables.{HasTable, HaveTables, AreBodies};
-ghost use Rattle.msg_cost.specs.Touched.{touched_others, touched_cost};
+ghost use Rattle.msg_cost.specs.Tables.{HasTable, HaveTables, RowsHaveTables, AreBodies};
+ghost use Rattle.msg_cost.specs.Touched.{row_others, touched_others, touched_cost};
 ghost use Rattle.msg_cost.specs.Views.{seated_shape, capped};
 ghost use Rattle.msg_cost.specs.Walks.{IsMoved, IsChange};
 
@@ -21,18 +22,12 @@ use crate::piece_cost::other_cost;
 use crate::program_cost::program_cost;
 use crate::seated::Seated;
 use crate::step::Step;
-use crate::walk_change::{Change, walk_change};
+use crate::walk_change::{Change, NO_CHANGE, walk_change};
 use host_decl::Hosts;
 use jif_tree::Checked;
 use js_base::StmtId;
 use js_base::limits::HOSTS;
 use need_labels::{Needs, Plan};
-
-/// Nothing changes.
-const NO_CHANGE: Change = Change {
-    before: 0,
-    after: 0,
-};
 
 /// What those pieces cost under a plan that a move of a part would touch, but for walks: the reads and writes and the
 /// definitions of a statement, the definitions of what it reads, and the calls of its method where it is one of the
@@ -136,12 +131,37 @@ fn others_touched(planned: &Seated<'_>, index: &Index<'_>, step: Step) -> u64
     requires index { IsIndex planned.now.program.now planned.now.needs.now planned.now.hosts.now index.now }
     ensures { result ≡ capped (touched_others (seated_shape planned.now) index.now step) }
 {
-    let row = match step {
-        Step::Field(field, _) => index.fields.get(field.0 as usize),
-        Step::Statement(statement, _) => index.statements.get(statement.0 as usize),
-    };
-    match row {
-        Some(row) => row_cost(planned, &index.bodies, row),
+    match step {
+        Step::Field(field, _) => { part_cost(planned, &index.bodies, &index.fields, None, field.0) }
+        Step::Statement(statement, _) => {
+            let moved = Some(statement);
+            part_cost(
+                planned,
+                &index.bodies,
+                &index.statements,
+                moved,
+                statement.0,
+            )
+        }
+    }
+}
+
+/// The same by the number of the part.
+fn part_cost(
+    planned: &Seated<'_>,
+    bodies: &[[u16; HOSTS]],
+    rows: &[Vec<Piece<'_>>],
+    moved: Option<StmtId>,
+    number: u32,
+) -> u64
+    requires methods { length (program_tree planned.now.program.now).methods ≤ METHODS }
+    requires bodies { AreBodies planned.now.needs.now planned.now.hosts.now
+        planned.now.program.now.methods.items bodies.now }
+    requires know { RowsHaveTables planned.now.needs.now planned.now.hosts.now rows.now }
+    ensures { result ≡ capped (row_others (seated_shape planned.now) moved rows.now number) }
+{
+    match rows.get(number as usize) {
+        Some(row) => row_cost(planned, bodies, moved, row),
         None => all_cost(planned),
     }
 }
@@ -149,20 +169,27 @@ fn others_touched(planned: &Seated<'_>, index: &Index<'_>, step: Step) -> u64
 /// What all pieces cost.
 fn all_cost(planned: &Seated<'_>) -> u64
     requires { length (program_tree planned.now.program.now).methods ≤ METHODS }
-    ensures { result ≡ capped (pieces_cost (seated_shape planned.now)
+    ensures { (moved : Option StmtId) → result ≡ capped (pieces_cost (seated_shape planned.now) moved
         (program_pieces (program_tree planned.now.program.now))) }
 {
     program_cost(planned)
 }
 
 /// What these pieces cost, but for walks.
-fn row_cost(planned: &Seated<'_>, bodies: &[[u16; HOSTS]], row: &[Piece<'_>]) -> u64
-    requires { AreBodies planned.now.needs.now planned.now.hosts.now planned.now.program.now.methods.items bodies.now }
-    ensures { result ≡ capped (others_cost (seated_shape planned.now) (all_pieces row.now)) }
+fn row_cost(
+    planned: &Seated<'_>,
+    bodies: &[[u16; HOSTS]],
+    moved: Option<StmtId>,
+    row: &[Piece<'_>],
+) -> u64
+    requires bodies { AreBodies planned.now.needs.now planned.now.hosts.now
+        planned.now.program.now.methods.items bodies.now }
+    requires know { HaveTables planned.now.needs.now planned.now.hosts.now row.now }
+    ensures { result ≡ capped (others_cost (seated_shape planned.now) moved (all_pieces row.now)) }
 {
     let mut total: u64 = 0;
     for piece in row {
-        total = total.saturating_add(other_cost(planned, bodies, piece));
+        total = total.saturating_add(other_cost(planned, bodies, moved, piece));
     }
     total
 }
@@ -176,8 +203,8 @@ fn row_change(
 ) -> Change
     requires moved { IsMoved statement (seated_shape before.now) (seated_shape after.now) }
     requires know { HaveTables before.now.needs.now before.now.hosts.now row.now }
-    ensures { IsChange (walks_cost (seated_shape before.now) (all_pieces row.now))
-        (walks_cost (seated_shape after.now) (all_pieces row.now)) result }
+    ensures { IsChange (walks_cost (seated_shape before.now) (Some statement) (all_pieces row.now))
+        (walks_cost (seated_shape after.now) (Some statement) (all_pieces row.now)) result }
 {
     let mut total = NO_CHANGE;
     for piece in row {
@@ -200,12 +227,13 @@ fn piece_change(
 ) -> Change
     requires moved { IsMoved statement (seated_shape before.now) (seated_shape after.now) }
     requires knows { HasTable before.now.needs.now before.now.hosts.now piece.now }
-    ensures { IsChange (walk_cost (seated_shape before.now) (piece_shape piece.now))
-        (walk_cost (seated_shape after.now) (piece_shape piece.now)) result }
+    ensures { IsChange (walk_cost (seated_shape before.now) (Some statement) (piece_shape piece.now))
+        (walk_cost (seated_shape after.now) (Some statement) (piece_shape piece.now)) result }
 {
     match piece {
         Piece::Access { .. } => NO_CHANGE,
         Piece::Giving { .. } => NO_CHANGE,
+        Piece::Passing { .. } => NO_CHANGE,
         Piece::Calling { .. } => NO_CHANGE,
         Piece::Walk(walk) => walk_change(before, after, statement, walk),
         Piece::Ending { .. } => NO_CHANGE,

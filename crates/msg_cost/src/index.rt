@@ -5,11 +5,11 @@ ghost use Rattle.std.specs.Prelude.{length, slice_set, slice_index, slice_index_
 ghost use Rattle.host_decl.specs.Hosts.{HostsShape};
 ghost use Rattle.jif_tree.specs.LabelRules.{method_at};
 ghost use Rattle.jif_tree.specs.Trees.{program_tree};
-ghost use Rattle.msg_cost.specs.Pieces.{program_pieces};
-ghost use Rattle.msg_cost.specs.PieceViews.{piece_shape, all_pieces};
+ghost use Rattle.msg_cost.specs.Pieces.{given_ids, program_pieces};
+ghost use Rattle.msg_cost.specs.PieceViews.{givens_of, piece_shape, all_pieces};
 ghost use Rattle.msg_cost.specs.Rows.{numbers_of, AreRows, AreNoted, rows_of, IsIndex};
 ghost use Rattle.msg_cost.specs.Tables.{HasTable, HaveTables, RowsHaveTables, AreBodies};
-ghost use Rattle.msg_cost.specs.Touches.{statements_of_method};
+ghost use Rattle.msg_cost.specs.Touches.{head_of_method, statements_of_method};
 ghost use Rattle.msg_cost.specs.Views.{ids_of};
 ghost use Rattle.need_labels.specs.Needs.{NeedsShape};
 
@@ -222,6 +222,7 @@ fn field_numbers(
     match piece {
         Piece::Access { field, .. } => numbers.push(field.0)?,
         Piece::Giving { .. } => {}
+        Piece::Passing { .. } => {}
         Piece::Calling { .. } => {}
         Piece::Walk(_) => {}
         Piece::Ending { .. } => {}
@@ -250,6 +251,16 @@ fn statement_numbers(
             numbers.push(statement.0)?;
             add_statements(&mut numbers, needs.readers(*variable))?;
         }
+        Piece::Passing {
+            statement,
+            method,
+            variable,
+            ..
+        } => {
+            numbers.push(statement.0)?;
+            add_head(&mut numbers, program, *method)?;
+            add_statements(&mut numbers, needs.readers(*variable))?;
+        }
         Piece::Calling {
             statement,
             method,
@@ -260,11 +271,23 @@ fn statement_numbers(
         }
         Piece::Walk(walk) => {
             numbers.push(walk.home.0)?;
-            add_block(&mut numbers, walk.block)?;
+            add_own(&mut numbers, walk.block)?;
         }
         Piece::Ending { method } => add_method(&mut numbers, program, *method)?,
     }
     Ok(numbers)
+}
+
+/// Adds the number of the statement whose host is the home of a method.
+fn add_head(numbers: &mut Vec<u32>, program: &Program, method: MethodId) -> Result<(), OutOfMemory>
+    ensures { OnOk result (numbers.new.items
+        ≡ numbers.old.items
+        ++ map (λ statement. statement.0) (head_of_method (method_at (program_tree program.now) method))) }
+{
+    match program.methods.get(method.0 as usize) {
+        Some(called) => Ok(numbers.push(called.head.0)?),
+        None => Ok(()),
+    }
 }
 
 /// Adds the numbers of the statements whose hosts say where a method begins and ends.
@@ -284,6 +307,15 @@ fn add_method(
         }
         None => Ok(()),
     }
+}
+
+/// Adds the numbers of the statements of a block that is walked.
+#[tactic(auto, using(crate::proofs::Statements::list_ids))]
+fn add_own(numbers: &mut Vec<u32>, block: &[Stmt]) -> Result<(), OutOfMemory>
+    ensures { OnOk result (numbers.new.items
+        ≡ numbers.old.items ++ map (λ statement. statement.0) (given_ids (givens_of block.now))) }
+{
+    add_block(numbers, block)
 }
 
 /// Adds the numbers of the statements of a block.

@@ -17,3 +17,10 @@ pub struct Kept<'a> {
     /// For how many variables these words are found.
     pub found: usize,
 }
+
+/// Nothing is kept.
+pub const NOTHING: Kept<'static> = Kept {
+    ends: &[],
+    reading: &[],
+    found: 0,
+};

@@ -1,7 +1,8 @@
 //! Laws of costs, for whoever reasons about plans. The calls do nothing.
 
-ghost use Rattle.std.specs.Prelude.{◌≡◌, ◌<◌, ◌^◌, ◌↔◌, ◌+◌, ℕ, min, IsTrue};
+ghost use Rattle.std.specs.Prelude.{◌≡◌, ◌<◌, ◌^◌, ◌↔◌, ◌+◌, ℕ, min, Option, IsTrue};
 ghost use Rattle.js_base.specs.declared.ids.HostId.{HostId};
+ghost use Rattle.js_base.specs.declared.ids.StmtId.{StmtId};
 ghost use Rattle.label_lattice.specs.declared.label.Label.{Label};
 ghost use Rattle.label_lattice.specs.Label.{IsTrustedBy};
 ghost use Rattle.host_decl.specs.Hosts.{HostsShape, AreHosts};
@@ -17,6 +18,11 @@ ghost use Rattle.msg_cost.specs.CostExamples.{told_ahead, told_needs, told_hosts
 ghost use Rattle.msg_cost.specs.CostExamples.{called, called_needs, called_hosts, called_plan};
 ghost use Rattle.msg_cost.specs.CostExamples.{forwarded, forwarded_needs, forwarded_hosts, forwarded_plan};
 ghost use Rattle.msg_cost.specs.CostExamples.{nested, nested_needs, nested_hosts, nested_plan};
+ghost use Rattle.msg_cost.specs.CostExamples.{plain_hosts, added, added_needs, added_plan, apart_plan};
+ghost use Rattle.msg_cost.specs.CostExamples.{released, first_plan, second_plan};
+ghost use Rattle.msg_cost.specs.CostExamples.{read_in_a_loop, read_needs, read_plan};
+ghost use Rattle.msg_cost.specs.CostExamples.{read_ahead, ahead_needs, ahead_plan, near_hosts};
+ghost use Rattle.msg_cost.specs.CostExamples.{lent_value, lent_needs, lent_plan};
 ghost use Rattle.msg_cost.specs.CostLaws.{StandsOn};
 ghost use Rattle.msg_cost.specs.Moves.{is_trusted_by, planned_of};
 ghost use Rattle.msg_cost.specs.Pieces.{pieces_cost, program_pieces};
@@ -29,9 +35,10 @@ pub fn cost_laws()
         AreHosts hosts → IsWellNumbered labelled.program → StandsOn (planned_of labelled needs hosts plan) host →
         plan_cost labelled needs hosts plan ≡ 0 }
     // The cost is the sum of the costs of pieces, each of which depends on the hosts of few parts.
-    ensures by_pieces { (labelled : Labelled) (needs : NeedsShape) (hosts : HostsShape) (plan : PlanShape) →
-        plan_cost labelled needs hosts plan
-        ≡ pieces_cost (planned_of labelled needs hosts plan) (program_pieces labelled.program) }
+    // They are counted for a statement that may be moved, whichever it is.
+    ensures by_pieces { (labelled : Labelled) (needs : NeedsShape) (hosts : HostsShape) (plan : PlanShape)
+        (moved : Option StmtId) → plan_cost labelled needs hosts plan
+        ≡ pieces_cost (planned_of labelled needs hosts plan) moved (program_pieces labelled.program) }
     // The cost of a program within the limits fits a number of 64 bits.
     ensures fits { (labelled : Labelled) (needs : NeedsShape) (hosts : HostsShape) (plan : PlanShape) →
         AreHosts hosts → IsWithinLimits labelled.program → plan_cost labelled needs hosts plan < 2 ^ 64 }
@@ -51,12 +58,32 @@ pub fn cost_examples()
     // A segment whose token goes to the host of what follows: that host is told before, there and back (2), then the
     // way there (1), the way on (1), and the way from the end of `main` to its home (1).
     ensures told { plan_cost told_ahead told_needs told_hosts told_plan ≡ 5 }
-    // A call of a method on another host, where a message there costs 3 and one back 5: the parameter is sent, there
-    // and back (8), then the way there (3), the way back (5), and the result, there and back (8).
-    ensures called { plan_cost called called_needs called_hosts called_plan ≡ 24 }
-    // A local that another host reads: it is sent, there and back (8), then the way there (3), and the way from the end
-    // of `main` to its home (5).
-    ensures forwarded { plan_cost forwarded forwarded_needs forwarded_hosts forwarded_plan ≡ 16 }
+    // A call of a method on another host, where a message there costs 3 and one back 5: the way there (3), with which
+    // the parameter rides, the way back (5), and the result, there and back (8).
+    ensures called { plan_cost called called_needs called_hosts called_plan ≡ 16 }
+    // A local that another host reads: it rides with the way there (3), and then the way from the end of `main` to its
+    // home (5). Where each message costs 1 that is 2.
+    ensures forwarded { plan_cost forwarded forwarded_needs forwarded_hosts forwarded_plan ≡ 8 }
+    ensures rides { plan_cost forwarded forwarded_needs plain_hosts forwarded_plan ≡ 2 }
+    // A parameter that the home of its method reads: the way there, and the way back. Where another host than the home
+    // reads it, it is sent (2), then the way to that host, and the way back.
+    ensures added { plan_cost added added_needs plain_hosts added_plan ≡ 2 }
+    ensures apart { plan_cost added added_needs plain_hosts apart_plan ≡ 4 }
+    // A field is written on its host, to which the value rides, or from another one, there and back.
+    ensures first { plan_cost released forwarded_needs plain_hosts first_plan ≡ 2 }
+    ensures second { plan_cost released forwarded_needs plain_hosts second_plan ≡ 2 }
+    // A lent segment in a loop, which gets the token back where it came from: a value rides with the way there, so it
+    // is the way there and the way back, eight times.
+    ensures looped { plan_cost read_in_a_loop read_needs loop_hosts read_plan ≡ 16 }
+    // The same with two hosts behind it: the way there, with which the value rides, the way back, the way on, and the
+    // way home.
+    ensures near { plan_cost read_ahead ahead_needs near_hosts ahead_plan ≡ 4 }
+    // Where the host of what follows gets the token back, nothing rides: that host is told before (2), the value is sent
+    // (1 + 10), then the way there, the way on, and the way home.
+    ensures asked { plan_cost read_ahead ahead_needs told_hosts ahead_plan ≡ 16 }
+    // What a lent segment gives does not ride: the way there, the value there and back (2), the way back, the way on,
+    // and the way home.
+    ensures stays { plan_cost lent_value lent_needs near_hosts lent_plan ≡ 6 }
     // A loop in a loop: a read for the outer guard, there and back eight times (16), and a write in the inner loop,
     // there and back 64 times (128).
     ensures nested { plan_cost nested nested_needs nested_hosts nested_plan ≡ 144 }

@@ -4,6 +4,7 @@
 mod around;
 mod blocks;
 mod calls;
+mod carried;
 mod change;
 mod ends;
 mod index;
@@ -34,7 +35,7 @@ pub use piece::Piece;
 pub use pieces::program_pieces;
 pub use planned::{Planned, called_home, next_spot, reading_hosts};
 pub use program_cost::{cost, delta};
-pub use spot::Spot;
+pub use spot::{Spot, straight_to};
 pub use step::Step;
 pub use walk::Walk;
 pub use walk_change::Change;

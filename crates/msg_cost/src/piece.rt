@@ -12,10 +12,18 @@ pub enum Piece<'a> {
         statement: StmtId,
         field: FieldId,
     },
-    /// A statement gives a variable a value.
+    /// A statement gives a variable a value, at a place of the block of a walk.
     Giving {
+        walk: Walk<'a>,
+        place: usize,
+        statement: StmtId,
+        variable: VarId,
+    },
+    /// A call of a method gives a parameter a value.
+    Passing {
         weight: u64,
         statement: StmtId,
+        method: MethodId,
         variable: VarId,
     },
     /// A statement calls a method, and may keep its result.

@@ -5,33 +5,35 @@ ghost use Rattle.jif_tree.specs.LabelRules.{method_at};
 ghost use Rattle.jif_tree.specs.Trees.{program_tree};
 ghost use Rattle.msg_cost.specs.Cost.{cost_of};
 ghost use Rattle.msg_cost.specs.Moves.{called_home, called_end};
-ghost use Rattle.msg_cost.specs.Pieces.{other_cost};
-ghost use Rattle.msg_cost.specs.PieceViews.{piece_shape};
-ghost use Rattle.msg_cost.specs.Tables.{AreBodies};
+ghost use Rattle.msg_cost.specs.Pieces.{giving, piece_cost, other_cost};
+ghost use Rattle.msg_cost.specs.PieceViews.{givens_of, piece_shape};
+ghost use Rattle.msg_cost.specs.Tables.{AreBodies, KnowsBlock, HasTable};
 ghost use Rattle.msg_cost.specs.Terms.{message, exchange};
 ghost use Rattle.msg_cost.specs.Views.{seated_shape, capped};
 
+use crate::carried::{carried_at, touches};
 use crate::ends::listed_end;
-use crate::kept::Kept;
+use crate::kept::NOTHING;
 use crate::messages::{exchange, message};
 use crate::piece::Piece;
 use crate::seated::Seated;
 use crate::tokens::called_home;
 use crate::values::{field_cost, forwards};
+use crate::walk::Walk;
 use js_base::limits::HOSTS;
-use js_base::{HostId, MethodId};
-
-/// Nothing is kept.
-const NOTHING: Kept<'static> = Kept {
-    ends: &[],
-    reading: &[],
-    found: 0,
-};
+use js_base::{HostId, MethodId, StmtId, VarId};
 
 /// What a piece costs that is no walk, and nothing for a walk.
-pub fn other_cost(planned: &Seated<'_>, bodies: &[[u16; HOSTS]], piece: &Piece<'_>) -> u64
-    requires { AreBodies planned.now.needs.now planned.now.hosts.now planned.now.program.now.methods.items bodies.now }
-    ensures { result ≡ capped (other_cost (seated_shape planned.now) (piece_shape piece.now)) }
+pub fn other_cost(
+    planned: &Seated<'_>,
+    bodies: &[[u16; HOSTS]],
+    moved: Option<StmtId>,
+    piece: &Piece<'_>,
+) -> u64
+    requires bodies { AreBodies planned.now.needs.now planned.now.hosts.now
+        planned.now.program.now.methods.items bodies.now }
+    requires knows { HasTable planned.now.needs.now planned.now.hosts.now piece.now }
+    ensures { result ≡ capped (other_cost (seated_shape planned.now) moved (piece_shape piece.now)) }
 {
     match piece {
         Piece::Access {
@@ -40,12 +42,20 @@ pub fn other_cost(planned: &Seated<'_>, bodies: &[[u16; HOSTS]], piece: &Piece<'
             field,
         } => field_cost(planned, *weight, planned.host_of(*statement), *field),
         Piece::Giving {
+            walk,
+            place,
+            statement,
+            variable,
+        } => giving_cost(planned, moved, walk, *place, *statement, *variable),
+        Piece::Passing {
             weight,
             statement,
+            method,
             variable,
         } => {
             let host = planned.host_of(*statement);
-            forwards(planned, &NOTHING, *weight, host, *variable)
+            let home = called_home(planned, *method);
+            forwards(planned, &NOTHING, *weight, host, *variable, Some(home))
         }
         Piece::Calling {
             weight,
@@ -63,6 +73,27 @@ pub fn other_cost(planned: &Seated<'_>, bodies: &[[u16; HOSTS]], piece: &Piece<'
             message(planned.hosts, 1, end, called_home(planned, *method))
         }
     }
+}
+
+/// What it costs that a statement gives a variable a value, where the moved statement touches that.
+fn giving_cost(
+    planned: &Seated<'_>,
+    moved: Option<StmtId>,
+    walk: &Walk<'_>,
+    place: usize,
+    statement: StmtId,
+    variable: VarId,
+) -> u64
+    requires { KnowsBlock planned.now.needs.now planned.now.hosts.now walk.now }
+    ensures { result ≡ capped (piece_cost (seated_shape planned.now) moved
+        (giving walk.now.weight statement variable walk.now.home (givens_of walk.now.block.now) place)) }
+{
+    if !touches(planned.needs, moved, statement, variable) {
+        return 0;
+    }
+    let host = planned.host_of(statement);
+    let carried = carried_at(planned, walk, place);
+    forwards(planned, &NOTHING, walk.weight, host, variable, carried)
 }
 
 /// What it costs to call a method, which ends on this host, and to come back.

@@ -2,20 +2,18 @@
 
 ghost use Rattle.std.specs.Prelude.{◌≡◌, true, [], ◌∷◌, ◌++◌, map, IfOk, OnOk};
 ghost use Rattle.jif_tree.specs.Trees.{done, expr_tree, block_tree, tree_before, program_tree};
-ghost use Rattle.msg_cost.specs.Pieces.{access, giving, walk, expr_pieces, argument_pieces};
-ghost use Rattle.msg_cost.specs.Pieces.{call_pieces, block_pieces, program_pieces};
-ghost use Rattle.msg_cost.specs.Moves.{own_statements};
-ghost use Rattle.msg_cost.specs.PieceViews.{piece_shape, all_pieces};
-ghost use Rattle.msg_cost.specs.Tables.{HaveTables};
-ghost use Rattle.msg_cost.specs.Views.{ids_of};
+ghost use Rattle.msg_cost.specs.Pieces.{access, giving, walk, given_statements, expr_pieces, argument_pieces};
+ghost use Rattle.msg_cost.specs.Pieces.{call_pieces, given_pieces, block_pieces, program_pieces};
+ghost use Rattle.msg_cost.specs.PieceViews.{givens_of, piece_shape, all_pieces};
+ghost use Rattle.msg_cost.specs.Tables.{KnowsBlock, HasTable, HaveTables};
 
+use crate::around::is_ascending;
 use crate::piece::Piece;
-use crate::table::with_table;
+use crate::table::block_table;
 use crate::walk::Walk;
 use crate::weight::inside;
 use host_decl::Hosts;
 use jif_tree::{Expr, Program, Stmt, StmtKind, params_of, tree_laws};
-use js_base::limits::HOSTS;
 use js_base::{FieldId, MethodId, OutOfMemory, StmtId, VarId};
 use need_labels::Needs;
 use std::alloc::Global;
@@ -33,48 +31,44 @@ pub fn program_pieces<'a>(
     ensures pieces { IfOk result (λ pieces. all_pieces pieces.items ≡ program_pieces (program_tree program.now)) }
     ensures tables { IfOk result (λ pieces. HaveTables needs.now hosts.now pieces.items) }
 {
-    let mut pieces = bare_pieces(alloc, program)?;
-    add_tables(needs, hosts, &mut pieces);
-    Ok(pieces)
-}
-
-/// Lets each walk know its block.
-fn add_tables(needs: &Needs, hosts: &Hosts, pieces: &mut [Piece<'_>])
-    ensures pieces { all_pieces pieces.new ≡ all_pieces pieces.old }
-    ensures tables { HaveTables needs.now hosts.now pieces.new }
-{
-    for place in 0..pieces.len() {
-        pieces[place] = with_table(needs, hosts, pieces[place]);
-    }
-}
-
-/// The pieces of what a program costs, of which no walk knows its block.
-fn bare_pieces(alloc: Global, program: &Program) -> Result<Vec<Piece<'_>>, OutOfMemory>
-    ensures { IfOk result (λ pieces. all_pieces pieces.items ≡ program_pieces (program_tree program.now)) }
-{
     let mut pieces = Vec::new(alloc);
     for method in &program.methods {
-        pieces.push(bare_walk(1, method.head, false, &method.body))?;
-        add_block(&mut pieces, program, 1, &method.body)?;
+        let walk = walk_of(needs, hosts, 1, method.head, false, &method.body);
+        add_piece(&mut pieces, needs, hosts, Piece::Walk(walk))?;
+        add_block(&mut pieces, program, needs, hosts, &walk)?;
     }
-    pieces.push(Piece::Ending {
-        method: program.main,
-    })?;
+    add_piece(
+        &mut pieces,
+        needs,
+        hosts,
+        Piece::Ending {
+            method: program.main,
+        },
+    )?;
     Ok(pieces)
 }
 
-/// A walk that knows nothing of its block yet.
-fn bare_walk(weight: u64, home: StmtId, nested: bool, block: &[Stmt]) -> Piece<'_>
-    ensures { piece_shape result ≡ walk weight home nested (ids_of block.now) }
+/// A walk over a block, which knows its block.
+fn walk_of<'a>(
+    needs: &Needs,
+    hosts: &Hosts,
+    weight: u64,
+    home: StmtId,
+    nested: bool,
+    block: &'a [Stmt],
+) -> Walk<'a>
+    ensures shape { (result.weight ≡ weight) × (result.home ≡ home) × (result.nested ≡ nested)
+        × (result.block.now ≡ block.now) }
+    ensures table { KnowsBlock needs.now hosts.now result }
 {
-    Piece::Walk(Walk {
+    Walk {
         weight,
         home,
         nested,
         block,
-        ascending: false,
-        table: [0; HOSTS],
-    })
+        ascending: is_ascending(block),
+        table: block_table(needs, hosts, block),
+    }
 }
 
 /// Adds the pieces of the statements of a block, without the walk over them.
@@ -82,14 +76,19 @@ fn bare_walk(weight: u64, home: StmtId, nested: bool, block: &[Stmt]) -> Piece<'
 fn add_block<'a>(
     pieces: &mut Vec<Piece<'a>>,
     program: &'a Program,
-    weight: u64,
-    block: &'a [Stmt],
+    needs: &Needs,
+    hosts: &Hosts,
+    walk: &Walk<'a>,
 ) -> Result<(), OutOfMemory>
-    ensures { OnOk result (all_pieces pieces.new.items
-        ≡ all_pieces pieces.old.items ++ block_pieces (program_tree program.now) weight (block_tree block.now)) }
+    requires knows { KnowsBlock needs.now hosts.now walk.now }
+    requires tables { HaveTables needs.now hosts.now pieces.old.items }
+    ensures pieces { OnOk result (all_pieces pieces.new.items
+        ≡ all_pieces pieces.old.items ++ block_pieces (program_tree program.now) walk.now.weight walk.now.home
+        (givens_of walk.now.block.now) 0 (block_tree walk.now.block.now)) }
+    ensures tables { OnOk result (HaveTables needs.now hosts.now pieces.new.items) }
 {
-    for statement in block {
-        add_statement(pieces, program, weight, statement)?;
+    for (place, statement) in walk.block.iter().enumerate() {
+        add_statement(pieces, program, needs, hosts, walk, place, statement)?;
     }
     Ok(())
 }
@@ -99,112 +98,155 @@ fn add_block<'a>(
 fn add_nested<'a>(
     pieces: &mut Vec<Piece<'a>>,
     program: &'a Program,
+    needs: &Needs,
+    hosts: &Hosts,
     weight: u64,
     home: StmtId,
     block: &'a [Stmt],
 ) -> Result<(), OutOfMemory>
-    ensures { OnOk result (all_pieces pieces.new.items
-        ≡ all_pieces pieces.old.items ++ (walk weight home true (own_statements (block_tree block.now))
-        ∷ block_pieces (program_tree program.now) weight (block_tree block.now))) }
+    requires { HaveTables needs.now hosts.now pieces.old.items }
+    ensures pieces { OnOk result (all_pieces pieces.new.items
+        ≡ all_pieces pieces.old.items ++ (walk weight home true (given_statements (block_tree block.now))
+        ∷ block_pieces (program_tree program.now) weight home (given_statements (block_tree block.now)) 0
+        (block_tree block.now))) }
+    ensures tables { OnOk result (HaveTables needs.now hosts.now pieces.new.items) }
 {
-    pieces.push(bare_walk(weight, home, true, block))?;
-    add_block(pieces, program, weight, block)
+    let walk = walk_of(needs, hosts, weight, home, true, block);
+    add_piece(pieces, needs, hosts, Piece::Walk(walk))?;
+    add_block(pieces, program, needs, hosts, &walk)
 }
 
-/// Adds the pieces of a statement: those of a block that has it alone.
+/// Adds the pieces of a statement at a place of a block: those of a block that has it alone.
 #[cycle(pieces)]
 fn add_statement<'a>(
     pieces: &mut Vec<Piece<'a>>,
     program: &'a Program,
-    weight: u64,
+    needs: &Needs,
+    hosts: &Hosts,
+    walk: &Walk<'a>,
+    place: usize,
     statement: &'a Stmt,
 ) -> Result<(), OutOfMemory>
-    ensures { OnOk result (all_pieces pieces.new.items ≡ all_pieces pieces.old.items
-        ++ block_pieces (program_tree program.now) weight (tree_before statement.now done)) }
+    requires knows { KnowsBlock needs.now hosts.now walk.now }
+    requires tables { HaveTables needs.now hosts.now pieces.old.items }
+    ensures pieces { OnOk result (all_pieces pieces.new.items ≡ all_pieces pieces.old.items
+        ++ block_pieces (program_tree program.now) walk.now.weight walk.now.home (givens_of walk.now.block.now) place
+        (tree_before statement.now done)) }
+    ensures tables { OnOk result (HaveTables needs.now hosts.now pieces.new.items) }
 {
     tree_laws();
     let id = statement.id;
+    let weight = walk.weight;
     match &statement.kind {
         StmtKind::Let { var, value } => {
-            add_expr(pieces, weight, id, value)?;
-            add_giving(pieces, weight, id, *var)
+            add_expr(pieces, needs, hosts, weight, id, value)?;
+            add_giving(pieces, needs, hosts, walk, place, id, *var)
         }
         StmtKind::SetField { field, value } => {
-            add_expr(pieces, weight, id, value)?;
-            add_access(pieces, weight, id, *field)
+            add_expr(pieces, needs, hosts, weight, id, value)?;
+            add_access(pieces, needs, hosts, weight, id, *field)
         }
         StmtKind::SetElement {
             field,
             index,
             value,
         } => {
-            add_expr(pieces, weight, id, index)?;
-            add_expr(pieces, weight, id, value)?;
-            add_access(pieces, weight, id, *field)
+            add_expr(pieces, needs, hosts, weight, id, index)?;
+            add_expr(pieces, needs, hosts, weight, id, value)?;
+            add_access(pieces, needs, hosts, weight, id, *field)
         }
         StmtKind::If { guard, yes, no } => {
-            add_expr(pieces, weight, id, guard)?;
-            add_nested(pieces, program, weight, id, yes)?;
-            add_nested(pieces, program, weight, id, no)
+            add_expr(pieces, needs, hosts, weight, id, guard)?;
+            add_nested(pieces, program, needs, hosts, weight, id, yes)?;
+            add_nested(pieces, program, needs, hosts, weight, id, no)
         }
         StmtKind::While { guard, body } => {
             let deeper = inside(weight);
-            add_expr(pieces, deeper, id, guard)?;
-            add_nested(pieces, program, deeper, id, body)
+            add_expr(pieces, needs, hosts, deeper, id, guard)?;
+            add_nested(pieces, program, needs, hosts, deeper, id, body)
         }
         StmtKind::Call {
             method,
             args,
             into,
             ..
-        } => add_call(pieces, program, weight, id, *method, args, *into),
-        StmtKind::Return { value } => add_expr(pieces, weight, id, value),
+        } => {
+            add_call(
+                pieces, program, needs, hosts, weight, id, *method, args, *into,
+            )?;
+            add_given(pieces, needs, hosts, walk, place, id, *into)
+        }
+        StmtKind::Return { value } => add_expr(pieces, needs, hosts, weight, id, value),
     }
 }
 
-/// Adds the pieces of a call.
+/// Adds the pieces of a call, without what its result gives.
 fn add_call(
     pieces: &mut Vec<Piece<'_>>,
     program: &Program,
+    needs: &Needs,
+    hosts: &Hosts,
     weight: u64,
     statement: StmtId,
     method: MethodId,
     args: &[Expr],
     into: Option<VarId>,
 ) -> Result<(), OutOfMemory>
-    ensures { OnOk result (all_pieces pieces.new.items
+    requires { HaveTables needs.now hosts.now pieces.old.items }
+    ensures pieces { OnOk result (all_pieces pieces.new.items
         ≡ all_pieces pieces.old.items
         ++ call_pieces (program_tree program.now) weight statement method (map expr_tree args.now) into) }
+    ensures tables { OnOk result (HaveTables needs.now hosts.now pieces.new.items) }
 {
-    add_arguments(pieces, weight, statement, params_of(program, method), args)?;
-    pieces.push(Piece::Calling {
-        weight,
-        statement,
-        method,
-        kept: into.is_some(),
-    })?;
-    match into {
-        Some(variable) => add_giving(pieces, weight, statement, variable),
-        None => Ok(()),
-    }
+    let params = params_of(program, method);
+    add_arguments(
+        pieces, needs, hosts, weight, statement, method, params, args,
+    )?;
+    add_piece(
+        pieces,
+        needs,
+        hosts,
+        Piece::Calling {
+            weight,
+            statement,
+            method,
+            kept: into.is_some(),
+        },
+    )
 }
 
 /// Adds the pieces of the arguments of a call, each with the parameter that gets it.
 fn add_arguments(
     pieces: &mut Vec<Piece<'_>>,
+    needs: &Needs,
+    hosts: &Hosts,
     weight: u64,
     statement: StmtId,
+    method: MethodId,
     params: &[VarId],
     args: &[Expr],
 ) -> Result<(), OutOfMemory>
-    ensures { OnOk result (all_pieces pieces.new.items
-        ≡ all_pieces pieces.old.items ++ argument_pieces weight statement params.now (map expr_tree args.now)) }
+    requires { HaveTables needs.now hosts.now pieces.old.items }
+    ensures pieces { OnOk result (all_pieces pieces.new.items ≡ all_pieces pieces.old.items
+        ++ argument_pieces weight statement method params.now (map expr_tree args.now)) }
+    ensures tables { OnOk result (HaveTables needs.now hosts.now pieces.new.items) }
 {
     let mut left = params;
     for arg in args {
-        add_expr(pieces, weight, statement, arg)?;
+        add_expr(pieces, needs, hosts, weight, statement, arg)?;
         if let [param, more @ ..] = left {
-            add_giving(pieces, weight, statement, *param)?;
+            let variable = *param;
+            add_piece(
+                pieces,
+                needs,
+                hosts,
+                Piece::Passing {
+                    weight,
+                    statement,
+                    method,
+                    variable,
+                },
+            )?;
             left = more;
         }
     }
@@ -214,62 +256,125 @@ fn add_arguments(
 /// Adds a piece for each field that an expression reads.
 fn add_expr(
     pieces: &mut Vec<Piece<'_>>,
+    needs: &Needs,
+    hosts: &Hosts,
     weight: u64,
     statement: StmtId,
     expr: &Expr,
 ) -> Result<(), OutOfMemory>
-    ensures { OnOk result (all_pieces pieces.new.items
+    requires { HaveTables needs.now hosts.now pieces.old.items }
+    ensures pieces { OnOk result (all_pieces pieces.new.items
         ≡ all_pieces pieces.old.items ++ expr_pieces weight statement (expr_tree expr.now)) }
+    ensures tables { OnOk result (HaveTables needs.now hosts.now pieces.new.items) }
 {
     match expr {
         Expr::Number(_) => Ok(()),
         Expr::Local(_) => Ok(()),
-        Expr::Scalar(field) => add_access(pieces, weight, statement, *field),
+        Expr::Scalar(field) => add_access(pieces, needs, hosts, weight, statement, *field),
         Expr::Element(field, index) => {
-            add_expr(pieces, weight, statement, index)?;
-            add_access(pieces, weight, statement, *field)
+            add_expr(pieces, needs, hosts, weight, statement, index)?;
+            add_access(pieces, needs, hosts, weight, statement, *field)
         }
-        Expr::Not(operand) => add_expr(pieces, weight, statement, operand),
-        Expr::Negate(operand) => add_expr(pieces, weight, statement, operand),
+        Expr::Not(operand) => add_expr(pieces, needs, hosts, weight, statement, operand),
+        Expr::Negate(operand) => add_expr(pieces, needs, hosts, weight, statement, operand),
         Expr::Binary(_, left, right) => {
-            add_expr(pieces, weight, statement, left)?;
-            add_expr(pieces, weight, statement, right)
+            add_expr(pieces, needs, hosts, weight, statement, left)?;
+            add_expr(pieces, needs, hosts, weight, statement, right)
         }
-        Expr::Declassify(operand, _) => add_expr(pieces, weight, statement, operand),
-        Expr::Endorse(operand, _) => add_expr(pieces, weight, statement, operand),
+        Expr::Declassify(operand, _) => add_expr(pieces, needs, hosts, weight, statement, operand),
+        Expr::Endorse(operand, _) => add_expr(pieces, needs, hosts, weight, statement, operand),
     }
 }
 
 /// Adds that a statement reads or writes a field.
 fn add_access(
     pieces: &mut Vec<Piece<'_>>,
+    needs: &Needs,
+    hosts: &Hosts,
     weight: u64,
     statement: StmtId,
     field: FieldId,
 ) -> Result<(), OutOfMemory>
-    ensures { OnOk result (all_pieces pieces.new.items
+    requires { HaveTables needs.now hosts.now pieces.old.items }
+    ensures pieces { OnOk result (all_pieces pieces.new.items
         ≡ all_pieces pieces.old.items ++ access weight statement field ∷ []) }
+    ensures tables { OnOk result (HaveTables needs.now hosts.now pieces.new.items) }
 {
-    Ok(pieces.push(Piece::Access {
-        weight,
-        statement,
-        field,
-    })?)
+    add_piece(
+        pieces,
+        needs,
+        hosts,
+        Piece::Access {
+            weight,
+            statement,
+            field,
+        },
+    )
 }
 
-/// Adds that a statement gives a variable a value.
-fn add_giving(
-    pieces: &mut Vec<Piece<'_>>,
-    weight: u64,
+/// Adds that a statement gives a variable a value, at a place of a block.
+fn add_giving<'a>(
+    pieces: &mut Vec<Piece<'a>>,
+    needs: &Needs,
+    hosts: &Hosts,
+    walk: &Walk<'a>,
+    place: usize,
     statement: StmtId,
     variable: VarId,
 ) -> Result<(), OutOfMemory>
-    ensures { OnOk result (all_pieces pieces.new.items
-        ≡ all_pieces pieces.old.items ++ giving weight statement variable ∷ []) }
+    requires knows { KnowsBlock needs.now hosts.now walk.now }
+    requires tables { HaveTables needs.now hosts.now pieces.old.items }
+    ensures pieces { OnOk result (all_pieces pieces.new.items ≡ all_pieces pieces.old.items
+        ++ giving walk.now.weight statement variable walk.now.home (givens_of walk.now.block.now) place ∷ []) }
+    ensures tables { OnOk result (HaveTables needs.now hosts.now pieces.new.items) }
 {
-    Ok(pieces.push(Piece::Giving {
-        weight,
-        statement,
-        variable,
-    })?)
+    add_piece(
+        pieces,
+        needs,
+        hosts,
+        Piece::Giving {
+            walk: *walk,
+            place,
+            statement,
+            variable,
+        },
+    )
+}
+
+/// The same where it gives a value to a variable at all.
+fn add_given<'a>(
+    pieces: &mut Vec<Piece<'a>>,
+    needs: &Needs,
+    hosts: &Hosts,
+    walk: &Walk<'a>,
+    place: usize,
+    statement: StmtId,
+    gives: Option<VarId>,
+) -> Result<(), OutOfMemory>
+    requires knows { KnowsBlock needs.now hosts.now walk.now }
+    requires tables { HaveTables needs.now hosts.now pieces.old.items }
+    ensures pieces { OnOk result (all_pieces pieces.new.items ≡ all_pieces pieces.old.items
+        ++ given_pieces walk.now.weight statement gives walk.now.home (givens_of walk.now.block.now) place) }
+    ensures tables { OnOk result (HaveTables needs.now hosts.now pieces.new.items) }
+{
+    match gives {
+        Some(variable) => add_giving(pieces, needs, hosts, walk, place, statement, variable),
+        None => Ok(()),
+    }
+}
+
+/// Adds a piece.
+fn add_piece<'a>(
+    pieces: &mut Vec<Piece<'a>>,
+    needs: &Needs,
+    hosts: &Hosts,
+    piece: Piece<'a>,
+) -> Result<(), OutOfMemory>
+    requires knows { HasTable needs.now hosts.now piece }
+    requires tables { HaveTables needs.now hosts.now pieces.old.items }
+    ensures pieces { OnOk result (all_pieces pieces.new.items
+        ≡ all_pieces pieces.old.items ++ piece_shape piece.entry ∷ []) }
+    ensures tables { OnOk result (HaveTables needs.now hosts.now pieces.new.items) }
+{
+    Ok(pieces.push(piece)?)
 }

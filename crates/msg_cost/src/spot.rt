@@ -29,3 +29,26 @@ impl Spot {
         self.back.unwrap_or(self.host)
     }
 }
+
+ghost use Rattle.std.specs.Prelude.{◌≡◌};
+ghost use Rattle.msg_cost.specs.Moves.{straight_to};
+
+/// The host to which the token goes from a spot straight to the next, and to which a value may ride.
+pub fn straight_to(spot: Spot, next: Spot) -> Option<HostId>
+    ensures { result ≡ straight_to spot next }
+{
+    if spot.host.0 == next.host.0 {
+        return None;
+    }
+    match (spot.back, next.back) {
+        (None, None) => Some(next.host),
+        (None, Some(back)) => {
+            if back.0 == spot.host.0 {
+                Some(next.host)
+            } else {
+                None
+            }
+        }
+        (Some(_), _) => None,
+    }
+}

@@ -4,13 +4,9 @@ ghost use Rattle.std.specs.Prelude.{◌≡◌, ◌<◌, ℕ, nat_le};
 ghost use Rattle.jif_tree.specs.Trees.{ProgramTree};
 ghost use Rattle.need_labels.specs.Plan.{PlanShape};
 ghost use Rattle.msg_cost.specs.Kept.{is_trusted_from};
-ghost use Rattle.msg_cost.specs.PieceViews.{piece_shape};
-ghost use Rattle.msg_cost.specs.Tables.{planned_with, IsTrustedSince, IsTable, HasTable};
+ghost use Rattle.msg_cost.specs.Tables.{planned_with, IsTrustedSince, IsTable};
 
-use crate::around::is_ascending;
-use crate::piece::Piece;
 use crate::trust::is_trusted_for;
-use crate::walk::Walk;
 use host_decl::Hosts;
 use jif_tree::Stmt;
 use js_base::HostId;
@@ -62,23 +58,5 @@ fn short(number: usize) -> u16
         number as u16
     } else {
         u16::MAX
-    }
-}
-
-/// A piece that knows of its block what a walk has to, where it is one.
-pub fn with_table<'a>(needs: &Needs, hosts: &Hosts, piece: Piece<'a>) -> Piece<'a>
-    ensures shape { piece_shape result ≡ piece_shape piece.entry }
-    ensures table { HasTable needs.now hosts.now result }
-{
-    match piece {
-        Piece::Walk(walk) => Piece::Walk(Walk {
-            ascending: is_ascending(walk.block),
-            table: block_table(needs, hosts, walk.block),
-            ..walk
-        }),
-        Piece::Access { .. } => piece,
-        Piece::Giving { .. } => piece,
-        Piece::Calling { .. } => piece,
-        Piece::Ending { .. } => piece,
     }
 }

@@ -5,7 +5,8 @@ ghost use Rattle.jif_tree.specs.Trees.{expr_tree};
 ghost use Rattle.msg_cost.specs.Cost.{cost_of};
 ghost use Rattle.msg_cost.specs.Kept.{IsReadingWord, AreReadingWords};
 ghost use Rattle.msg_cost.specs.declared.kept.TheConstants.{KEPT_VARIABLES};
-ghost use Rattle.msg_cost.specs.Terms.{exchange, expr_terms, forwards};
+ghost use Rattle.msg_cost.specs.Moves.{is_to};
+ghost use Rattle.msg_cost.specs.Terms.{exchange, expr_terms, forwards, given_terms};
 ghost use Rattle.need_labels.specs.Plan.{field_host};
 ghost use Rattle.msg_cost.specs.Views.{seated_shape, capped};
 
@@ -92,18 +93,55 @@ fn kept_reading(planned: &Seated<'_>, kept: &Kept<'_>, x: VarId) -> u64
     }
 }
 
-/// The cost of sending a variable's value to each other host that reads it.
-pub fn forwards(planned: &Seated<'_>, kept: &Kept<'_>, weight: u64, host: HostId, x: VarId) -> u64
+/// Whether a value rides to this host.
+fn rides_to(carried: Option<HostId>, other: u8) -> bool
+    ensures { result ≡ is_to carried other }
+{
+    match carried {
+        Some(host) => other == host.0,
+        None => false,
+    }
+}
+
+/// The cost of sending a variable's value to each other host that reads it, but for the one to which it rides.
+pub fn forwards(
+    planned: &Seated<'_>,
+    kept: &Kept<'_>,
+    weight: u64,
+    host: HostId,
+    x: VarId,
+    carried: Option<HostId>,
+) -> u64
     requires { AreReadingWords (seated_shape planned.now) kept.now.found kept.now.reading.now }
-    ensures { result ≡ capped (cost_of planned.now.hosts.now (forwards (seated_shape planned.now) weight host x)) }
+    ensures { result ≡ capped (cost_of planned.now.hosts.now
+        (forwards (seated_shape planned.now) weight host x carried)) }
 {
     let reading = kept_reading(planned, kept, x);
     let count = planned.hosts.hosts().len() as u8;
     let mut total: u64 = 0;
     for other in 0..count {
-        if other != host.0 && has_bit(reading, other) {
+        if other != host.0 && has_bit(reading, other) && !rides_to(carried, other) {
             total = total.saturating_add(exchange(planned.hosts, weight, host, HostId(other)));
         }
     }
     total
+}
+
+/// The same where a value is given at all.
+pub fn given(
+    planned: &Seated<'_>,
+    kept: &Kept<'_>,
+    weight: u64,
+    host: HostId,
+    gives: Option<VarId>,
+    carried: Option<HostId>,
+) -> u64
+    requires { AreReadingWords (seated_shape planned.now) kept.now.found kept.now.reading.now }
+    ensures { result ≡ capped (cost_of planned.now.hosts.now
+        (given_terms (seated_shape planned.now) weight host gives carried)) }
+{
+    match gives {
+        Some(x) => forwards(planned, kept, weight, host, x, carried),
+        None => 0,
+    }
 }

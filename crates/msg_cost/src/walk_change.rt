@@ -6,39 +6,45 @@
 //! spot is known, and so it is gone over from its beginning. A host that is handed the token instead of another one
 //! changes who gives it back in such a stretch, up to the next host that is handed it.
 
-ghost use Rattle.std.specs.Prelude.{◌≡◌, ◌≢◌, ◌<◌, ◌≤◌, ◌↔◌, List, ◌∷◌, [], IsTrue, drop, suc, length};
+ghost use Rattle.std.specs.Prelude.{◌≡◌, ◌≢◌, ◌+◌, ◌-◌, ◌^◌, ◌<◌, ◌≤◌, ◌↔◌, min, List, ◌∷◌, [], Some, None};
+ghost use Rattle.std.specs.Prelude.{IsTrue, drop, length};
+ghost use Rattle.js_base.specs.declared.ids.StmtId.{StmtId};
 ghost use Rattle.need_labels.specs.Plan.{statement_host};
 ghost use Rattle.msg_cost.specs.Cost.{cost_of};
-ghost use Rattle.msg_cost.specs.Moves.{on, end_host};
-ghost use Rattle.msg_cost.specs.Pieces.{piece_cost, walk_terms};
-ghost use Rattle.msg_cost.specs.PieceViews.{walk_shape};
+ghost use Rattle.msg_cost.specs.Moves.{on, next_spot, straight_to, end_host};
+ghost use Rattle.msg_cost.specs.Pieces.{untouched, gives_behind, piece_cost, walk_terms};
+ghost use Rattle.msg_cost.specs.PieceViews.{given_of, givens_of, walk_shape};
 ghost use Rattle.msg_cost.specs.Tables.{KnowsBlock};
-ghost use Rattle.msg_cost.specs.Terms.{Term, message};
+ghost use Rattle.msg_cost.specs.Terms.{message, given_terms};
 ghost use Rattle.msg_cost.specs.Views.{seated_shape, ids_of, capped};
-ghost use Rattle.msg_cost.specs.Walks.{under, SameHosts, IsMoved, CostsWith, IsChange};
+ghost use Rattle.msg_cost.specs.Walks.{under, SameHosts, IsMoved, IsChange};
 
 use crate::around::places_around;
+use crate::carried::touches;
+use crate::kept::NOTHING;
 use crate::messages::{leave, message, move_on};
 use crate::seated::Seated;
 use crate::settled::{Start, last_start, walk_end};
-use crate::spot::Spot;
+use crate::spot::{Spot, straight_to};
 use crate::tokens::next_spot;
 use crate::trust::Trust;
-use crate::walk::Walk;
-use js_base::StmtId;
+use crate::values::given;
+use crate::walk::{Walk, gives};
+use jif_tree::Stmt;
+use js_base::{StmtId, VarId};
+use need_labels::Needs;
+
+/// Nothing changes.
+pub const NO_CHANGE: Change = Change {
+    before: 0,
+    after: 0,
+};
 
 /// What something costs before a move and behind it, but for what it costs both times.
 #[derive(Clone, Copy)]
 pub struct Change {
     pub before: u64,
     pub after: u64,
-}
-
-/// How far a walk has come, and what it cost to come there.
-#[derive(Clone, Copy)]
-struct Progress {
-    spot: Spot,
-    cost: u64,
 }
 
 /// What a walk costs before and behind the move of a statement, but for what it costs both times.
@@ -50,8 +56,8 @@ pub fn walk_change(
 ) -> Change
     requires moved { IsMoved statement (seated_shape before.now) (seated_shape after.now) }
     requires knows { KnowsBlock before.now.needs.now before.now.hosts.now walk.now }
-    ensures { IsChange (piece_cost (seated_shape before.now) (walk_shape walk.now))
-        (piece_cost (seated_shape after.now) (walk_shape walk.now)) result }
+    ensures { IsChange (piece_cost (seated_shape before.now) (Some statement) (walk_shape walk.now))
+        (piece_cost (seated_shape after.now) (Some statement) (walk_shape walk.now)) result }
 {
     let moves = moves_change(before, after, statement, walk);
     if !walk.nested {
@@ -88,9 +94,11 @@ fn moves_change(
     ensures { let first = seated_shape before.now in
         let second = seated_shape after.now in
         IsChange (cost_of before.now.hosts.now
-        (walk_terms first walk.now.weight (on (statement_host first.plan walk.now.home)) (ids_of walk.now.block.now)))
+        (walk_terms first (Some statement) walk.now.weight (on (statement_host first.plan walk.now.home)) None
+        (givens_of walk.now.block.now)))
         (cost_of before.now.hosts.now
-        (walk_terms second walk.now.weight (on (statement_host second.plan walk.now.home)) (ids_of walk.now.block.now)))
+        (walk_terms second (Some statement) walk.now.weight (on (statement_host second.plan walk.now.home)) None
+        (givens_of walk.now.block.now)))
         result }
 {
     let places = places_around(walk.block, walk.ascending, statement);
@@ -98,7 +106,34 @@ fn moves_change(
     let home = before.host_of(walk.home);
     let start = last_start(before, home, walk.block, &walk.table, most);
     let spot = spot_after(after, walk, start);
-    stretch_change(before, after, walk, start, spot, places.behind)
+    stretch_change(before, after, statement, walk, start, spot, places.behind)
+}
+
+/// The variable to which a statement gives a value that the move of another one does not touch.
+fn untouched(needs: &Needs, moved: StmtId, statement: &Stmt) -> Option<VarId>
+    ensures { result ≡ untouched needs.now (Some moved) (given_of statement.now) }
+{
+    match gives(statement) {
+        Some(x) => {
+            if touches(needs, Some(moved), statement.id, x) {
+                None
+            } else {
+                Some(x)
+            }
+        }
+        None => None,
+    }
+}
+
+/// The same of the statement before a place of a block, if there is one.
+fn left_at(needs: &Needs, moved: StmtId, block: &[Stmt], place: usize) -> Option<VarId>
+    requires { place ≤ length block.now }
+    ensures { result ≡ gives_behind needs.now (Some moved) None (givens_of block.now) place }
+{
+    if place == 0 {
+        return None;
+    }
+    untouched(needs, moved, &block[place - 1])
 }
 
 /// How many of the first statements of a block stand on the same hosts before and behind the move of a statement, where
@@ -127,43 +162,116 @@ fn spot_after(after: &Seated<'_>, walk: &Walk<'_>, start: Start) -> Spot
 }
 
 /// The same of the walk from a place on, where it stands at one spot before the move and perhaps at another one behind
-/// it. From some place on the statements stand on the same hosts.
+/// it, and what the statement before gives is still to be counted. From some place on the statements stand on the same
+/// hosts.
 fn stretch_change(
     before: &Seated<'_>,
     after: &Seated<'_>,
+    statement: StmtId,
     walk: &Walk<'_>,
     start: Start,
     spot: Spot,
     same_from: usize,
 ) -> Change
-    requires moved { seated_shape after.now ≡ under (seated_shape before.now) (seated_shape after.now).plan }
+    requires moved { IsMoved statement (seated_shape before.now) (seated_shape after.now) }
     requires knows { KnowsBlock before.now.needs.now before.now.hosts.now walk.now }
     requires within { start.place ≤ length walk.now.block.now }
     requires rest { SameHosts (seated_shape before.now) (seated_shape after.now).plan
         (ids_of (drop same_from walk.now.block.now)) }
-    ensures { IsChange (cost_of before.now.hosts.now (walk_terms (seated_shape before.now) walk.now.weight start.spot
-        (ids_of (drop start.place walk.now.block.now))))
-        (cost_of before.now.hosts.now (walk_terms (seated_shape after.now) walk.now.weight spot
-        (ids_of (drop start.place walk.now.block.now)))) result }
+    ensures { let gives = gives_behind before.now.needs.now (Some statement) None (givens_of walk.now.block.now)
+        start.place in
+        IsChange (cost_of before.now.hosts.now (walk_terms (seated_shape before.now) (Some statement)
+        walk.now.weight start.spot gives (givens_of (drop start.place walk.now.block.now))))
+        (cost_of before.now.hosts.now (walk_terms (seated_shape after.now) (Some statement)
+        walk.now.weight spot gives (givens_of (drop start.place walk.now.block.now)))) result }
 {
-    let mut first = Progress {
-        spot: start.spot,
-        cost: 0,
-    };
-    let mut second = Progress { spot, cost: 0 };
+    let mut total = NO_CHANGE;
+    let mut first = start.spot;
+    let mut second = spot;
     for place in start.place..walk.block.len() {
-        if place >= same_from && is_same_spot(first.spot, second.spot) {
-            return Change {
-                before: first.cost,
-                after: second.cost,
-            };
+        if place >= same_from && is_same_spot(first, second) {
+            return total;
         }
-        first = walked_on(before, walk, place, first);
-        second = walked_on(after, walk, place, second);
+        let next = next_at(before, walk, place, first);
+        let then = next_at(after, walk, place, second);
+        let one = ride(first, next);
+        let other = ride(second, then);
+        let gave = given_change(before, after, statement, walk, place, one, other);
+        let moved = Change {
+            before: move_on(before.hosts, walk.weight, first, next),
+            after: move_on(after.hosts, walk.weight, second, then),
+        };
+        total = plus(plus(total, gave), moved);
+        first = next;
+        second = then;
     }
+    let one = Spot::on(first.host);
+    let other = Spot::on(second.host);
+    let gave = given_change(before, after, statement, walk, walk.block.len(), one, other);
+    let last = Change {
+        before: leave(before.hosts, walk.weight, first),
+        after: leave(after.hosts, walk.weight, second),
+    };
+    plus(plus(total, gave), last)
+}
+
+/// A host, and the one to which a value rides that it gives at a spot before the next.
+fn ride(spot: Spot, next: Spot) -> Spot
+    ensures { result ≡ record { host = spot.host; back = straight_to spot next } }
+{
+    Spot {
+        host: spot.host,
+        back: straight_to(spot, next),
+    }
+}
+
+/// What it costs that the statement before a place gives a variable a value, before and behind the move of a statement
+/// that does not touch that, by the hosts that give it and those to which it rides. Where these are the same, so are
+/// the costs, and nothing is looked up.
+fn given_change(
+    before: &Seated<'_>,
+    after: &Seated<'_>,
+    statement: StmtId,
+    walk: &Walk<'_>,
+    place: usize,
+    first: Spot,
+    second: Spot,
+) -> Change
+    requires moved { IsMoved statement (seated_shape before.now) (seated_shape after.now) }
+    requires within { place ≤ length walk.now.block.now }
+    ensures { let gives = gives_behind before.now.needs.now (Some statement) None (givens_of walk.now.block.now) place in
+        IsChange (cost_of before.now.hosts.now
+        (given_terms (seated_shape before.now) walk.now.weight first.host gives first.back))
+        (cost_of before.now.hosts.now
+        (given_terms (seated_shape after.now) walk.now.weight second.host gives second.back)) result }
+{
+    if is_same_spot(first, second) {
+        return NO_CHANGE;
+    }
+    let gives = left_at(before.needs, statement, walk.block, place);
     Change {
-        before: walked_off(before, walk, first),
-        after: walked_off(after, walk, second),
+        before: given(before, &NOTHING, walk.weight, first.host, gives, first.back),
+        after: given(
+            after,
+            &NOTHING,
+            walk.weight,
+            second.host,
+            gives,
+            second.back,
+        ),
+    }
+}
+
+/// Two changes in one.
+fn plus(first: Change, second: Change) -> Change
+    ensures { result ≡ record {
+      before = min (first.before + second.before) (2 ^ 64 - 1);
+      after = min (first.after + second.after) (2 ^ 64 - 1);
+    } }
+{
+    Change {
+        before: first.before.saturating_add(second.before),
+        after: first.after.saturating_add(second.after),
     }
 }
 
@@ -179,35 +287,14 @@ fn is_same_spot(first: Spot, second: Spot) -> bool
         }
 }
 
-/// How far the walk has come behind the statement at a place. Nothing changes where that stands on the same host.
-fn walked_on(planned: &Seated<'_>, walk: &Walk<'_>, place: usize, so_far: Progress) -> Progress
+/// Where the statement at a place of the block of a walk runs.
+fn next_at(planned: &Seated<'_>, walk: &Walk<'_>, place: usize, spot: Spot) -> Spot
     requires within { place < length walk.now.block.now }
     requires knows { KnowsBlock planned.now.needs.now planned.now.hosts.now walk.now }
-    ensures { (all : List Term) → CostsWith planned.now.hosts.now all so_far.cost
-        (walk_terms (seated_shape planned.now) walk.now.weight so_far.spot (ids_of (drop place walk.now.block.now))) →
-        CostsWith planned.now.hosts.now all result.cost
-        (walk_terms (seated_shape planned.now) walk.now.weight result.spot
-        (ids_of (drop (suc place) walk.now.block.now))) }
+    ensures { (statement : StmtId) (others : List StmtId) →
+        ids_of (drop place walk.now.block.now) ≡ statement ∷ others →
+        result ≡ next_spot (seated_shape planned.now) spot statement others }
 {
-    if planned.host_of(walk.block[place].id).0 == so_far.spot.host.0 {
-        return so_far;
-    }
     let mut trust = Trust::Table(&walk.table);
-    let spot = next_spot(planned, so_far.spot, walk.block, place, &mut trust);
-    let moved = move_on(planned.hosts, walk.weight, so_far.spot, spot);
-    Progress {
-        spot,
-        cost: so_far.cost.saturating_add(moved),
-    }
-}
-
-/// What the walk cost, once the last statement of its block is left.
-fn walked_off(planned: &Seated<'_>, walk: &Walk<'_>, so_far: Progress) -> u64
-    ensures { (all : List Term) → CostsWith planned.now.hosts.now all so_far.cost
-        (walk_terms (seated_shape planned.now) walk.now.weight so_far.spot []) →
-        capped (cost_of planned.now.hosts.now all) ≡ result }
-{
-    so_far
-        .cost
-        .saturating_add(leave(planned.hosts, walk.weight, so_far.spot))
+    next_spot(planned, spot, walk.block, place, &mut trust)
 }

@@ -8,10 +8,10 @@ use Rattle.jif_tree.proofs.StatementCounts.{part_counts, first_counts, second_co
 use Rattle.need_labels.specs.Plan.{statement_host}
 use Rattle.msg_cost.specs.Cost.{cost_of}
 use Rattle.msg_cost.specs.Moves.{on}
-use Rattle.msg_cost.specs.Terms.{block_terms}
+use Rattle.msg_cost.specs.Terms.{block_terms, own_terms}
 use Rattle.msg_cost.specs.Views.{seated_shape, ids_of, capped}
 use Rattle.msg_cost.specs.Walks.{CostsWith}
-use Rattle.msg_cost.proofs.Walks.{one_walked, branch_alone, loop_alone}
+use Rattle.msg_cost.proofs.Walks.{one_walked, pending_terms, branch_alone, loop_alone}
 use Rattle.msg_cost.proofs.blocks.+blocks.Goals as goal
 
 pub block_cost-loop-place-preserved : goal.block_cost-loop-place-preserved
@@ -22,10 +22,18 @@ block_cost-loop-place-preserved t c =
     let all = block_terms planned c.args.weight (on c.args.home) (block_tree c.args.block.now) in
     let next = next_of c.args.block.now c.loop-place.place first c.loop-place-test.true c.index-block-place.is in
     let P : List Stmt → Type 0 = λ left. CostsWith planned.hosts all c.loop-place.total
-    (block_terms planned c.args.weight c.loop-place.spot (block_tree left)) in
-    rw (add-one, c.saturating_add-total.ensures, c.saturating_add.ensures) (
-      one_walked planned c.args.weight c.loop-place.spot c.next_spot-next.result all c.loop-place.total c.move_on.result
-          c.statement_cost.result first rest (c.next_spot-next.ensures.result first.id (ids_of rest) (ap ids_of next))
+    (pending_terms planned c.args.weight c.loop-place.spot c.loop-place.left (block_tree left)) in
+    rw (
+      add-one,
+      c.saturating_add-total.ensures,
+      c.saturating_add-in-loop-place.ensures,
+      c.saturating_add.ensures,
+      c.gives-left.ensures,
+    ) (
+      one_walked planned c.args.weight c.loop-place.spot c.next_spot-next.result c.loop-place.left all
+          c.loop-place.total c.given.result c.move_on.result c.statement_cost.result first rest
+          (c.next_spot-next.ensures.result first.id (ids_of rest) (ap ids_of next))
+          (rw c.straight_to-carried.ensures at c.given.ensures)
           c.move_on.ensures c.statement_cost.ensures (subst P next c.loop-place.invariant.0),
       rw add-one at c.next_spot-next.ensures.right,
     )
@@ -71,7 +79,7 @@ statement_cost-returns-in-If t c =
     let tree_is = ap (λ (what : StmtKind). statement_tree what (head_of c.args.statement.now) done) c.in-If.is
     ∙ c.tree_laws.ensures.branches c.in-If.guard c.in-If.yes c.in-If.no (head_of c.args.statement.now) done in
     let P : BlockTree → Type 0 = λ tree. c.saturating_add-in-If-2.result
-    ≡ capped (cost_of planned.hosts (block_terms planned c.args.weight (on host) tree)) in
+    ≡ capped (cost_of planned.hosts (own_terms planned c.args.weight tree)) in
     let read = rw c.host_of-host.ensures at c.expr_cost-in-If.ensures in
     let one = rw (c.host_of-host.ensures, c.deref.ensures.value) at c.nested_cost.ensures in
     let two = rw (c.host_of-host.ensures, c.deref-in-If.ensures.value) at c.nested_cost-in-If.ensures in
@@ -88,7 +96,7 @@ statement_cost-returns-in-While t c =
     let tree_is = ap (λ (what : StmtKind). statement_tree what (head_of c.args.statement.now) done) c.in-While.is
     ∙ c.tree_laws.ensures.loops c.in-While.guard c.in-While.body (head_of c.args.statement.now) done in
     let P : BlockTree → Type 0 = λ tree. c.saturating_add-in-While.result
-    ≡ capped (cost_of planned.hosts (block_terms planned c.args.weight (on host) tree)) in
+    ≡ capped (cost_of planned.hosts (own_terms planned c.args.weight tree)) in
     let read = rw (c.host_of-host.ensures, c.inside-deeper.ensures) at c.expr_cost-read-in-While.ensures in
     let one = rw (c.host_of-host.ensures, c.inside-deeper.ensures, c.deref-in-While.ensures.value)
     at c.nested_cost-in-While.ensures in

@@ -6,6 +6,7 @@ use Rattle.msg_cost.specs.Terms.{block_terms}
 use Rattle.msg_cost.specs.Tables.{IsRight}
 use Rattle.msg_cost.specs.Views.{seated_shape}
 use Rattle.msg_cost.specs.Walks.{CostsWith}
+use Rattle.msg_cost.proofs.Walks.{pending_terms}
 use Rattle.msg_cost.proofs.blocks.+blocks.Given as goal
 
 -- the total counts the statements so far
@@ -13,7 +14,7 @@ abbrev pub invariant-block_cost-loop-place : goal.invariant-block_cost-loop-plac
 invariant-block_cost-loop-place l =
     CostsWith l.planned.hosts.now
     (block_terms (seated_shape l.planned) l.weight (on l.fn.home) (block_tree l.block)) l.total
-    (block_terms (seated_shape l.planned) l.weight l.spot (block_tree (drop l.place l.block)))
+    (pending_terms (seated_shape l.planned) l.weight l.spot l.left (block_tree (drop l.place l.block)))
     × IsRight (seated_shape l.planned) l.block l.place l.trust
 
 abbrev pub decreases-block_cost : goal.decreases-block_cost

@@ -9,5 +9,5 @@ use Rattle.msg_cost.proofs.calls.argument_cost.Given as goal
 abbrev pub invariant-loop-arg : goal.invariant-loop-arg
 invariant-loop-arg l =
     CostsWith l.planned.hosts.now
-    (argument_terms (seated_shape l.planned) l.weight l.host l.fn.params (map expr_tree l.args)) l.total
-    (argument_terms (seated_shape l.planned) l.weight l.host l.left (map expr_tree (drop l.arg-index l.args)))
+    (argument_terms (seated_shape l.planned) l.weight l.host l.home l.fn.params (map expr_tree l.args)) l.total
+    (argument_terms (seated_shape l.planned) l.weight l.host l.home l.left (map expr_tree (drop l.arg-index l.args)))

@@ -7,4 +7,4 @@ use Rattle.msg_cost.proofs.change.row_cost.Given as goal
 -- the total is what the pieces so far cost, but for walks
 abbrev pub invariant-loop-piece : goal.invariant-loop-piece
 invariant-loop-piece l =
-    l.total ≡ capped (others_cost (seated_shape l.planned) (all_pieces (take l.piece-index l.row)))
+    l.total ≡ capped (others_cost (seated_shape l.planned) l.moved (all_pieces (take l.piece-index l.row)))

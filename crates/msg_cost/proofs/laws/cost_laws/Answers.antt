@@ -26,7 +26,7 @@ pub returns : goal.returns
 returns c = record {
   own = λ labelled needs hosts plan host sound numbered stands.
       program_none (planned_of labelled needs hosts plan) sound numbered host stands;
-  by_pieces = λ labelled needs hosts plan. by_pieces (planned_of labelled needs hosts plan);
+  by_pieces = λ labelled needs hosts plan moved. by_pieces (planned_of labelled needs hosts plan) moved;
   fits = λ labelled needs hosts plan sound sized.
       let small = program_small (planned_of labelled needs hosts plan) sound sized in omega arith;
   trusted = λ label word. test_decides label word;

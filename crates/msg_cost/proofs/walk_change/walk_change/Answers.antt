@@ -1,7 +1,10 @@
 use Rattle.std.proofs.Common.{◌≡◌, Bool, ap, sym, subst}
 use Rattle.msg_cost.specs.Moves.{PlannedShape}
 use Rattle.msg_cost.specs.Pieces.{walk, piece_cost}
-use Rattle.msg_cost.specs.Views.{seated_shape, ids_of}
+use Rattle.msg_cost.specs.Views.{seated_shape}
+use Rattle.msg_cost.specs.PieceViews.{givens_of}
+use Rattle.std.specs.Prelude.{Some}
+use Rattle.msg_cost.proofs.Statements.{list_ids}
 use Rattle.msg_cost.specs.Walks.{IsChange}
 use Rattle.msg_cost.proofs.WalkChanges.{without_back, with_back}
 use Rattle.msg_cost.proofs.walk_change.walk_change.Goals as goal
@@ -11,26 +14,28 @@ returns-then-not-walk c =
     let first = seated_shape c.args.before.now in
     let second = seated_shape c.args.after.now in
     let one = c.args.walk.now in
-    let own = ids_of one.block.now in
+    let own = givens_of one.block.now in
     let hosts : second.hosts ≡ first.hosts = ap (λ (shape : PlannedShape). shape.hosts) c.requires.moved.same in
-    let Changed : Bool → Type 0 = λ nested. IsChange (piece_cost first (walk one.weight one.home nested own))
-    (piece_cost second (walk one.weight one.home nested own)) c.moves_change-moves.result in
+    let Changed : Bool → Type 0 = λ nested. IsChange (piece_cost first (Some c.args.statement) (walk one.weight one.home nested own))
+    (piece_cost second (Some c.args.statement) (walk one.weight one.home nested own)) c.moves_change-moves.result in
     subst Changed (sym c.if-not-walk.true)
-    (without_back first second one.weight one.home own c.moves_change-moves.result hosts c.moves_change-moves.ensures)
+    (without_back first second (Some c.args.statement) one.weight one.home own c.moves_change-moves.result hosts c.moves_change-moves.ensures)
 
 pub returns : goal.returns
 returns c =
     let first = seated_shape c.args.before.now in
     let second = seated_shape c.args.after.now in
     let one = c.args.walk.now in
-    let own = ids_of one.block.now in
+    let own = givens_of one.block.now in
     let hosts : second.hosts ≡ first.hosts = ap (λ (shape : PlannedShape). shape.hosts) c.requires.moved.same in
-    let Changed : Bool → Type 0 = λ nested. IsChange (piece_cost first (walk one.weight one.home nested own))
-    (piece_cost second (walk one.weight one.home nested own))
+    let Changed : Bool → Type 0 = λ nested. IsChange (piece_cost first (Some c.args.statement) (walk one.weight one.home nested own))
+    (piece_cost second (Some c.args.statement) (walk one.weight one.home nested own))
     (record { before = c.saturating_add.result; after = c.saturating_add-2.result }) in
     subst Changed (sym c.if-not-walk.false)
-    (with_back first second one.weight one.home own c.moves_change-moves.result
+    (with_back first second (Some c.args.statement) one.weight one.home own c.moves_change-moves.result
     (record { before = c.way_back.result; after = c.way_back-2.result })
     (record { before = c.saturating_add.result; after = c.saturating_add-2.result }) hosts
-    c.moves_change-moves.ensures c.way_back.ensures c.way_back-2.ensures c.saturating_add.ensures
+    c.moves_change-moves.ensures
+    (rw (sym (list_ids one.block.now)) at c.way_back.ensures)
+    (rw (sym (list_ids one.block.now)) at c.way_back-2.ensures) c.saturating_add.ensures
     c.saturating_add-2.ensures)

@@ -5,8 +5,8 @@ use Rattle.jif_tree.specs.declared.program.Method.{Method}
 use Rattle.jif_tree.specs.Trees.{method_tree, program_tree}
 use Rattle.msg_cost.specs.Pieces.{Piece, method_pieces}
 use Rattle.msg_cost.specs.PieceViews.{all_pieces}
-use Rattle.msg_cost.proofs.PieceWalks.{pushed_one, walked_added, method_more}
-use Rattle.msg_cost.proofs.pieces.bare_pieces.Goals as goal
+use Rattle.msg_cost.proofs.PieceWalks.{walk_is, walked_added, method_more}
+use Rattle.msg_cost.proofs.pieces.program_pieces.Goals as goal
 
 pub loop-method-preserved : goal.loop-method-preserved
 loop-method-preserved c =
@@ -17,10 +17,16 @@ loop-method-preserved c =
     let next = next_of items c.loop-method.method-index method c.loop-method-test.true c.method-item.is in
     let P : List Method → Type 0 = λ left. so_far ++ flat_map (method_pieces program) (map method_tree left)
     ≡ flat_map (method_pieces program) (map method_tree items) in
-    let pushed = pushed_one c.loop-method.pieces.items c.push.new.self.items _ c.in_ok-push.ensures.items
-    ∙ ap (λ (one : Piece). so_far ++ one ∷ []) (rw c.deref.ensures.value at c.bare_walk.ensures) in
-    rw add-one
-    (method_more program so_far _ _ method (drop (suc c.loop-method.method-index) items)
-    (subst P next c.loop-method.invariant)
-    (walked_added program 1 method.head false method.body.items so_far _ _ pushed
-    (rw c.deref-in-loop-method.ensures.value at c.in_ok-add_block.ensures)))
+    let shape = c.walk_of-walk.ensures.shape in
+    let block = method.body.items in
+    let pushed = c.in_ok-add_piece.ensures.pieces
+    ∙ ap (λ (one : Piece). so_far ++ one ∷ [])
+    (walk_is c.walk_of-walk.result 1 method.head false block shape.0 shape.1 shape.2
+    (shape.3 ∙ c.deref.ensures.value)) in
+    let added = rw (shape.0, shape.1, shape.3 ∙ c.deref.ensures.value) at c.in_ok-add_block.ensures.pieces in
+    rw add-one (record {
+      pieces = method_more program so_far _ _ method (drop (suc c.loop-method.method-index) items)
+          (subst P next c.loop-method.invariant.pieces)
+          (walked_added program 1 method.head false block so_far _ _ pushed added);
+      tables = c.in_ok-add_block.ensures.tables;
+    })
