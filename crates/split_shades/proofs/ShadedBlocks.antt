@@ -27,7 +27,7 @@ use Rattle.split_rules.specs.Walk.{block_emissions}
 use Rattle.split_rules.proofs.Places.{same_host}
 use Rattle.split_rules.proofs.ToldMoves.{SpotSees, AllSee, MovesWell, next_well, lane_sees}
 use Rattle.split_rules.proofs.ToldStatements.{ArgumentsWell, BlockTellsWell}
-use Rattle.split_rules.proofs.ToldWalks.{readers_see, statements_see}
+use Rattle.split_rules.proofs.ToldWalks.{told_see, statements_see}
 use Rattle.split_rules.proofs.TypedMoves.{lane_level}
 use Rattle.split_rules.proofs.WalkedBlocks.{inside_of, branch_front, branch_own, loop_front, loop_own}
 use Rattle.split_rules.proofs.WalkedStates.{counts_more}
@@ -243,7 +243,7 @@ block_shaded scene tree all around (set_local heading x value rest) well flows s
     (here host (calm_ahead level_there pc)) there branches (own host)
     (set_local_shaded scene host pc heading.id level_there there branches (pc, level_is, flows_self pc) x value carried
     (record { reads = well.1; indexes = flows.0.indexes; silent = λ none. (silent none).0 }) flows.0
-    (readers_see scene.planned label host x carried (all.readers x)))))
+    (told_see scene.planned label host x carried (all.readers x)))))
     (λ lane_there there branches_there methods_there level_is known_there sees_there rides_there.
     block_shaded scene tree all around rest well.3 flows.1 sites (λ none. (silent none).1) level lane_there there
     branches_there methods_there level_is known_there sees_there rides_there)

@@ -20,7 +20,7 @@ use Rattle.split_rules.specs.Positions.{Level, body}
 use Rattle.split_rules.specs.Walk.{entry_id, emitted, expr_emissions, told_readers, pass_emissions, riding_params}
 use Rattle.split_rules.specs.Walk.{call_with, argument_emissions, kept_emissions, call_emissions}
 use Rattle.split_rules.proofs.ToldStatements.{EntersWell}
-use Rattle.split_rules.proofs.ToldWalks.{readers_see}
+use Rattle.split_rules.proofs.ToldWalks.{told_see}
 use Rattle.split_rules.proofs.WalkedCalls.{still_there}
 use Rattle.split_rules.proofs.WalkedMoves.{at_last}
 use Rattle.split_shades.specs.Flows.{IsSeenOn, ArgumentsFlow, ResultFlows, AllFlow}
@@ -102,7 +102,7 @@ arguments_shaded scene tree all me pc id level entries branches below home (para
           ),
       passes_shaded scene site entries branches is refl refl param flows.0.program
           (told_readers scene.planned me param (Some home))
-          (readers_see scene.planned label me param (Some home) (all.readers param)),
+          (told_see scene.planned label me param (Some home) (all.readers param)),
     )))
     (arguments_shaded scene tree all me pc id level entries branches below home params others read.1 flows.1)
 
@@ -126,7 +126,7 @@ kept_shaded scene tree all me pc id level entries branches below (Some result) (
       ),
       sends_shaded scene site entries branches is refl refl into flows.program
           (told_readers scene.planned me into carried)
-          (readers_see scene.planned label me into carried (all.readers into)),
+          (told_see scene.planned label me into carried (all.readers into)),
     )
 kept_shaded scene tree all me pc id level entries branches below (Some result) None carried flows = refl
 kept_shaded scene tree all me pc id level entries branches below None (Some into) carried flows = refl
