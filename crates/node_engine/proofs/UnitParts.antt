@@ -9,7 +9,8 @@ use Rattle.js_base.proofs.Decisions.{Decided, both, never}
 use Rattle.host_code.specs.declared.message.Message.{Message}
 use Rattle.host_code.specs.declared.message.Message.TheVariants as message
 use Rattle.host_code.specs.Code.{CodeShape}
-use Rattle.host_code.specs.Messages.{MessageFits}
+use Rattle.host_code.specs.Messages.{AreOfCode, MessageFits}
+use Rattle.host_code.specs.Riders.{Rider}
 use Rattle.host_code.specs.Sound.{IsOther}
 use Rattle.host_code.specs.Thread.{ThreadShape}
 use Rattle.host_core.specs.Host.{HostShape, Outcome}
@@ -228,12 +229,17 @@ is_host_id one other = elim (cases_eq one.0 other.0) [
 is_other : (code : CodeShape) (me from : HostId) → Decided (IsOther code me from)
 is_other code me from = both _ _ (below _ _) (never _ (is_host_id from me))
 
+ride : (code : CodeShape) (riders : List Rider) → Decided (AreOfCode code riders)
+ride code [] = inl tt
+ride code (rider ∷ riders) = both _ _ (below _ _) (ride code riders)
+
 fits : (code : CodeShape) (sent : Message) → Decided (MessageFits code sent)
 fits code (message.Get request field index) = below _ _
 fits code (message.Set request field index value) = below _ _
 fits code (message.Forward request frame variable value) = below _ _
 fits code (message.Sync request frame entry token) = below _ _
 fits code (message.Rgoto frame entry token) = below _ _
+fits code (message.RgotoWith frame entry token riders) = both _ _ (below _ _) (ride code riders)
 fits code (message.Lgoto token) = below _ _
 fits code (message.Value request value) = inl tt
 fits code (message.Ack request) = inl tt

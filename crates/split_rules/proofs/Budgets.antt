@@ -28,16 +28,16 @@ use Rattle.host_code.specs.declared.instruction.Op.{Op}
 use Rattle.host_code.specs.declared.instruction.Op.TheVariants as op
 use Rattle.need_labels.specs.Labelled.{Labelled}
 use Rattle.msg_cost.specs.declared.spot.Spot.{Spot}
-use Rattle.msg_cost.specs.Moves.{PlannedShape, is_same, end_of, next_spot, own_statements, home_of}
-use Rattle.msg_cost.specs.Terms.{is_other_reader}
+use Rattle.msg_cost.specs.Moves.{PlannedShape, is_same, end_of, next_spot, own_statements, home_of, called_home}
+use Rattle.msg_cost.specs.Terms.{is_told}
 use Rattle.msg_cost.proofs.Bounds.{all_left, all_right}
 use Rattle.split_rules.specs.Emissions.{Emission, instruction, entry, stands, lands, Emitted, Named, Counts}
 use Rattle.split_rules.specs.Emissions.{counts_after}
 use Rattle.split_rules.specs.Expressions.{Reading, reads_in, nodes_of, readings_of}
 use Rattle.split_rules.specs.Walk.{Walked, Around, Lane, lane_on, entry_id, emitted}
-use Rattle.split_rules.specs.Walk.{expr_emissions, read_emissions, other_readers, send_emissions}
+use Rattle.split_rules.specs.Walk.{expr_emissions, read_emissions, told_readers, send_emissions, go_with, call_with}
 use Rattle.split_rules.specs.Walk.{leave_emissions, enter_emissions, move_emissions, end_emissions}
-use Rattle.split_rules.specs.Walk.{argument_emissions, kept_emissions, call_emissions, result_emissions}
+use Rattle.split_rules.specs.Walk.{argument_emissions, riding_params, kept_emissions, call_emissions, result_emissions}
 use Rattle.split_rules.specs.Walk.{block_emissions, walked_in, method_emissions, methods_emissions}
 use Rattle.split_rules.proofs.WalkedMoves.{one_of_two}
 use Rattle.split_rules.proofs.WalkedBlocks.{inside_of}
@@ -83,12 +83,13 @@ pub record Budget : Type 1 where
   pub named : (one : Named) (k p : ℕ) → Leads k (p + 1) (entry one ∷ []) k p
   pub stood : (host : HostId) (number k p : ℕ) → p ≤ 512 → Leads k (p + 1) (stands host number ∷ []) k p
   pub landed : (host : HostId) (number k p : ℕ) → p ≤ 512 → Leads k (p + 1) (lands host number ∷ []) k p
-  -- a thread is handed to an entry, which stands next; an entry is pushed before a call, which makes the step
-  pub hands : (from host : HostId) (pc : Label) (statement : StmtId) (there k p : ℕ) → p ≤ 512 →
-      Leads k (p + 2) (emitted from pc statement (op.Go (entry_id there) host) ∷ stands host there ∷ []) k p
-  pub enters : (host home : HostId) (pc : Label) (statement : StmtId) (there method k : ℕ) →
+  -- a thread is handed to an entry, which stands next; an entry is pushed before a call, which makes the step; whatever
+  -- rides with them
+  pub hands : (from host : HostId) (pc : Label) (statement : StmtId) (riders : List VarId) (there k p : ℕ) → p ≤ 512 →
+      Leads k (p + 2) (emitted from pc statement (go_with riders (entry_id there) host) ∷ stands host there ∷ []) k p
+  pub enters : (host home : HostId) (pc : Label) (statement : StmtId) (riders : List VarId) (there method k : ℕ) →
       Leads (k + 1) 3 (emitted host pc statement (op.Push (entry_id there))
-      ∷ emitted host pc statement (op.Call (entry_id method) home) ∷ []) k 513
+      ∷ emitted host pc statement (call_with riders (entry_id method) home) ∷ []) k 513
 
 -- one emission, and what follows it
 and_then : (b : Budget) {k p l q m r : ℕ} {x : Emission} {xs : List Emission} → b.Leads k p (x ∷ []) l q →
@@ -154,12 +155,13 @@ abbrev pub HasFewHosts : PlannedShape → Type 0
 HasFewHosts planned = length planned.hosts.hosts ≤ 16
 
 forwards_lead : (b : Budget) (planned : PlannedShape) → HasFewHosts planned → (host : HostId) (x : VarId)
-    (make : HostId → Emission) (k p : ℕ) → ((to : HostId) (p : ℕ) → b.Leads k (p + 1) (make to ∷ []) k p) →
-    b.Leads k (p + 16) (map make (other_readers planned host x)) k p
-forwards_lead b planned few host x make k p one =
+    (carried : Option HostId) (make : HostId → Emission) (k p : ℕ) →
+    ((to : HostId) (p : ℕ) → b.Leads k (p + 1) (make to ∷ []) k p) →
+    b.Leads k (p + 16) (map make (told_readers planned host x carried)) k p
+forwards_lead b planned few host x carried make k p one =
     let numbers = range_with_len 0 (length planned.hosts.hosts) in
     let many = length-range_with_len 0 (length planned.hosts.hosts) in
-    widened b _ p (chosen_lead b make k one (is_other_reader planned host x) numbers p) (omega arith) (omega arith)
+    widened b _ p (chosen_lead b make k one (is_told planned host x carried) numbers p) (omega arith) (omega arith)
 
 -- ---- moves
 
@@ -168,27 +170,32 @@ leave_leads : (b : Budget) (around : Around) (lane : Lane) (k : ℕ) →
 leave_leads b around lane k = by lane.spot.host lane.spot.back lane.return_entry
   where
     by : (host : HostId) (back : Option HostId) (return : ℕ) →
-        let it : Lane = record { spot = record { host = host; back = back }; return_entry = return } in
+        let it : Lane = record {
+          spot = record { host = host; back = back };
+          return_entry = return;
+          riding = lane.riding;
+        } in
         b.Leads (k + 1) 512 (leave_emissions around it) k 512
     by host None return = b.less (b.still k 512) (omega arith) (omega arith) (omega arith) (omega arith)
     by host (Some back) return = and_then b (b.back _ k refl) (b.stood back return k 512 (omega arith))
 
 enter_leads : (b : Budget) (walked : Walked) (around : Around) (counts : Counts) (from host : HostId)
-    (back : Option HostId) (statements : List StmtId) (k : ℕ) →
-    b.Leads k 512 (enter_emissions walked around counts from (record { host = host; back = back }) statements) k 490
-enter_leads b walked around counts from host None statements k =
+    (back : Option HostId) (riders : List VarId) (statements : List StmtId) (k : ℕ) →
+    b.Leads k 512 (enter_emissions walked around counts from riders (record { host = host; back = back }) statements) k
+    490
+enter_leads b walked around counts from host None riders statements k =
     one_of_two (λ list. b.Leads k 512 list k 490) (is_same from host) [] _
     (widened b 512 490 (b.still k 490) (omega arith) (omega arith))
     (widened b 512 490
-    (and_then b (b.named _ k 492) (b.hands from host around.pc around.owner counts.entries k 490 (omega arith)))
+    (and_then b (b.named _ k 492) (b.hands from host around.pc around.owner riders counts.entries k 490 (omega arith)))
     (omega arith) (omega arith))
-enter_leads b walked around counts from host (Some back) statements k =
+enter_leads b walked around counts from host (Some back) riders statements k =
     one_of_two (λ list. b.Leads k 512 list k 490) (is_same from host) [] _
     (widened b 512 490 (b.still k 490) (omega arith) (omega arith))
     (widened b 512 490
     (and_then b (b.named _ k 496) (and_then b (b.named _ k 495) (and_then b (b.push _ k 492
     (one_of_two IsPush (is_same from back) (op.Push (entry_id counts.entries)) (op.Ask (entry_id counts.entries) back)
-    tt tt)) (b.hands from host around.pc around.owner (counts.entries + 1) k 490 (omega arith)))))
+    tt tt)) (b.hands from host around.pc around.owner riders (counts.entries + 1) k 490 (omega arith)))))
     (omega arith) (omega arith))
 
 move_leads : (b : Budget) (walked : Walked) (around : Around) (counts : Counts) (lane : Lane) (next : Spot)
@@ -198,7 +205,7 @@ move_leads b walked around counts lane next statements k =
     one_of_two (λ list. b.Leads (k + 1) 512 list k 490) (is_same lane.spot.host next.host) [] _
     (b.less (b.still k 490) (omega arith) (omega arith) (omega arith) (omega arith))
     (b.on (leave_leads b around lane k) (enter_leads b walked around counts (end_of lane.spot) next.host next.back
-    statements k))
+    lane.riding statements k))
 
 end_leads : (b : Budget) (around : Around) (lane : Lane) (k : ℕ) → b.Leads (k + 2) 512 (end_emissions around lane) k 513
 end_leads b around lane k =
@@ -212,55 +219,57 @@ pub record IsSmall (walked : Walked) : Type 0 where
   pub hosts : HasFewHosts walked.planned
   pub params : (method : MethodId) → length (params_of (method_at walked.labelled.program method)) ≤ 8
 
-arguments_lead : (b : Budget) (walked : Walked) → HasFewHosts walked.planned → (host : HostId) (pc : Label)
+arguments_lead : (b : Budget) (walked : Walked) → HasFewHosts walked.planned → (host home : HostId) (pc : Label)
     (statement : StmtId) (params : List VarId) (trees : List ExprTree) (k p : ℕ) →
     b.Leads k (p + (sum (map expr_nodes trees) + 17 * length params))
-    (argument_emissions walked host pc statement params trees) k p
-arguments_lead b walked few host pc statement params [] k p = widened b _ p (b.still k p) (omega arith) (omega arith)
-arguments_lead b walked few host pc statement [] (tree ∷ others) k p =
+    (argument_emissions walked host home pc statement params trees) k p
+arguments_lead b walked few host home pc statement params [] k p = widened b _ p (b.still k p) (omega arith) (omega arith)
+arguments_lead b walked few host home pc statement [] (tree ∷ others) k p =
     widened b _ p (b.still k p) (omega arith) (omega arith)
-arguments_lead b walked few host pc statement (param ∷ params) (tree ∷ others) k p =
+arguments_lead b walked few host home pc statement (param ∷ params) (tree ∷ others) k p =
     let rest = p + (sum (map expr_nodes others) + 17 * length params) in
     let both : sum (map expr_nodes (tree ∷ others)) ≡ expr_nodes tree + sum (map expr_nodes others) =
     sum_by-cons (λ nodes. nodes) (expr_nodes tree) (map expr_nodes others) in
     widened b _ p
     (b.on (b.on (expression_leads b host pc statement 0 tree k (rest + 16 + 1))
     (and_then b (b.plain _ k (rest + 16) tt)
-    (forwards_lead b walked.planned few host param _ k rest (λ to q. b.plain _ k q tt))))
-    (arguments_lead b walked few host pc statement params others k p))
+    (forwards_lead b walked.planned few host param (Some home) _ k rest (λ to q. b.plain _ k q tt))))
+    (arguments_lead b walked few host home pc statement params others k p))
     (omega arith) (omega arith)
 
 -- a value is given to a variable, and sent to those who read it
 assigned_leads : (b : Budget) (planned : PlannedShape) → HasFewHosts planned → (one : Emitted) → IsStep one.op →
-    (x : VarId) (k : ℕ) →
-    b.Leads (k + 1) 20 (instruction one ∷ send_emissions planned one.host one.label one.statement x) k 514
-assigned_leads b planned few one step x k =
-    and_then b (b.step one k step) (forwards_lead b planned few one.host x _ k 514 (λ to q. b.plain _ k q tt))
+    (x : VarId) (carried : Option HostId) (k : ℕ) →
+    b.Leads (k + 1) 20 (instruction one ∷ send_emissions planned one.host one.label one.statement x carried) k 514
+assigned_leads b planned few one step x carried k =
+    and_then b (b.step one k step) (forwards_lead b planned few one.host x carried _ k 514 (λ to q. b.plain _ k q tt))
 
 kept_leads : (b : Budget) (walked : Walked) → HasFewHosts walked.planned → (host : HostId) (pc : Label)
-    (statement : StmtId) (result into : Option VarId) (k : ℕ) →
-    b.Leads (k + 1) 512 (kept_emissions walked host pc statement result into) k 512
-kept_leads b walked few host pc statement (Some result) (Some into) k =
-    widened b 512 512 (assigned_leads b walked.planned few _ tt into k) (omega arith) (omega arith)
-kept_leads b walked few host pc statement (Some result) None k =
+    (statement : StmtId) (result into : Option VarId) (carried : Option HostId) (k : ℕ) →
+    b.Leads (k + 1) 512 (kept_emissions walked host pc statement result into carried) k 512
+kept_leads b walked few host pc statement (Some result) (Some into) carried k =
+    widened b 512 512 (assigned_leads b walked.planned few _ tt into carried k) (omega arith) (omega arith)
+kept_leads b walked few host pc statement (Some result) None carried k =
     b.less (b.still k 512) (omega arith) (omega arith) (omega arith) (omega arith)
-kept_leads b walked few host pc statement None (Some into) k =
+kept_leads b walked few host pc statement None (Some into) carried k =
     b.less (b.still k 512) (omega arith) (omega arith) (omega arith) (omega arith)
-kept_leads b walked few host pc statement None None k =
+kept_leads b walked few host pc statement None None carried k =
     b.less (b.still k 512) (omega arith) (omega arith) (omega arith) (omega arith)
 
 call_leads : (b : Budget) (walked : Walked) → IsSmall walked → (counts : Counts) (host : HostId) (pc : Label)
     (statement : StmtId) (site : SiteId) (method : MethodId) (trees : List ExprTree) (into : Option VarId)
-    (left : List StmtId) (k : ℕ) → sum (map expr_nodes trees) ≤ 256 →
-    b.Leads (k + 2) 490 (call_emissions walked counts host pc statement site method trees into left) k 512
-call_leads b walked small counts host pc statement site method trees into left k few =
+    (carried : Option HostId) (left : List StmtId) (k : ℕ) → sum (map expr_nodes trees) ≤ 256 →
+    b.Leads (k + 2) 490 (call_emissions walked counts host pc statement site method trees into carried left) k 512
+call_leads b walked small counts host pc statement site method trees into carried left k few =
     let there = method_at walked.labelled.program method in
+    let home = called_home walked.planned there in
     let few_params = small.params method in
     b.less (and_then b (b.named _ (k + 1 + 1) _) (and_then b (b.plain _ (k + 1 + 1) _ tt)
-    (b.on (arguments_lead b walked small.hosts host pc statement (params_of there) trees (k + 1 + 1) 3)
-    (b.on (b.enters host _ pc statement counts.entries (suc method.0) (k + 1))
+    (b.on (arguments_lead b walked small.hosts host home pc statement (params_of there) trees (k + 1 + 1) 3)
+    (b.on (b.enters host home pc statement (riding_params walked.planned host home (params_of there) trees)
+    counts.entries (suc method.0) (k + 1))
     (and_then b (b.stood host counts.entries (k + 1) 512 (omega arith))
-    (kept_leads b walked small.hosts host pc statement (result_of there) into k))))))
+    (kept_leads b walked small.hosts host pc statement (result_of there) into carried k))))))
     (omega arith) (omega arith) (omega arith) (omega arith)
 
 -- what a method gives back
@@ -354,7 +363,7 @@ block_leads b walked small method gives is (set_local heading x value rest) numb
     let left = 6 * length (block_statements rest) + 2 + k in
     b.less (statement_leads b walked around counts lane heading.id (own_statements rest) _ _ (left + 2) left k
     (b.less (b.on (expression_leads b next.host around.pc heading.id 0 value (left + 1) 20)
-    (assigned_leads b walked.planned small.hosts _ tt x left)) (omega arith) (omega arith) (omega arith) (omega arith))
+    (assigned_leads b walked.planned small.hosts _ tt x _ left)) (omega arith) (omega arith) (omega arith) (omega arith))
     (block_leads b walked small method gives is rest numbered.2
     (All-tail IsFew (expr_nodes value) (block_nodes rest) few) around _ _ k))
     (omega arith) (omega arith) (omega arith) (omega arith)
@@ -387,7 +396,7 @@ block_leads b walked small method gives is (call heading site there trees into r
     let left = 6 * length (block_statements rest) + 2 + k in
     b.less (statement_leads b walked around counts lane heading.id (own_statements rest) _ _ (left + 2) left k
     (call_leads b walked small (counts_after counts (move_emissions walked around counts lane next
-    (heading.id ∷ own_statements rest))) next.host around.pc heading.id site there trees into _ left nodes)
+    (heading.id ∷ own_statements rest))) next.host around.pc heading.id site there trees into _ _ left nodes)
     (block_leads b walked small method gives is rest numbered.3
     (All-tail IsFew (sum (map expr_nodes trees)) (block_nodes rest) few) around _ _ k))
     (omega arith) (omega arith) (omega arith) (omega arith)

@@ -33,6 +33,6 @@ room = record {
   named = λ one k p. record { few = omega arith };
   stood = λ host number k p small. record { few = omega arith };
   landed = λ host number k p small. record { few = omega arith };
-  hands = λ from host pc statement there k p small. record { few = omega arith };
-  enters = λ host home pc statement there method k. record { few = omega arith };
+  hands = λ from host pc statement riders there k p small. record { few = omega arith };
+  enters = λ host home pc statement riders there method k. record { few = omega arith };
 }

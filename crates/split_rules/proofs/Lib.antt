@@ -12,6 +12,7 @@ pub mod SoundInstructions
 pub mod SoundCode
 pub mod WalkedStates
 pub mod WalkedExpressions
+pub mod WalkedRiders
 pub mod WalkedMoves
 pub mod WalkedCalls
 pub mod WalkedBlocks
@@ -21,6 +22,7 @@ pub mod SoundSplit
 pub mod Settling
 pub mod TypedStates
 pub mod TypedValues
+pub mod TypedForwards
 pub mod TypedStatements
 pub mod TypedMoves
 pub mod TypedCalls

@@ -3,10 +3,15 @@
 use Rattle.std.proofs.Common.{◌≡◌, ℕ, ◌+◌, ◌≤◌, Bool, true, false, List, [], ◌∷◌, ◌++◌}
 use Rattle.std.proofs.Common.{refl, sym, subst, arith, append_assoc, cond}
 use Rattle.std.specs.Prelude.{⊤}
+use Rattle.js_base.specs.declared.ids.HostId.{HostId}
+use Rattle.js_base.specs.declared.ids.VarId.{VarId}
+use Rattle.js_base.specs.declared.ids.StmtId.{StmtId}
+use Rattle.label_lattice.specs.declared.label.Label.{Label}
 use Rattle.host_code.specs.declared.instruction.Op.{Op}
 use Rattle.host_code.specs.declared.instruction.Op.TheVariants as op
 use Rattle.split_rules.specs.Emissions.{Emission, instruction, entry, stands, lands, Emitted}
 use Rattle.split_rules.specs.Pace.{is_call}
+use Rattle.split_rules.specs.Walk.{emitted, entry_id, go_with, call_with}
 use Rattle.split_rules.proofs.Budgets.{IsPlain, IsStep, IsPush, Budget}
 
 -- ---- what may still come
@@ -143,6 +148,22 @@ one_paced one from to paced = record {
   before = λ ys behind. let so = paced ys behind.1 in ((so.0, behind.0), so.1);
 }
 
+-- a thread is handed on, or a method called, whatever rides
+pub hands_paced : (from host : HostId) (pc : Label) (statement : StmtId) (riders : List VarId) (there p : ℕ) → p ≤ 512 →
+    Spends (emitted from pc statement (go_with riders (entry_id there) host) ∷ stands host there ∷ []) (p + 2) p
+hands_paced from host pc statement [] there p small =
+    record { before = λ ys behind. let few = behind.1 in ((refl, (omega arith, behind.0)), omega arith) }
+hands_paced from host pc statement (x ∷ riders) there p small =
+    record { before = λ ys behind. let few = behind.1 in ((refl, (omega arith, behind.0)), omega arith) }
+
+pub enters_paced : (host home : HostId) (pc : Label) (statement : StmtId) (riders : List VarId) (there method : ℕ) →
+    Spends (emitted host pc statement (op.Push (entry_id there))
+    ∷ emitted host pc statement (call_with riders (entry_id method) home) ∷ []) 3 513
+enters_paced host home pc statement [] there method =
+    record { before = λ ys behind. ((tt, (tt, behind.0)), omega arith) }
+enters_paced host home pc statement (x ∷ riders) there method =
+    record { before = λ ys behind. ((tt, (tt, behind.0)), omega arith) }
+
 abbrev pub pace : Budget
 pace = record {
   Leads = λ k p xs l q. Spends xs p q;
@@ -158,8 +179,6 @@ pace = record {
       record { before = λ ys behind. let few = behind.1 in ((omega arith, behind.0), omega arith) };
   landed = λ host number k p small.
       record { before = λ ys behind. let few = behind.1 in ((omega arith, behind.0), omega arith) };
-  hands = λ from host pc statement there k p small.
-      record { before = λ ys behind. let few = behind.1 in ((refl, (omega arith, behind.0)), omega arith) };
-  enters = λ host home pc statement there method k.
-      record { before = λ ys behind. ((tt, (tt, behind.0)), omega arith) };
+  hands = λ from host pc statement riders there k p small. hands_paced from host pc statement riders there p small;
+  enters = λ host home pc statement riders there method k. enters_paced host home pc statement riders there method;
 }

@@ -20,7 +20,7 @@ use Rattle.split_rules.specs.Emissions.{Emission, instruction, entry, stands, la
 use Rattle.split_rules.specs.Emissions.{counts_with, counts_after}
 use Rattle.split_rules.specs.SplitCode.{entries_in}
 use Rattle.split_rules.specs.Allowed.{IsTrustedHost}
-use Rattle.split_rules.specs.Walk.{need_of}
+use Rattle.split_rules.specs.Walk.{need_of, go_with, call_with}
 use Rattle.split_rules.proofs.Places.{entries_append}
 use Rattle.split_rules.proofs.SoundInstructions.{get_left}
 use Rattle.split_rules.proofs.WalkedStates.{counts_more}
@@ -87,6 +87,19 @@ TellsWell labelled planned named host pc (op.GoWith there on riders) = HandsWell
 TellsWell labelled planned named host pc (op.CallWith there on riders) = CallsWell planned named host pc there on
 TellsWell labelled planned named host pc (op.Ret x value) = AffectsVariable labelled planned host x
 TellsWell labelled planned named host pc other = ⊤
+
+-- whatever rides
+pub goes_well : (labelled : Labelled) (planned : PlannedShape) (named : List Named) (host : HostId) (pc : Label)
+    (there : EntryId) (on : HostId) (riders : List VarId) → HandsWell planned named host pc there on →
+    TellsWell labelled planned named host pc (go_with riders there on)
+goes_well labelled planned named host pc there on [] well = well
+goes_well labelled planned named host pc there on (x ∷ riders) well = well
+
+pub calls_well : (labelled : Labelled) (planned : PlannedShape) (named : List Named) (host : HostId) (pc : Label)
+    (there : EntryId) (on : HostId) (riders : List VarId) → CallsWell planned named host pc there on →
+    TellsWell labelled planned named host pc (call_with riders there on)
+calls_well labelled planned named host pc there on [] well = well
+calls_well labelled planned named host pc there on (x ∷ riders) well = well
 
 -- ---- emissions, behind those that named these entries
 

@@ -5,6 +5,7 @@ use Rattle.std.proofs.lemmas.Bool.Decides.{eqb_tells}
 use Rattle.std.specs.Prelude.{Option, Some, None, slice_get, ⊤}
 use Rattle.std.specs.List.{AllByRecursion}
 use Rattle.js_base.specs.declared.ids.HostId.{HostId}
+use Rattle.js_base.specs.declared.ids.VarId.{VarId}
 use Rattle.js_base.specs.declared.ids.StmtId.{StmtId}
 use Rattle.label_lattice.specs.declared.label.Label.{Label}
 use Rattle.host_code.specs.declared.instruction.Op.{Op}
@@ -19,7 +20,7 @@ use Rattle.split_rules.specs.Walk.{Walked, Around, Lane, entry_id, leave_emissio
 use Rattle.split_rules.specs.Walk.{lane_at, end_emissions, need_of, row_on, behind_row}
 use Rattle.split_rules.proofs.Places.{same_host}
 use Rattle.split_rules.proofs.WalkedMoves.{at_last, entered_here, entered_there, next_here, next_there, one_of_two}
-use Rattle.split_rules.proofs.ToldEmissions.{Sees, HandsWell, TellsWell, AreTold, IsCounted, IsBegun}
+use Rattle.split_rules.proofs.ToldEmissions.{Sees, HandsWell, TellsWell, goes_well, AreTold, IsCounted, IsBegun}
 
 -- ---- hosts that may see a label
 
@@ -116,8 +117,8 @@ pub lane_sees : (planned : PlannedShape) (pc : Label) (counts : Counts) (lane : 
     SpotSees planned pc lane.spot → SpotSees planned pc next → SpotSees planned pc (lane_at counts lane next).spot
 lane_sees planned pc counts lane next sees next_sees =
     let P : Lane → Type 0 = λ it. SpotSees planned pc it.spot in
-    one_of_two P (is_same lane.spot.host next.host) lane (record { spot = next; return_entry = counts.entries }) sees
-    next_sees
+    one_of_two P (is_same lane.spot.host next.host) lane 
+    (record { spot = next; return_entry = counts.entries; riding = [] }) sees next_sees
 
 -- ---- moves
 
@@ -143,22 +144,27 @@ pub leaves_then : (labelled : Labelled) (around : Around) (planned : PlannedShap
 leaves_then labelled around planned named lane more told = by lane.spot.host lane.spot.back lane.return_entry
   where
     by : (host : HostId) (back : Option HostId) (number : ℕ) →
-        let it : Lane = record { spot = record { host = host; back = back }; return_entry = number } in
+        let it : Lane = record {
+          spot = record { host = host; back = back };
+          return_entry = number;
+          riding = lane.riding;
+        } in
         AreTold labelled planned named (leave_emissions around it ++ more)
     by host None number = told
     by host (Some back) number = (tt, told)
 
 entering_told : (walked : Walked) (around : Around) (counts : Counts) (from host : HostId) (back : Option HostId)
-    (statements : List StmtId) (named : List Named) → IsCounted counts named → 0 < length named →
+    (riders : List VarId) (statements : List StmtId) (named : List Named) → IsCounted counts named → 0 < length named →
     Sees walked.planned from around.pc → Sees walked.planned host around.pc → BackSees walked.planned around.pc back →
     AreTold walked.labelled walked.planned named
-    (enter_emissions walked around counts from (record { host = host; back = back }) statements)
-entering_told walked around counts from host None statements named counted some from_sees sees behind =
+    (enter_emissions walked around counts from riders (record { host = host; back = back }) statements)
+entering_told walked around counts from host None riders statements named counted some from_sees sees behind =
     let planned = walked.planned in
     let one : Named = record { host = host; label = around.pc; need = need_of planned statements } in
     one_of_two (AreTold walked.labelled planned named) (is_same from host) [] _ tt
-    (hands_last planned named [] from one counts.entries counted some from_sees sees, tt)
-entering_told walked around counts from host (Some back) statements named counted some from_sees sees behind =
+    (goes_well walked.labelled planned (named ++ one ∷ []) from around.pc (entry_id counts.entries) host riders
+    (hands_last planned named [] from one counts.entries counted some from_sees sees), tt)
+entering_told walked around counts from host (Some back) riders statements named counted some from_sees sees behind =
     let planned = walked.planned in
     let first : Named = record {
       host = back;
@@ -181,8 +187,9 @@ entering_told walked around counts from host (Some back) statements named counte
       one_of_two Q (is_same from back) (op.Push (entry_id counts.entries)) (op.Ask (entry_id counts.entries) back) tt
           asks,
       (
-        hands_last planned (named ++ first ∷ []) [] from second (counts.entries + 1) longer
-            (omega (arith, longer)) from_sees sees,
+        goes_well walked.labelled planned both from around.pc (entry_id (counts.entries + 1)) host riders
+            (hands_last planned (named ++ first ∷ []) [] from second (counts.entries + 1) longer
+            (omega (arith, longer)) from_sees sees),
         tt,
       ),
     )
@@ -195,8 +202,8 @@ pub move_told : (walked : Walked) (around : Around) (counts : Counts) (lane : La
 move_told walked around counts lane next statements named counted begun sees next_sees =
     one_of_two (AreTold walked.labelled walked.planned named) (is_same lane.spot.host next.host) [] _ tt
     (leaves_then walked.labelled around walked.planned named lane
-    (enter_emissions walked around counts (end_of lane.spot) next statements)
-    (entering_told walked around counts (end_of lane.spot) next.host next.back statements named counted begun.some
+    (enter_emissions walked around counts (end_of lane.spot) lane.riding next statements)
+    (entering_told walked around counts (end_of lane.spot) next.host next.back lane.riding statements named counted begun.some
     (spot_ends walked.planned around.pc lane.spot sees) next_sees.0 next_sees.1))
 
 pub end_told : (labelled : Labelled) (planned : PlannedShape) (around : Around) (lane : Lane) (named : List Named) →

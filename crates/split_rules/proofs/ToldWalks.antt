@@ -19,20 +19,20 @@ use Rattle.host_code.specs.declared.instruction.Op.TheVariants as op
 use Rattle.need_labels.specs.Labelled.{Labelled}
 use Rattle.need_labels.specs.Plan.{statement_host}
 use Rattle.msg_cost.specs.declared.spot.Spot.{Spot}
-use Rattle.msg_cost.specs.Moves.{PlannedShape, on, next_spot, own_statements, home_of, called_home}
-use Rattle.msg_cost.specs.Terms.{reads_on, is_other_reader}
+use Rattle.msg_cost.specs.Moves.{PlannedShape, on, next_spot, carried_to, is_to, own_statements, home_of, called_home}
+use Rattle.msg_cost.specs.Terms.{reads_on, is_other_reader, is_told}
 use Rattle.split_rules.specs.Emissions.{Emission, stands, lands, Named, Counts, counts_after}
 use Rattle.split_rules.specs.Expressions.{Reading, reads_in, nodes_of, readings_of, first_element}
 use Rattle.split_rules.specs.SplitCode.{entries_in}
 use Rattle.split_rules.specs.Walk.{Walked, Around, Lane, lane_on, lane_at, entry_id, need_of, under_token, emitted}
-use Rattle.split_rules.specs.Walk.{expr_emissions, read_emissions, other_readers, send_emissions, pass_emissions}
-use Rattle.split_rules.specs.Walk.{move_emissions, argument_emissions, kept_emissions, call_emissions}
+use Rattle.split_rules.specs.Walk.{expr_emissions, read_emissions, told_readers, send_emissions, pass_emissions}
+use Rattle.split_rules.specs.Walk.{move_emissions, argument_emissions, riding_params, kept_emissions, call_emissions}
 use Rattle.split_rules.specs.Walk.{result_emissions, block_emissions, walked_in, method_emissions, methods_emissions}
 use Rattle.split_rules.proofs.BackedLabels.{all_both}
 use Rattle.split_rules.proofs.Places.{entries_append}
 use Rattle.split_rules.proofs.WalkedStates.{counts_more}
 use Rattle.split_rules.proofs.WalkedBlocks.{inside_of, branch_front, branch_own, loop_front, loop_own}
-use Rattle.split_rules.proofs.ToldEmissions.{Sees, AffectsVariable, ReadsWell, CallsWell, AreTold, told_on}
+use Rattle.split_rules.proofs.ToldEmissions.{Sees, AffectsVariable, ReadsWell, CallsWell, calls_well, AreTold, told_on}
 use Rattle.split_rules.proofs.ToldEmissions.{IsQuiet, quiet_then, quiet_on, IsCounted, counted_after, counted_two}
 use Rattle.split_rules.proofs.ToldEmissions.{entry_of, IsBegun, begun_more}
 use Rattle.split_rules.proofs.ToldStatements.{ExprReadsWell, ReadersSee, GivesWell, KeepsWell, AnswersWell}
@@ -84,6 +84,10 @@ expr_quiet labelled planned named host pc statement first expr well =
 
 -- ---- variables for those who read them
 
+and_first : (b c : Bool) → (b && c) ≡ true → b ≡ true
+and_first true c is = refl
+and_first false c is = absurd (cc)
+
 and_second : (b c : Bool) → (b && c) ≡ true → c ≡ true
 and_second true c is = is
 and_second false c is = absurd (cc)
@@ -105,12 +109,13 @@ chosen_see planned pc test (one ∷ numbers) see =
     by true sees others = (sees refl, others)
     by false sees others = others
 
-pub readers_see : (planned : PlannedShape) (pc : Label) (host : HostId) (x : VarId) → ReadersSee planned pc x →
-    AreReaders planned pc (other_readers planned host x)
-readers_see planned pc host x see =
-    chosen_see planned pc (is_other_reader planned host x)
+pub told_see : (planned : PlannedShape) (pc : Label) (host : HostId) (x : VarId) (carried : Option HostId) →
+    ReadersSee planned pc x → AreReaders planned pc (told_readers planned host x carried)
+told_see planned pc host x carried see =
+    chosen_see planned pc (is_told planned host x carried)
     (range_with_len 0 (length planned.hosts.hosts))
-    (λ to passes. see (record { 0 = to }) (and_second (not (nat_eq to host.0)) (reads_on planned x to) passes))
+    (λ to passes. see (record { 0 = to }) (and_second (not (nat_eq to host.0)) (reads_on planned x to)
+    (and_first (is_other_reader planned host x to) (not (is_to carried to)) passes)))
 
 sends_quiet : (labelled : Labelled) (planned : PlannedShape) (named : List Named) (host : HostId) (pc : Label)
     (statement : StmtId) (x : VarId) → AffectsVariable labelled planned host x → (others : List HostId) →
@@ -131,18 +136,18 @@ passes_quiet labelled planned named host pc statement x affects (other ∷ other
     record { told = ((affects, see.0), rest.told); none = rest.none }
 
 given_quiet : (labelled : Labelled) (planned : PlannedShape) (named : List Named) (host : HostId) (pc : Label)
-    (statement : StmtId) (x : VarId) → GivesWell labelled planned host pc x →
-    IsQuiet labelled planned named (send_emissions planned host pc statement x)
-given_quiet labelled planned named host pc statement x well =
-    sends_quiet labelled planned named host pc statement x well.0 (other_readers planned host x)
-    (readers_see planned pc host x well.1)
+    (statement : StmtId) (x : VarId) (carried : Option HostId) → GivesWell labelled planned host pc x →
+    IsQuiet labelled planned named (send_emissions planned host pc statement x carried)
+given_quiet labelled planned named host pc statement x carried well =
+    sends_quiet labelled planned named host pc statement x well.0 (told_readers planned host x carried)
+    (told_see planned pc host x carried well.1)
 
 passed_quiet : (labelled : Labelled) (planned : PlannedShape) (named : List Named) (host : HostId) (pc : Label)
-    (statement : StmtId) (x : VarId) → GivesWell labelled planned host pc x →
-    IsQuiet labelled planned named (pass_emissions planned host pc statement x)
-passed_quiet labelled planned named host pc statement x well =
-    passes_quiet labelled planned named host pc statement x well.0 (other_readers planned host x)
-    (readers_see planned pc host x well.1)
+    (statement : StmtId) (x : VarId) (carried : Option HostId) → GivesWell labelled planned host pc x →
+    IsQuiet labelled planned named (pass_emissions planned host pc statement x carried)
+passed_quiet labelled planned named host pc statement x carried well =
+    passes_quiet labelled planned named host pc statement x well.0 (told_readers planned host x carried)
+    (told_see planned pc host x carried well.1)
 
 -- an instruction that asks nothing, before others
 silent_first : (labelled : Labelled) (planned : PlannedShape) (named : List Named) (host : HostId) (pc : Label)
@@ -154,31 +159,31 @@ silent_first labelled planned named host pc statement x value more quiet =
 
 -- ---- calls
 
-arguments_quiet : (walked : Walked) (named : List Named) (host : HostId) (pc : Label) (statement : StmtId)
+arguments_quiet : (walked : Walked) (named : List Named) (host home : HostId) (pc : Label) (statement : StmtId)
     (params : List VarId) (arguments : List ExprTree) →
     ArgumentsWell walked.labelled walked.planned host pc params arguments →
-    IsQuiet walked.labelled walked.planned named (argument_emissions walked host pc statement params arguments)
-arguments_quiet walked named host pc statement params [] well = record { told = tt; none = refl }
-arguments_quiet walked named host pc statement [] (argument ∷ others) well = record { told = tt; none = refl }
-arguments_quiet walked named host pc statement (param ∷ params) (argument ∷ others) well =
+    IsQuiet walked.labelled walked.planned named (argument_emissions walked host home pc statement params arguments)
+arguments_quiet walked named host home pc statement params [] well = record { told = tt; none = refl }
+arguments_quiet walked named host home pc statement [] (argument ∷ others) well = record { told = tt; none = refl }
+arguments_quiet walked named host home pc statement (param ∷ params) (argument ∷ others) well =
     let labelled = walked.labelled in
     let planned = walked.planned in
     let reads = expr_quiet labelled planned named host pc statement 0 argument well.0 in
-    let passes = passed_quiet labelled planned named host pc statement param well.1 in
+    let passes = passed_quiet labelled planned named host pc statement param (Some home) well.1 in
     quiet_on labelled planned named _ _
     (quiet_on labelled planned named (expr_emissions host pc statement 0 argument) _ reads
     (record { told = (tt, passes.told); none = passes.none }))
-    (arguments_quiet walked named host pc statement params others well.2)
+    (arguments_quiet walked named host home pc statement params others well.2)
 
 kept_quiet : (walked : Walked) (named : List Named) (host : HostId) (pc : Label) (statement : StmtId)
-    (result into : Option VarId) → KeepsWell walked.labelled walked.planned host pc result into →
-    IsQuiet walked.labelled walked.planned named (kept_emissions walked host pc statement result into)
-kept_quiet walked named host pc statement (Some result) (Some into) well =
+    (result into : Option VarId) (carried : Option HostId) → KeepsWell walked.labelled walked.planned host pc result into →
+    IsQuiet walked.labelled walked.planned named (kept_emissions walked host pc statement result into carried)
+kept_quiet walked named host pc statement (Some result) (Some into) carried well =
     silent_first walked.labelled walked.planned named host pc statement into _ _
-    (given_quiet walked.labelled walked.planned named host pc statement into well)
-kept_quiet walked named host pc statement (Some result) None well = record { told = tt; none = refl }
-kept_quiet walked named host pc statement None (Some into) well = record { told = tt; none = refl }
-kept_quiet walked named host pc statement None None well = record { told = tt; none = refl }
+    (given_quiet walked.labelled walked.planned named host pc statement into carried well)
+kept_quiet walked named host pc statement (Some result) None carried well = record { told = tt; none = refl }
+kept_quiet walked named host pc statement None (Some into) carried well = record { told = tt; none = refl }
+kept_quiet walked named host pc statement None None carried well = record { told = tt; none = refl }
 
 called : (walked : Walked) (named : List Named) (host : HostId) (pc : Label) (method : MethodId) →
     IsBegun walked.labelled walked.planned named → EntersWell walked.labelled walked.planned host pc method →
@@ -199,26 +204,29 @@ called walked named host pc method begun well =
 
 call_told : (walked : Walked) (named : List Named) (counts : Counts) (host : HostId) (pc : Label)
     (statement : StmtId) (site : SiteId) (method : MethodId) (arguments : List ExprTree) (into : Option VarId)
-    (left : List StmtId) → IsBegun walked.labelled walked.planned named →
+    (carried : Option HostId) (left : List StmtId) → IsBegun walked.labelled walked.planned named →
     ArgumentsWell walked.labelled walked.planned host pc
     (params_of (method_at walked.labelled.program method)) arguments →
     EntersWell walked.labelled walked.planned host pc method →
     KeepsWell walked.labelled walked.planned host pc (result_of (method_at walked.labelled.program method)) into →
     AreTold walked.labelled walked.planned named
-    (call_emissions walked counts host pc statement site method arguments into left)
-call_told walked named counts host pc statement site method arguments into left begun well enters keeps =
+    (call_emissions walked counts host pc statement site method arguments into carried left)
+call_told walked named counts host pc statement site method arguments into carried left begun well enters keeps =
     let labelled = walked.labelled in
     let planned = walked.planned in
     let there = method_at labelled.program method in
+    let home = called_home planned there in
     let more : Named = record { host = host; label = pc; need = need_of planned (statement ∷ left) } in
     let later = named ++ more ∷ [] in (
       tt,
-      quiet_then labelled planned later (argument_emissions walked host pc statement (params_of there) arguments) _
-          (arguments_quiet walked later host pc statement (params_of there) arguments well) (
+      quiet_then labelled planned later (argument_emissions walked host home pc statement (params_of there) arguments) _
+          (arguments_quiet walked later host home pc statement (params_of there) arguments well) (
             tt,
             (
-              called walked later host pc method (begun_more labelled planned named (more ∷ []) begun) enters,
-              (kept_quiet walked later host pc statement (result_of there) into keeps).told,
+              calls_well labelled planned later host pc (entry_id (suc method.0)) home
+                  (riding_params planned host home (params_of there) arguments)
+                  (called walked later host pc method (begun_more labelled planned named (more ∷ []) begun) enters),
+              (kept_quiet walked later host pc statement (result_of there) into carried keeps).told,
             ),
           ),
     )
@@ -396,9 +404,9 @@ block_told walked around (set_local heading x value rest) well counts lane named
     let labelled = walked.labelled in
     let planned = walked.planned in
     let pc = around.pc in
-    let own : HostId → List Emission = λ host. expr_emissions host pc heading.id 0 value
-    ++ emitted host pc heading.id (op.Let x (nodes_of 0 value)) ∷ send_emissions planned host pc heading.id x in
     let next = next_spot planned lane.spot heading.id (own_statements rest) in
+    let own : HostId → List Emission = λ host. expr_emissions host pc heading.id 0 value
+    ++ emitted host pc heading.id (op.Let x (nodes_of 0 value)) ∷ send_emissions planned host pc heading.id x (carried_to planned next (own_statements rest)) in
     statement_then walked around counts lane heading.id (own_statements rest) named counted begun sees
     (statements_see labelled planned walked.setting pc (set_local heading x value rest) well) (own next.host) _
     (λ host_is counted_there begun_there.
@@ -409,7 +417,7 @@ block_told walked around (set_local heading x value rest) well counts lane named
     subst P (sym host_is)
     (quiet_then labelled planned there (expr_emissions host pc heading.id 0 value) _
     (expr_quiet labelled planned there host pc heading.id 0 value well.1)
-    (tt, (given_quiet labelled planned there host pc heading.id x well.2).told)))
+    (tt, (given_quiet labelled planned there host pc heading.id x _ well.2).told)))
     (λ sees_then begun_then counted_then counted_apart.
     block_told walked around rest well.3 _ _ _ counted_then begun_then sees_then)
 block_told walked around (set_field heading field value rest) well counts lane named counted begun sees =
@@ -515,7 +523,7 @@ block_told walked around (call heading site method arguments into rest) well cou
     let here = counts_after counts moved in
     let left = under_token planned next others in
     let own : HostId → List Emission = λ host. call_emissions walked here host pc heading.id site method arguments into
-    left in
+    (carried_to planned next others) left in
     statement_then walked around counts lane heading.id others named counted begun sees
     (statements_see labelled planned walked.setting pc (call heading site method arguments into rest) well)
     (own next.host) _
@@ -523,8 +531,8 @@ block_told walked around (call heading site method arguments into rest) well cou
     let there = named ++ entries_in moved in
     let P : HostId → Type 0 = λ one. AreTold labelled planned there (own one) in
     subst P (sym host_is)
-    (call_told walked there here (statement_host planned.plan heading.id) pc heading.id site method arguments into left
-    begun_there well.1 well.2 well.3))
+    (call_told walked there here (statement_host planned.plan heading.id) pc heading.id site method arguments into
+    (carried_to planned next others) left begun_there well.1 well.2 well.3))
     (λ sees_then begun_then counted_then counted_apart.
     block_told walked around rest well.4 _ _ _ counted_then begun_then sees_then)
 block_told walked around (give_back heading value rest) well counts lane named counted begun sees =

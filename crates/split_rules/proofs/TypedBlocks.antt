@@ -1,11 +1,13 @@
 -- Blocks: from a lane on, where the statements that are left are due, all emissions of a block are typed.
 use Rattle.std.proofs.Common.{◌≡◌, ◌∙◌, Bool, true, false, List, [], ◌∷◌, ◌++◌, map, length, refl, ap, sym, subst}
-use Rattle.std.proofs.Common.{true≢false, append_assoc, eqb-true}
-use Rattle.std.specs.Prelude.{Option, Some, None}
+use Rattle.std.proofs.Common.{ℕ, ◌<◌, inl, inr, true≢false, append_assoc, eqb-true}
+use Rattle.std.proofs.lemmas.Bool.Decides.{eqb_tells}
+use Rattle.std.specs.Prelude.{Option, Some, None, ⊤, if◌then◌else◌}
 use Rattle.js_base.specs.declared.ids.HostId.{HostId}
 use Rattle.js_base.specs.declared.ids.VarId.{VarId}
 use Rattle.js_base.specs.declared.ids.StmtId.{StmtId}
 use Rattle.js_base.specs.declared.ids.MethodId.{MethodId}
+use Rattle.js_base.specs.declared.ids.SiteId.{SiteId}
 use Rattle.jif_tree.specs.Trees.{ExprTree, Heading, BlockTree, done, set_local, set_field, set_element, branch, loop}
 use Rattle.jif_tree.specs.Trees.{call, give_back, ProgramTree, MethodTree}
 use Rattle.jif_tree.specs.LabelRules.{method_at, result_of}
@@ -14,28 +16,32 @@ use Rattle.jif_tree.specs.Returns.{ReturnsLast}
 use Rattle.host_code.specs.declared.instruction.Op.TheVariants as op
 use Rattle.need_labels.specs.Plan.{statement_host}
 use Rattle.msg_cost.specs.declared.spot.Spot.{Spot}
-use Rattle.msg_cost.specs.Moves.{PlannedShape, next_spot, own_statements}
+use Rattle.msg_cost.specs.Moves.{PlannedShape, is_same, is_trusted_for, is_trusted_for_all, return_host, on, end_of}
+use Rattle.msg_cost.specs.Moves.{entered, next_spot, straight_to, carried_to, own_statements}
 use Rattle.split_rules.specs.Emissions.{Emission, Counts, counts_after}
-use Rattle.split_rules.specs.Walk.{Walked, Around, Lane, lane_on, lane_at, under_token, emitted, expr_emissions}
+use Rattle.split_rules.specs.Walk.{Walked, Around, Lane, lane_on, lane_at, lane_behind, under_token, emitted}
+use Rattle.split_rules.specs.Walk.{expr_emissions, rides_behind}
 use Rattle.split_rules.specs.Walk.{move_emissions, end_emissions, result_emissions, call_emissions, block_emissions}
 use Rattle.std.specs.List.{AllByRecursion}
-use Rattle.split_rules.specs.Positions.{IsIn, all_statements}
+use Rattle.split_rules.specs.Positions.{IsIn, IsOf, all_statements, Forward, with_forwards}
 use Rattle.split_rules.specs.Positions.{statements_of, number_of, is_on, run, Level, body, under, Position, calm}
 use Rattle.split_rules.proofs.BackedLabels.{all_first, all_second}
 use Rattle.split_rules.specs.Positions.{all_due, due_numbers, row_of, Entrance}
 use Rattle.split_rules.specs.Typable.{IsTrustedInside, AreTrusted}
-use Rattle.split_rules.specs.Typing.{body_of, nowhere, here, Known, AreTyped, AreDueOn}
+use Rattle.split_rules.specs.Typing.{body_of, nowhere, here, Known, AreTyped, AreDueOn, AreSourced, Gives}
 use Rattle.split_rules.specs.TypedCode.{AreMethodEntries}
 use Rattle.split_rules.proofs.Places.{same_host}
 use Rattle.split_rules.proofs.TypedMoves.{run_numbers, row_numbers, AreRunWhereTrusted, ahead_at, lane_level}
 use Rattle.split_rules.proofs.TypedMoves.{lane_place, IsGivenBack, IsLaneKnown, lane_still, MovesTyped, move_typed}
-use Rattle.split_rules.proofs.TypedMoves.{IsLaneTrusted}
+use Rattle.split_rules.proofs.TypedMoves.{IsLaneTrusted, IsLaneOut}
+use Rattle.split_rules.proofs.TypedForwards.{IsCarried, IsCarriedWithin, none_out, out_rides, out_sourced}
+use Rattle.split_rules.proofs.WalkedMoves.{one_of_two, next_here, next_there}
 use Rattle.split_rules.proofs.WalkedStates.{counts_more}
 use Rattle.split_rules.proofs.WalkedBlocks.{inside_of, branch_front, branch_own, loop_front, loop_own}
 use Rattle.split_rules.proofs.TypedStates.{known_at, counts_in, counts_behind, Leads, leads_still, leads_on, moved_then}
 use Rattle.split_rules.proofs.TypedValues.{Site}
 use Rattle.split_rules.proofs.TypedStatements.{set_local_typed, set_field_typed, set_element_typed, give_back_typed}
-use Rattle.split_rules.proofs.TypedCalls.{methods_still, call_typed}
+use Rattle.split_rules.proofs.TypedCalls.{methods_still, out_given, call_typed}
 use Rattle.split_rules.proofs.TypedBranches.{branch_typed, loop_typed}
 
 -- ---- statements of a block
@@ -68,20 +74,22 @@ own_trusted planned (give_back heading value rest) trusted = (trusted.0, own_tru
 -- ---- a statement and what follows it
 
 -- what a statement does on its host, where it is due first
+-- and what is left to be sent behind it
 abbrev Owns : Walked → Level → HostId → BlockTree → List BlockTree → Lane → List Entrance → List Position →
-    List Emission → Type 0
-Owns walked level host tree trees lane entries branches own =
+    List Emission → List Forward → Type 0
+Owns walked level host tree trees lane entries branches own out =
     Leads walked.planned (known_at (here host (calm (lane_level level lane)
     (run tree ∷ map run (ahead_at walked.planned lane.spot trees)))) entries branches) own
-    (here host (calm (lane_level level lane) (map run (ahead_at walked.planned lane.spot trees))))
+    (here host
+    (with_forwards (calm (lane_level level lane) (map run (ahead_at walked.planned lane.spot trees))) out))
 
 -- a lane moves to the spot of a statement, by the numbers of those behind it
-record MovesOn (walked : Walked) (around : Around) (level : Level) (lane : Lane) (tree : BlockTree)
-    (trees : List BlockTree) (entries : List Entrance) (branches : List Position) (others : List StmtId) (next : Spot) :
-    Type 0 where
+record MovesOn (walked : Walked) (around : Around) (level : Level) (lane : Lane) (out : List Forward)
+    (tree : BlockTree) (trees : List BlockTree) (entries : List Entrance) (branches : List Position)
+    (others : List StmtId) (next : Spot) : Type 0 where
   more : List Entrance
   typed : AreTyped walked.planned
-      (known_at (lane_place walked.planned level lane (tree ∷ trees)) entries branches)
+      (known_at (lane_place walked.planned level lane out (tree ∷ trees)) entries branches)
       (move_emissions walked around (counts_in entries branches) lane next (number_of tree ∷ others))
       (known_at (here next.host (calm (lane_level level (lane_at (counts_in entries branches) lane next))
       (run tree ∷ map run (ahead_at walked.planned (lane_at (counts_in entries branches) lane next).spot trees))))
@@ -92,11 +100,11 @@ record MovesOn (walked : Walked) (around : Around) (level : Level) (lane : Lane)
   spot_is : (lane_at (counts_in entries branches) lane next).spot ≡ next
   on_host : is_on walked.planned next.host tree ≡ true
 
-moves_on : (walked : Walked) (around : Around) (level : Level) (lane : Lane) (tree : BlockTree) (trees : List BlockTree)
-    (entries : List Entrance) (branches : List Position) (next : Spot) →
-    MovesTyped walked around level lane tree trees entries branches next →
-    MovesOn walked around level lane tree trees entries branches (map number_of trees) next
-moves_on walked around level lane tree trees entries branches next moves = record {
+moves_on : (walked : Walked) (around : Around) (level : Level) (lane : Lane) (out : List Forward) (tree : BlockTree)
+    (trees : List BlockTree) (entries : List Entrance) (branches : List Position) (next : Spot) →
+    MovesTyped walked around level lane out tree trees entries branches next →
+    MovesOn walked around level lane out tree trees entries branches (map number_of trees) next
+moves_on walked around level lane out tree trees entries branches next moves = record {
   more = moves.more;
   typed = moves.typed;
   known = moves.known;
@@ -105,13 +113,82 @@ moves_on walked around level lane tree trees entries branches next moves = recor
   on_host = moves.on_host;
 }
 
-statement_then : (walked : Walked) (around : Around) (level : Level) (lane : Lane) (tree : BlockTree)
-    (trees : List BlockTree) (entries : List Entrance) (branches : List Position) →
-    AreMethodEntries walked.planned entries →
+-- each statement stands on a host of the file
+abbrev pub AreHostsThere : PlannedShape → Type 0
+AreHostsThere planned =
+    (statement : StmtId) → (statement_host planned.plan statement).0 < length planned.hosts.hosts
+
+-- the host to which something is carried from a spot is one of the file
+straight_within : (planned : PlannedShape) (host next_host : HostId) (back next_back : Option HostId) →
+    next_host.0 < length planned.hosts.hosts →
+    IsCarriedWithin planned (straight_to (record { host = host; back = back })
+    (record { host = next_host; back = next_back }))
+straight_within planned host next_host None None within =
+    one_of_two (IsCarriedWithin planned) (is_same host next_host) None (Some next_host) tt within
+straight_within planned host next_host None (Some back) within =
+    one_of_two (IsCarriedWithin planned) (is_same host next_host) None
+    (if is_same back host then Some next_host else None) tt
+    (one_of_two (IsCarriedWithin planned) (is_same back host) (Some next_host) None within tt)
+straight_within planned host next_host (Some back) next_back within =
+    one_of_two (IsCarriedWithin planned) (is_same host next_host) None None tt tt
+
+carried_within : (planned : PlannedShape) →
+    AreHostsThere planned → (spot : Spot)
+    (statements : List StmtId) → IsCarriedWithin planned (carried_to planned spot statements)
+carried_within planned there spot [] = tt
+carried_within planned there spot (statement ∷ others) =
+    let next = next_spot planned spot statement others in
+    straight_within planned spot.host next.host spot.back next.back
+    (elim (eqb_tells spot.host.0 host.0) [
+      | inl same ↦ subst Q (sym (next_here planned spot statement others same.1)) (subst P (sym same.1) (there statement))
+      | inr apart ↦ subst Q (sym (next_there planned spot statement others apart.1)) (entered_within (end_of spot))
+    ])
+  where
+    host : HostId
+    host = statement_host planned.plan statement
+
+    P : ℕ → Type 0
+    P number = number < length planned.hosts.hosts
+
+    Q : Spot → Type 0
+    Q spot = spot.host.0 < length planned.hosts.hosts
+
+    entered_within : (from : HostId) → Q (entered planned from host (statement ∷ others))
+    entered_within from =
+        one_of_two Q (is_same from host) (on host) _ (there statement)
+        (one_of_two Q (is_trusted_for_all planned host (statement ∷ others)) (on host)
+        (record { host = host; back = Some (return_host planned from host (statement ∷ others)) })
+        (there statement) (there statement))
+
+-- a statement gives this variable its value, if one is given
+abbrev GivesOne : PlannedShape → BlockTree → Option VarId → Type 0
+GivesOne planned tree None = ⊤
+GivesOne planned tree (Some x) = Gives planned tree x
+
+-- what is left to be sent behind a statement rides to where the token goes straight from there
+given_out : (planned : PlannedShape) →
+    AreHostsThere planned → (next : Spot)
+    (tree : BlockTree) (given : Option VarId) → GivesOne planned tree given → is_on planned next.host tree ≡ true →
+    is_trusted_for planned next.host (number_of tree) ≡ true → IsOf planned.program tree → (others : List StmtId) →
+    let carried = carried_to planned next others in
+    let out = out_given planned next.host tree given carried in
+    AreSourced planned next.host out × IsCarried (rides_behind planned next given others) out carried
+given_out planned there next tree None gives own trusted is_of others = (tt, none_out (carried_to planned next others))
+given_out planned there next tree (Some x) gives own trusted is_of others = (
+  out_sourced planned next.host tree x (carried_to planned next others)
+      (record { on_host = own; trusted = trusted; is_of = is_of; gives = gives }),
+  out_rides planned next.host tree x (carried_to planned next others) (carried_within planned there next others),
+)
+
+statement_then : (walked : Walked) (around : Around) (level : Level) (lane : Lane) (out : List Forward)
+    (tree : BlockTree) (trees : List BlockTree) (entries : List Entrance) (branches : List Position) →
+    AreMethodEntries walked.planned entries → AreHostsThere walked.planned →
     AreRunWhereTrusted walked.planned (tree ∷ trees) →
     IsLaneKnown walked.planned entries level lane (tree ∷ trees) → IsLaneTrusted walked.planned lane (tree ∷ trees) →
-    (others : List StmtId) → others ≡ map number_of trees → (own : List Emission) (rest : Counts → Lane →
-    List Emission) (left : Counts) →
+    IsLaneOut walked.planned lane out (tree ∷ trees) →
+    (others : List StmtId) → others ≡ map number_of trees → (given : Option VarId) →
+    GivesOne walked.planned tree given → (own : List Emission) (rest : Counts → Lane → List Emission)
+    (left : Counts) →
     let next = next_spot walked.planned lane.spot (number_of tree) others in
     let counts = counts_in entries branches in
     let moved = move_emissions walked around counts lane next (number_of tree ∷ others) in
@@ -120,19 +197,21 @@ statement_then : (walked : Walked) (around : Around) (level : Level) (lane : Lan
     AreMethodEntries walked.planned entries_there → IsLaneKnown walked.planned entries_there level lane_there trees →
     AreDueOn walked.planned next.host (run tree ∷ map run (ahead_at walked.planned lane_there.spot trees)) →
     lane_there.spot ≡ next → counts_in entries_there branches ≡ counts_after counts moved →
-    Owns walked level next.host tree trees lane_there entries_there branches own) →
-    ((lane_there : Lane) (entries_there : List Entrance) (branches_there : List Position) →
+    Owns walked level next.host tree trees lane_there entries_there branches own
+    (out_given walked.planned next.host tree given (carried_to walked.planned next others))) →
+    ((lane_there : Lane) (out_there : List Forward) (entries_there : List Entrance) (branches_there : List Position) →
     AreMethodEntries walked.planned entries_there → IsLaneKnown walked.planned entries_there level lane_there trees →
-    IsLaneTrusted walked.planned lane_there trees →
-    Leads walked.planned (known_at (lane_place walked.planned level lane_there trees) entries_there branches_there)
+    IsLaneTrusted walked.planned lane_there trees → IsLaneOut walked.planned lane_there out_there trees →
+    Leads walked.planned
+    (known_at (lane_place walked.planned level lane_there out_there trees) entries_there branches_there)
     (rest (counts_in entries_there branches_there) lane_there) nowhere) →
-    Leads walked.planned (known_at (lane_place walked.planned level lane (tree ∷ trees)) entries branches)
-    (moved ++ own ++ rest left (lane_at counts lane next)) nowhere
-statement_then walked around level lane tree trees entries branches methods trusted known holds others others_are own
-    rest left left_is owns follows =
+    Leads walked.planned (known_at (lane_place walked.planned level lane out (tree ∷ trees)) entries branches)
+    (moved ++ own ++ rest left (lane_behind walked counts lane next given others)) nowhere
+statement_then walked around level lane out tree trees entries branches methods there trusted known holds is_out others
+    others_are given gives own rest left left_is owns follows =
     subst R (sym (append_assoc moved own (rest left lane_there)))
-    (moved_then planned entries branches moves.more (lane_place planned level lane (tree ∷ trees)) (here next.host due)
-    nowhere moved (own ++ rest left lane_there) moves.typed
+    (moved_then planned entries branches moves.more (lane_place planned level lane out (tree ∷ trees))
+    (here next.host due) nowhere moved (own ++ rest left lane_there) moves.typed
     (leads_on planned middle own (rest left lane_there) (here next.host behind) nowhere
     (owns moves.on_host lane_there (entries ++ moves.more) methods_there moves.known moves.trusted moves.spot_is many)
     (λ more ahead is.
@@ -145,9 +224,9 @@ statement_then walked around level lane tree trees entries branches methods trus
     let last : counts_after (counts_in (entries ++ moves.more) branches) own ≡ left =
     ap (λ it. counts_after it own) many ∙ sym (counts_more counts moved own) ∙ sym left_is in
     subst Q (is ∙ last) (subst P (ap {A = Spot} (λ spot. spot.host) moves.spot_is)
-    (follows lane_there ((entries ++ moves.more) ++ more) (branches ++ ahead)
+    (follows lane_there out_there ((entries ++ moves.more) ++ more) (branches ++ ahead)
     (methods_still planned (entries ++ moves.more) more methods_there)
-    (lane_still planned (entries ++ moves.more) more level lane_there trees moves.known) lane_trusted)))))
+    (lane_still planned (entries ++ moves.more) more level lane_there trees moves.known) lane_trusted lane_out)))))
   where
     planned : PlannedShape
     planned = walked.planned
@@ -163,16 +242,20 @@ statement_then walked around level lane tree trees entries branches methods trus
         (next_spot walked.planned lane.spot (number_of tree) others) (number_of tree ∷ others)
 
     lane_there : Lane
-    lane_there = lane_at (counts_in entries branches) lane (next_spot walked.planned lane.spot (number_of tree) others)
+    lane_there = lane_behind walked (counts_in entries branches) lane
+        (next_spot walked.planned lane.spot (number_of tree) others) given others
 
-    moves : MovesOn walked around level lane tree trees entries branches others
+    out_there : List Forward
+    out_there = out_given walked.planned next.host tree given (carried_to walked.planned next others)
+
+    moves : MovesOn walked around level lane out tree trees entries branches others
         (next_spot walked.planned lane.spot (number_of tree) others)
     moves =
-        let P : List StmtId → Type 0 = λ it. MovesOn walked around level lane tree trees entries branches it
+        let P : List StmtId → Type 0 = λ it. MovesOn walked around level lane out tree trees entries branches it
         (next_spot walked.planned lane.spot (number_of tree) it) in
         subst P (sym others_are)
-        (moves_on walked around level lane tree trees entries branches _
-        (move_typed walked around level lane tree trees entries branches trusted known holds))
+        (moves_on walked around level lane out tree trees entries branches _
+        (move_typed walked around level lane out tree trees entries branches trusted known holds is_out))
 
     lane_trusted : IsLaneTrusted walked.planned lane_there trees
     lane_trusted =
@@ -180,8 +263,21 @@ statement_then walked around level lane tree trees entries branches methods trus
         (map run (ahead_at walked.planned lane_there.spot trees)) in
         subst P (ap {A = Spot} (λ spot. spot.host) (sym moves.spot_is)) moves.trusted.1
 
+    lane_out : IsLaneOut walked.planned lane_there out_there trees
+    lane_out =
+        let both = given_out planned there next tree given gives moves.on_host moves.trusted.0.0 moves.trusted.0.1 others in
+        let P : Spot → Type 0 = λ spot. AreSourced planned spot.host out_there in
+        let Q : Spot → Type 0 = λ spot. IsCarried lane_there.riding out_there (carried_to planned spot others) in
+        let S : List StmtId → Type 0 = λ it. IsCarried lane_there.riding out_there
+        (carried_to planned lane_there.spot it) in
+        record {
+          sourced = subst P (sym moves.spot_is) both.0;
+          carried = subst S others_are (subst Q (sym moves.spot_is) both.1);
+        }
+
     behind : Position
-    behind = calm (lane_level level lane_there) (map run (ahead_at walked.planned lane_there.spot trees))
+    behind = with_forwards (calm (lane_level level lane_there) (map run (ahead_at walked.planned lane_there.spot trees)))
+        out_there
 
     due : Position
     due = calm (lane_level level lane_there) (run tree ∷ map run (ahead_at walked.planned lane_there.spot trees))
@@ -194,11 +290,11 @@ statement_then walked around level lane tree trees entries branches methods trus
 
     many : counts_in (entries ++ moves.more) branches ≡ counts_after counts moved
     many = counts_behind walked.planned
-        (known_at (lane_place walked.planned level lane (tree ∷ trees)) entries branches) moved middle moves.typed
+        (known_at (lane_place walked.planned level lane out (tree ∷ trees)) entries branches) moved middle moves.typed
 
     R : List Emission → Type 0
     R emissions = Leads walked.planned
-        (known_at (lane_place walked.planned level lane (tree ∷ trees)) entries branches) emissions nowhere
+        (known_at (lane_place walked.planned level lane out (tree ∷ trees)) entries branches) emissions nowhere
 
 -- ---- the end of a block
 
@@ -214,19 +310,21 @@ lane_ends planned entries level lane known = by lane.spot.back refl
         it in
         absurd ((subst P is known).1 refl)
 
-block_ends : (walked : Walked) (around : Around) (level : Level) (lane : Lane) (entries : List Entrance)
-    (branches : List Position) →
-    IsLaneKnown walked.planned entries level lane [] →
-    Leads walked.planned (known_at (lane_place walked.planned level lane []) entries branches)
+block_ends : (walked : Walked) (around : Around) (level : Level) (lane : Lane) (out : List Forward)
+    (entries : List Entrance) (branches : List Position) →
+    IsLaneKnown walked.planned entries level lane [] → IsLaneOut walked.planned lane out [] →
+    Leads walked.planned (known_at (lane_place walked.planned level lane out []) entries branches)
     (end_emissions around lane) nowhere
-block_ends walked around level lane entries branches known =
-    rw (lane_ends walked.planned entries level lane known) (leads_still walked.planned
+block_ends walked around level lane out entries branches known is_out =
+    let P : List Forward → Type 0 = λ it. Leads walked.planned
+    (known_at (lane_place walked.planned level lane it []) entries branches) (end_emissions around lane) nowhere in
+    subst P (sym is_out.carried.1) (rw (lane_ends walked.planned entries level lane known) (leads_still walked.planned
     (here lane.spot.host (calm level [])) nowhere entries branches
     (emitted lane.spot.host around.pc around.owner op.Back ∷ []) (
       known_at nowhere entries branches,
       (calm level [], refl, (tt, tt), (refl, refl)),
       refl,
-    ))
+    )))
 
 -- ---- blocks
 
@@ -235,6 +333,7 @@ pub record IsWalkedIn (walked : Walked) (method : MethodId) (gives : Bool) : Typ
   pub same : walked.labelled.program ≡ walked.planned.program
   pub result : result_of (method_at walked.planned.program method) ≡ walked.setting.result
   pub gives_it : is_some walked.setting.result ≡ gives
+  pub hosts : AreHostsThere walked.planned
 
 abbrev site_at : Around → Spot → StmtId → Site
 site_at around next id = record { me = next.host; label = around.pc; id = id }
@@ -249,7 +348,7 @@ gives_back : (walked : Walked) (method : MethodId) (gives : Bool) → IsWalkedIn
     AreDueOn walked.planned next.host (run (give_back heading value done) ∷ []) →
     Owns walked level next.host (give_back heading value done) trees lane entries branches
     (expr_emissions next.host around.pc heading.id 0 value
-    ++ result_emissions walked next.host around.pc heading.id value)
+    ++ result_emissions walked next.host around.pc heading.id value) []
 gives_back walked method gives within around heading value next in_it own level level_is lane trees none entries
     branches known gives_it trusted = by walked.setting.result refl (within.gives_it ∙ gives_it)
   where
@@ -264,7 +363,7 @@ gives_back walked method gives within around heading value next in_it own level 
     by : (result : Option VarId) → walked.setting.result ≡ result → is_some result ≡ true →
         Owns walked level next.host (give_back heading value done) trees lane entries branches
         (expr_emissions next.host around.pc heading.id 0 value
-        ++ result_emissions walked next.host around.pc heading.id value)
+        ++ result_emissions walked next.host around.pc heading.id value) []
     by None is some = absurd (true≢false (sym some))
     by (Some result) is some =
         rw (is, not_lent, none, level_is) (leads_still walked.planned _ _ entries branches _
@@ -301,68 +400,82 @@ inside_due planned host tree block own inside =
     let P : HostId → Type 0 = λ one. AreDueOn planned one (all_due block) in
     subst P (same_host there host (eqb-true there.0 host.0 own)) inside
 
+-- nothing is out where a block inside another begins
+pub nothing_out : (planned : PlannedShape) (host : HostId) (trees : List BlockTree) →
+    IsLaneOut planned (lane_on host) [] trees
+nothing_out planned host trees =
+    record { sourced = tt; carried = none_out (carried_to planned (on host) (map number_of trees)) }
+
+-- a call gives its value to the variable that keeps its result
+into_gives : (planned : PlannedShape) (heading : Heading) (site : SiteId) (called : MethodId)
+    (arguments : List ExprTree) (into : Option VarId) →
+    GivesOne planned (call heading site called arguments into done) into
+into_gives planned heading site called arguments None = tt
+into_gives planned heading site called arguments (Some x) = inl refl
+
 pub block_typed : (walked : Walked) (method : MethodId) (gives : Bool) → IsWalkedIn walked method gives →
     (may : Bool) (block : BlockTree) → IsBlockIn walked.planned.program method gives block → ReturnsLast may block →
     AreTrusted walked.planned block → AllByRecursion (IsIn walked.planned.program method) (all_statements block) →
     (around : Around) (level : Level) → (may ≡ true → level ≡ body method) →
-    (lane : Lane) (entries : List Entrance) (branches : List Position) → AreMethodEntries walked.planned entries →
-    IsLaneKnown walked.planned entries level lane (statements_of block) →
+    (lane : Lane) (out : List Forward) (entries : List Entrance) (branches : List Position) →
+    AreMethodEntries walked.planned entries → IsLaneKnown walked.planned entries level lane (statements_of block) →
     IsLaneTrusted walked.planned lane (statements_of block) →
-    Leads walked.planned (known_at (lane_place walked.planned level lane (statements_of block)) entries branches)
+    IsLaneOut walked.planned lane out (statements_of block) →
+    Leads walked.planned (known_at (lane_place walked.planned level lane out (statements_of block)) entries branches)
     (block_emissions walked around (counts_in entries branches) lane block) nowhere
-block_typed walked method gives within may done there returns trusted in_it around level at lane entries branches
-    methods known holds = block_ends walked around level lane entries branches known
+block_typed walked method gives within may done there returns trusted in_it around level at lane out entries branches
+    methods known holds is_out = block_ends walked around level lane out entries branches known is_out
 block_typed walked method gives within may (set_local heading x value rest) there returns trusted in_it around level
-    at lane entries branches methods known holds =
+    at lane out entries branches methods known holds is_out =
     let planned = walked.planned in
     let next = next_spot planned lane.spot heading.id (own_statements rest) in
     let trees = statements_of rest in
-    statement_then walked around level lane (set_local heading x value done) trees entries branches methods
-    (own_trusted planned (set_local heading x value rest) trusted) known holds (own_statements rest)
-    (own_numbers rest) _
+    statement_then walked around level lane out (set_local heading x value done) trees entries branches methods within.hosts
+    (own_trusted planned (set_local heading x value rest) trusted) known holds is_out (own_statements rest)
+    (own_numbers rest) (Some x) refl _
     (λ counts lane_then. block_emissions walked around counts lane_then rest) _ refl
     (λ own lane_there entries_there methods_there known_there due_there spot_is many.
     leads_still planned _ _ entries_there branches _ (set_local_typed planned (site_at around next heading.id)
-    (lane_level level lane_there) heading x value (map run (ahead_at planned lane_there.spot trees)) own due_there
+    (lane_level level lane_there) heading x value (carried_to planned next (own_statements rest)) (map run (ahead_at planned lane_there.spot trees)) own due_there
     entries_there
     branches))
-    (λ lane_there entries_there branches_there methods_there known_there holds_there.
+    (λ lane_there out_there entries_there branches_there methods_there known_there holds_there out_is.
     block_typed walked method gives within may rest there.2 returns trusted.1 in_it.1 around level at lane_there
-    entries_there branches_there methods_there known_there holds_there)
+    out_there entries_there branches_there methods_there known_there holds_there out_is)
 block_typed walked method gives within may (set_field heading field value rest) there returns trusted in_it around
-    level at lane entries branches methods known holds =
+    level at lane out entries branches methods known holds is_out =
     let planned = walked.planned in
     let next = next_spot planned lane.spot heading.id (own_statements rest) in
     let trees = statements_of rest in
-    statement_then walked around level lane (set_field heading field value done) trees entries branches methods
-    (own_trusted planned (set_field heading field value rest) trusted) known holds (own_statements rest)
-    (own_numbers rest) _
+    statement_then walked around level lane out (set_field heading field value done) trees entries branches methods within.hosts
+    (own_trusted planned (set_field heading field value rest) trusted) known holds is_out (own_statements rest)
+    (own_numbers rest) None tt _
     (λ counts lane_then. block_emissions walked around counts lane_then rest) _ refl
     (λ own lane_there entries_there methods_there known_there due_there spot_is many.
     leads_still planned _ _ entries_there branches _ (set_field_typed planned (site_at around next heading.id)
     (lane_level level lane_there) heading field value (map run (ahead_at planned lane_there.spot trees)) own due_there
     entries_there branches))
-    (λ lane_there entries_there branches_there methods_there known_there holds_there.
+    (λ lane_there out_there entries_there branches_there methods_there known_there holds_there out_is.
     block_typed walked method gives within may rest there.2 returns trusted.1 in_it.1 around level at lane_there
-    entries_there branches_there methods_there known_there holds_there)
+    out_there entries_there branches_there methods_there known_there holds_there out_is)
 block_typed walked method gives within may (set_element heading field index value rest) there returns trusted in_it
-    around level at lane entries branches methods known holds =
+    around level at lane out entries branches methods known holds is_out =
     let planned = walked.planned in
     let next = next_spot planned lane.spot heading.id (own_statements rest) in
     let trees = statements_of rest in
-    statement_then walked around level lane (set_element heading field index value done) trees entries branches methods
-    (own_trusted planned (set_element heading field index value rest) trusted) known holds (own_statements rest)
-    (own_numbers rest) _ (λ counts lane_then. block_emissions walked around counts lane_then rest) _ refl
+    statement_then walked around level lane out (set_element heading field index value done) trees entries branches methods within.hosts
+    (own_trusted planned (set_element heading field index value rest) trusted) known holds is_out (own_statements rest)
+    (own_numbers rest) None tt _ (λ counts lane_then. block_emissions walked around counts lane_then rest) _ refl
     (λ own lane_there entries_there methods_there known_there due_there spot_is many.
     leads_still planned _ _ entries_there branches _ (set_element_typed planned (site_at around next heading.id)
     (lane_level level lane_there) heading field index value (map run (ahead_at planned lane_there.spot trees)) own
     due_there
     entries_there branches))
-    (λ lane_there entries_there branches_there methods_there known_there holds_there.
+    (λ lane_there out_there entries_there branches_there methods_there known_there holds_there out_is.
     block_typed walked method gives within may rest there.3 returns trusted.1 in_it.1 around level at lane_there
-    entries_there branches_there methods_there known_there holds_there)
+    out_there entries_there branches_there methods_there known_there holds_there out_is)
 block_typed walked method gives within may (branch heading guard first second rest) there returns trusted in_it around
-    level at lane entries branches methods known holds =
+    level at lane out entries branches methods known holds is_out =
     let planned = walked.planned in
     let others = own_statements rest in
     let next = next_spot planned lane.spot heading.id others in
@@ -376,8 +489,8 @@ block_typed walked method gives within may (branch heading guard first second re
     let own : Counts → List Emission = λ it. branch_own (branch_front walked around it heading guard next others) it
     next.host one two in
     let behind = counts_after counts moved in
-    statement_then walked around level lane (branch heading guard first second done) trees entries branches methods
-    (own_trusted planned (branch heading guard first second rest) trusted) known holds others (own_numbers rest)
+    statement_then walked around level lane out (branch heading guard first second done) trees entries branches methods within.hosts
+    (own_trusted planned (branch heading guard first second rest) trusted) known holds is_out others (own_numbers rest) None tt
     (own behind)
     (λ it lane_then. block_emissions walked around it lane_then rest) (counts_after behind (own behind))
     (sym (counts_more counts moved (own behind)))
@@ -394,22 +507,24 @@ block_typed walked method gives within may (branch heading guard first second re
     (λ entries_in branches_in methods_in. block_typed walked method gives within false first there.1 returns.0 trusted.3
     (all_first (IsIn walked.planned.program method) (all_statements first) (all_statements second ++ all_statements
     rest) in_it.1)
-    inside inner (λ no. absurd (true≢false (sym no))) (lane_on next.host) entries_in branches_in methods_in tt
-    (inside_due planned next.host (branch heading guard first second done) first is_own trusted.1))
+    inside inner (λ no. absurd (true≢false (sym no))) (lane_on next.host) [] entries_in branches_in methods_in tt
+    (inside_due planned next.host (branch heading guard first second done) first is_own trusted.1)
+    (nothing_out planned next.host (statements_of first)))
     (λ entries_in branches_in methods_in. block_typed walked method gives within false second there.2 returns.1
     trusted.4
     (all_first (IsIn walked.planned.program method) (all_statements second) (all_statements rest)
     (all_second (IsIn walked.planned.program method) (all_statements first) (all_statements second ++ all_statements
     rest) in_it.1))
-    inside inner (λ no. absurd (true≢false (sym no))) (lane_on next.host) entries_in branches_in methods_in tt
-    (inside_due planned next.host (branch heading guard first second done) second is_own trusted.2))))
-    (λ lane_there entries_there branches_there methods_there known_there holds_there.
+    inside inner (λ no. absurd (true≢false (sym no))) (lane_on next.host) [] entries_in branches_in methods_in tt
+    (inside_due planned next.host (branch heading guard first second done) second is_own trusted.2)
+    (nothing_out planned next.host (statements_of second)))))
+    (λ lane_there out_there entries_there branches_there methods_there known_there holds_there out_is.
     block_typed walked method gives within may rest there.3 returns.2 trusted.5
     (all_second (IsIn walked.planned.program method) (all_statements second) (all_statements rest)
     (all_second (IsIn walked.planned.program method) (all_statements first) (all_statements second ++ all_statements
-    rest) in_it.1)) around level at lane_there entries_there branches_there methods_there known_there holds_there)
+    rest) in_it.1)) around level at lane_there out_there entries_there branches_there methods_there known_there holds_there out_is)
 block_typed walked method gives within may (loop heading guard inner rest) there returns trusted in_it around level at
-    lane entries branches methods known holds =
+    lane out entries branches methods known holds is_out =
     let planned = walked.planned in
     let others = own_statements rest in
     let next = next_spot planned lane.spot heading.id others in
@@ -421,8 +536,8 @@ block_typed walked method gives within may (loop heading guard inner rest) there
     let own : Counts → List Emission = λ it. loop_own (loop_front walked around it heading guard next others) it
     next.host one in
     let behind = counts_after counts moved in
-    statement_then walked around level lane (loop heading guard inner done) trees entries branches methods
-    (own_trusted planned (loop heading guard inner rest) trusted) known holds others (own_numbers rest) (own behind)
+    statement_then walked around level lane out (loop heading guard inner done) trees entries branches methods within.hosts
+    (own_trusted planned (loop heading guard inner rest) trusted) known holds is_out others (own_numbers rest) None tt (own behind)
     (λ it lane_then. block_emissions walked around it lane_then rest) (counts_after behind (own behind))
     (sym (counts_more counts moved (own behind)))
     (λ is_own lane_there entries_there methods_there known_there due_there spot_is many.
@@ -436,15 +551,16 @@ block_typed walked method gives within may (loop heading guard inner rest) there
     methods_there
     (λ entries_in branches_in methods_in. block_typed walked method gives within false inner there.1 returns.0 trusted.2
     (all_first (IsIn walked.planned.program method) (all_statements inner) (all_statements rest) in_it.1)
-    inside (under (length entries_there)) (λ no. absurd (true≢false (sym no))) (lane_on next.host) entries_in
+    inside (under (length entries_there)) (λ no. absurd (true≢false (sym no))) (lane_on next.host) [] entries_in
     branches_in methods_in tt
-    (inside_due planned next.host (loop heading guard inner done) inner is_own trusted.1))))
-    (λ lane_there entries_there branches_there methods_there known_there holds_there.
+    (inside_due planned next.host (loop heading guard inner done) inner is_own trusted.1)
+    (nothing_out planned next.host (statements_of inner)))))
+    (λ lane_there out_there entries_there branches_there methods_there known_there holds_there out_is.
     block_typed walked method gives within may rest there.2 returns.1 trusted.3
     (all_second (IsIn walked.planned.program method) (all_statements inner) (all_statements rest) in_it.1) around
-    level at lane_there entries_there branches_there methods_there known_there holds_there)
+    level at lane_there out_there entries_there branches_there methods_there known_there holds_there out_is)
 block_typed walked method gives within may (call heading site called arguments into rest) there returns trusted in_it
-    around level at lane entries branches methods known holds =
+    around level at lane out entries branches methods known holds is_out =
     let planned = walked.planned in
     let others = own_statements rest in
     let next = next_spot planned lane.spot heading.id others in
@@ -453,10 +569,11 @@ block_typed walked method gives within may (call heading site called arguments i
     let moved = move_emissions walked around counts lane next (heading.id ∷ others) in
     let left = under_token planned next others in
     let own : Counts → List Emission = λ it. call_emissions walked it next.host around.pc heading.id site called
-    arguments into left in
-    statement_then walked around level lane (call heading site called arguments into done) trees entries branches
-    methods
-    (own_trusted planned (call heading site called arguments into rest) trusted) known holds others (own_numbers rest)
+    arguments into (carried_to planned next others) left in
+    statement_then walked around level lane out (call heading site called arguments into done) trees entries branches
+    methods within.hosts
+    (own_trusted planned (call heading site called arguments into rest) trusted) known holds is_out others (own_numbers rest) into
+    (into_gives planned heading site called arguments into)
     (own (counts_after counts moved)) (λ it lane_then. block_emissions walked around it lane_then rest) _ refl
     (λ is_own lane_there entries_there methods_there known_there due_there spot_is many.
     let after = map run (ahead_at planned lane_there.spot trees) in
@@ -465,28 +582,31 @@ block_typed walked method gives within may (call heading site called arguments i
     let R : Option MethodTree → Type 0 = λ it. AreDueOn planned next.host (all_due (body_of it)) in
     let P : Counts → Type 0 = λ it. Leads planned (known_at (here next.host (calm (lane_level level lane_there)
     (run (call heading site called arguments into done) ∷ after))) entries_there branches) (own it)
-    (here next.host (calm (lane_level level lane_there) after)) in
+    (here next.host (with_forwards (calm (lane_level level lane_there) after)
+    (out_given planned next.host (call heading site called arguments into done) into
+    (carried_to planned next others)))) in
     subst P many (call_typed walked (site_at around next heading.id) (lane_level level lane_there) heading site called
-    arguments into method_there.0 (subst Q (sym within.same) method_there.1) method_there.1 after is_own due_there
+    arguments into method_there.0 (subst Q (sym within.same) method_there.1) method_there.1
+    method_there.3 (within.hosts method_there.0.head) (carried_to planned next others) after is_own due_there
     (subst R method_there.1 (inside_due planned next.host (call heading site called arguments into done)
     (body_of (method_at planned.program called)) is_own trusted.1)) refl left
     (left_numbers planned lane_there next trees others spot_is (own_numbers rest)) entries_there branches
     methods_there))
-    (λ lane_there entries_there branches_there methods_there known_there holds_there.
+    (λ lane_there out_there entries_there branches_there methods_there known_there holds_there out_is.
     block_typed walked method gives within may rest there.3 returns trusted.2 in_it.1 around level at lane_there
-    entries_there branches_there methods_there known_there holds_there)
+    out_there entries_there branches_there methods_there known_there holds_there out_is)
 block_typed walked method gives within may (give_back heading value rest) there returns trusted in_it around level at
-    lane entries branches methods known holds =
+    lane out entries branches methods known holds is_out =
     let planned = walked.planned in
     let next = next_spot planned lane.spot heading.id (own_statements rest) in
     let trees = statements_of rest in
-    statement_then walked around level lane (give_back heading value done) trees entries branches methods
-    (own_trusted planned (give_back heading value rest) trusted) known holds (own_statements rest) (own_numbers rest) _
+    statement_then walked around level lane out (give_back heading value done) trees entries branches methods within.hosts
+    (own_trusted planned (give_back heading value rest) trusted) known holds is_out (own_statements rest) (own_numbers rest) None tt _
     (λ counts lane_then. block_emissions walked around counts lane_then rest) _ refl
     (λ own lane_there entries_there methods_there known_there due_there spot_is many.
     gives_back walked method gives within around heading value next in_it.0 own level (at returns.0) lane_there trees
     (ap statements_of returns.1) entries_there branches known_there there.0
     (due_there.0, tt))
-    (λ lane_there entries_there branches_there methods_there known_there holds_there.
+    (λ lane_there out_there entries_there branches_there methods_there known_there holds_there out_is.
     block_typed walked method gives within may rest there.2 (ends_so may rest returns.1) trusted.1 in_it.1 around
-    level at lane_there entries_there branches_there methods_there known_there holds_there)
+    level at lane_there out_there entries_there branches_there methods_there known_there holds_there out_is)

@@ -14,7 +14,7 @@ use Rattle.split_rules.specs.Placed.{PlacedProgram, planned_from}
 use Rattle.split_rules.specs.Emissions.{Emission, stands, Counts, counts_after}
 use Rattle.split_rules.specs.SplitCode.{entries_in}
 use Rattle.split_rules.specs.Walk.{method_entry, lane_on, walked_in, block_emissions, methods_emissions, need_of}
-use Rattle.split_rules.specs.Positions.{all_due, body, Position, calm, Entrance}
+use Rattle.split_rules.specs.Positions.{statements_of, all_due, body, Position, calm, Entrance}
 use Rattle.split_rules.specs.Typable.{IsTypableMethod, IsTypable}
 use Rattle.split_rules.specs.Typing.{EntryIs, nowhere, here, Known, AreTyped}
 use Rattle.split_rules.specs.WalkStart.{front_emissions, method_entrances, known_start}
@@ -24,7 +24,7 @@ use Rattle.split_rules.proofs.WalkedPrograms.{front_counted}
 use Rattle.split_rules.proofs.TypedStates.{known_at, counts_in, Leads, leads_still, leads_on}
 use Rattle.split_rules.proofs.TypedCalls.{methods_still}
 use Rattle.split_rules.proofs.TypedPlaces.{AreCalm}
-use Rattle.split_rules.proofs.TypedBlocks.{block_typed}
+use Rattle.split_rules.proofs.TypedBlocks.{AreHostsThere, nothing_out, block_typed}
 use Rattle.split_rules.proofs.AllowedTyping.{body_of_method}
 
 -- ---- entries of methods
@@ -71,7 +71,7 @@ method_number : (program : ProgramTree) (method : MethodTree) (number : ℕ) →
 method_number program method number is = rw is refl
 
 methods_typed : (principals : Declared) (labelled : Labelled) (planned : PlannedShape) →
-    labelled.program ≡ planned.program → (number : ℕ) (methods : List MethodTree) →
+    labelled.program ≡ planned.program → AreHostsThere planned → (number : ℕ) (methods : List MethodTree) →
     ((place : ℕ) (tree : MethodTree) → slice_get methods place ≡ Some tree →
     slice_get planned.program.methods (number + place) ≡ Some tree) →
     AreMethodsIn planned.program number methods →
@@ -79,9 +79,9 @@ methods_typed : (principals : Declared) (labelled : Labelled) (planned : Planned
     (entries : List Entrance) (branches : List Position) → AreMethodEntries planned entries →
     Leads planned (known_at nowhere entries branches)
     (methods_emissions principals labelled planned (counts_in entries branches) number methods) nowhere
-methods_typed principals labelled planned same number [] there numbered typable entries branches known =
+methods_typed principals labelled planned same hosts number [] there numbered typable entries branches known =
     leads_still planned nowhere nowhere entries branches [] refl
-methods_typed principals labelled planned same number (method ∷ methods) there numbered typable entries branches
+methods_typed principals labelled planned same hosts number (method ∷ methods) there numbered typable entries branches
     known =
     let home = home_of planned method in
     let walked = walked_in principals labelled planned method in
@@ -98,18 +98,19 @@ methods_typed principals labelled planned same number (method ∷ methods) there
     (begins planned home (suc number) begin (need_of planned (method.head ∷ [])) entries branches bodies
     (known number method own)
     (block_typed walked (record { 0 = number }) (is_some method.result)
-    (record { same = same; result = method_number planned.program method number own; gives_it = refl }) true method.body
+    (record { same = same; result = method_number planned.program method number own; gives_it = refl; hosts = hosts }) true method.body
     numbered.0.body typable.0.returns typable.0.trusted
     (body_of_method planned.program (record { 0 = number }) method own) (record {
       owner = method.head;
       pc =
           method.begin;
     })
-    (body (record { 0 = number })) (λ yes. refl) (lane_on home) entries branches known tt typable.0.home))
+    (body (record { 0 = number })) (λ yes. refl) (lane_on home) [] entries branches known tt typable.0.home
+    (nothing_out planned home (statements_of method.body))))
     (λ more ahead is.
     let Q : Counts → Type 0 = λ counts. Leads planned (known_at nowhere (entries ++ more) (branches ++ ahead))
     (methods_emissions principals labelled planned counts (suc number) methods) nowhere in
-    subst Q is (methods_typed principals labelled planned same (suc number) methods
+    subst Q is (methods_typed principals labelled planned same hosts (suc number) methods
     (λ place tree at. let R : ℕ → Type 0 = λ one. slice_get planned.program.methods one ≡ Some tree in
     let next : number + suc place ≡ suc number + place = omega arith in
     subst R next (there (suc place) tree at)) numbered.1 typable.1 (entries ++ more)
@@ -141,10 +142,10 @@ entrances_many planned number (method ∷ methods) = ap suc (entrances_many plan
 pub program_typed : (placed : PlacedProgram) →
     let planned = planned_from placed in
     let counts = counts_after (record { entries = 0; branches = 0 }) (front_emissions placed.labelled planned) in
-    IsWellNumbered placed.labelled.program → IsTypable planned →
+    IsWellNumbered placed.labelled.program → AreHostsThere planned → IsTypable planned →
     (last : Known) × (last.place ≡ nowhere) × AreTyped planned (known_start planned)
     (methods_emissions placed.hosts.principals placed.labelled planned counts 0 placed.labelled.program.methods) last
-program_typed placed numbered typable = (_, refl, subst P (sym same) leads.typed)
+program_typed placed numbered hosts typable = (_, refl, subst P (sym same) leads.typed)
   where
     planned : PlannedShape
     planned = planned_from placed
@@ -173,7 +174,7 @@ program_typed placed numbered typable = (_, refl, subst P (sym same) leads.typed
     leads : Leads planned (known_start planned)
         (methods_emissions placed.hosts.principals placed.labelled planned (counts_in entries []) 0
         placed.labelled.program.methods) nowhere
-    leads = methods_typed placed.hosts.principals placed.labelled planned refl 0 placed.labelled.program.methods
+    leads = methods_typed placed.hosts.principals placed.labelled planned refl hosts 0 placed.labelled.program.methods
         from_zero
         numbered.methods typable.methods entries [] (start_methods planned)
 

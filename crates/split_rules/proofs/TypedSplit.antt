@@ -33,7 +33,7 @@ use Rattle.split_rules.proofs.CodeItems.{code_entry, entries_numbered}
 use Rattle.split_rules.proofs.Fronts.{IsWalk, front_is, walk_there, others_stand, get_append}
 use Rattle.split_rules.proofs.SoundParts.{given, code_given, given_emitted, entry_made}
 use Rattle.split_rules.proofs.SoundInstructions.{instruction_made, branch_leads}
-use Rattle.split_rules.proofs.WalkedPrograms.{program_goes}
+use Rattle.split_rules.proofs.WalkedPrograms.{scope_there, program_goes}
 use Rattle.split_rules.proofs.WalkedMoves.{at_last}
 use Rattle.split_rules.proofs.TypedPlaces.{all_grow, one_grows, grown, calm_there, all_calm, entries_many, positions_on}
 use Rattle.split_rules.proofs.TypedPlaces.{first_is, half}
@@ -610,7 +610,7 @@ split_is_typed placed splittable typable =
     walk : Walk placed.labelled placed.hosts planned main emissions
     walk =
         let goes = program_goes placed splittable in
-        let typed = program_typed placed splittable.numbered typable in
+        let typed = program_typed placed splittable.numbered (scope_there placed splittable).statements typable in
         record {
           end = goes.0;
           walk = walk_there placed emissions goes.0 splittable goes.1 goes.2;

@@ -1,6 +1,7 @@
 -- What a statement does on its host takes it from what is due, and leaves all else that is due.
 use Rattle.std.proofs.Common.{◌≡◌, ◌∙◌, ℕ, true, List, [], ◌∷◌, ◌++◌, refl, ap, sym, subst, append-nil}
-use Rattle.std.specs.Prelude.{Some}
+use Rattle.std.specs.Prelude.{Option, Some}
+use Rattle.js_base.specs.declared.ids.HostId.{HostId}
 use Rattle.js_base.specs.declared.ids.FieldId.{FieldId}
 use Rattle.js_base.specs.declared.ids.VarId.{VarId}
 use Rattle.js_base.specs.declared.ids.MethodId.{MethodId}
@@ -12,13 +13,19 @@ use Rattle.split_rules.specs.Emissions.{Emission}
 use Rattle.split_rules.specs.Expressions.{reads_in, nodes_of, first_element}
 use Rattle.split_rules.specs.Walk.{emitted, expr_emissions, send_emissions}
 use Rattle.split_rules.specs.Positions.{IsIn, Due, run, statement_due, is_on, Level, body, FieldRead, field_reads}
-use Rattle.split_rules.specs.Positions.{own_reads, Position, calm, with_reads, with_forwards, forwards_of, Entrance}
+use Rattle.split_rules.specs.Positions.{own_reads, Forward, Position, calm, with_reads, with_forwards, forwards_of, Entrance}
 use Rattle.split_rules.specs.Typing.{AreDueOn, Known, here, Types, AreTyped}
 use Rattle.split_rules.proofs.TypedStates.{known_at, typed_on}
-use Rattle.split_rules.proofs.TypedValues.{reads_many, IsDueOn, Site, expr_typed, send_typed}
+use Rattle.split_rules.proofs.TypedValues.{reads_many, IsDueOn, Site, expr_typed}
+use Rattle.split_rules.proofs.TypedForwards.{out_behind, send_typed}
 
 abbrev pub calm_at : Site → Level → List Due → List Entrance → List Position → Known
 calm_at site level due entries branches = known_at (here site.me (calm level due)) entries branches
+
+-- the same where something is still out, which rides
+abbrev pub riding_at : Site → Level → List Due → List Forward → List Entrance → List Position → Known
+riding_at site level due out entries branches =
+    known_at (here site.me (with_forwards (calm level due) out)) entries branches
 
 -- a statement is due on its host, with others behind it
 abbrev pub due_on : (planned : PlannedShape) (site : Site) (level : Level) (statement : BlockTree) (others : List Due) →
@@ -53,15 +60,16 @@ pub one_typed : (planned : PlannedShape) (known : Known) (x : Emission) (middle 
 one_typed planned known x middle xs last one others = (middle, one, others)
 
 pub set_local_typed : (planned : PlannedShape) (site : Site) (level : Level) (heading : Heading) (x : VarId)
-    (value : ExprTree) (others : List Due) → is_on planned site.me (set_local heading x value done) ≡ true →
+    (value : ExprTree) (carried : Option HostId) (others : List Due) →
+    is_on planned site.me (set_local heading x value done) ≡ true →
     AreDueOn planned site.me (run (set_local heading x value done) ∷ others) →
     (entries : List Entrance) (branches : List Position) →
     AreTyped planned (calm_at site level (run (set_local heading x value done) ∷ others) entries branches)
     (expr_emissions site.me site.label site.id 0 value
     ++ emitted site.me site.label site.id (op.Let x (nodes_of 0 value))
-    ∷ send_emissions planned site.me site.label site.id x)
-    (calm_at site level others entries branches)
-set_local_typed planned site level heading x value others on_host trusted entries branches =
+    ∷ send_emissions planned site.me site.label site.id x carried)
+    (riding_at site level others (out_behind planned site.me (set_local heading x value done) x carried) entries branches)
+set_local_typed planned site level heading x value carried others on_host trusted entries branches =
     let statement = set_local heading x value done in
     let due = run statement ∷ others in
     let next = with_forwards (calm level others) (forwards_of planned site.me statement x) in
@@ -87,7 +95,7 @@ set_local_typed planned site level heading x value others on_host trusted entrie
         ),
       ),
       send_typed planned site (calm level others) refl refl trusted.1 entries branches statement x
-          (record { on_host = on_host; trusted = trusted.0.0; is_of = trusted.0.1; gives = refl }),
+          (record { on_host = on_host; trusted = trusted.0.0; is_of = trusted.0.1; gives = refl }) carried,
     )
 
 pub set_field_typed : (planned : PlannedShape) (site : Site) (level : Level) (heading : Heading) (field : FieldId)

@@ -2,8 +2,9 @@
 -- goes on and no more is owed than before the lane.
 use Rattle.std.proofs.Common.{◌≡◌, ◌∙◌, ℕ, suc, ◌+◌, ◌<◌, Bool}
 use Rattle.std.proofs.Common.{List, [], ◌∷◌, ◌++◌, length, refl, ap, sym, subst, append-nil}
-use Rattle.std.specs.Prelude.{Some, ⊤}
+use Rattle.std.specs.Prelude.{Option, Some, None, ⊤}
 use Rattle.js_base.specs.declared.ids.HostId.{HostId}
+use Rattle.js_base.specs.declared.ids.VarId.{VarId}
 use Rattle.js_base.specs.declared.ids.MethodId.{MethodId}
 use Rattle.js_base.specs.declared.ids.StmtId.{StmtId}
 use Rattle.label_lattice.specs.declared.label.Label.{Label}
@@ -17,16 +18,17 @@ use Rattle.host_code.specs.Code.{host_of_site}
 use Rattle.need_labels.specs.Labelled.{all_labels}
 use Rattle.need_labels.specs.Plan.{PlanShape, statement_host}
 use Rattle.msg_cost.specs.declared.spot.Spot.{Spot}
-use Rattle.msg_cost.specs.Moves.{end_of, next_spot, own_statements}
+use Rattle.msg_cost.specs.Moves.{end_of, next_spot, carried_to, own_statements}
 use Rattle.split_rules.specs.Emissions.{Emission, entry, stands, lands, Counts, counts_after}
 use Rattle.split_rules.specs.Expressions.{reads_in, nodes_of}
 use Rattle.split_rules.specs.Flow.{Scope, stopped, at, Pending, State}
-use Rattle.split_rules.specs.Walk.{Walked, Around, Lane, lane_on, lane_at, entry_id, need_of, under_token, emitted}
+use Rattle.split_rules.specs.Walk.{Walked, Around, Lane, lane_on, lane_behind, entry_id, need_of, under_token, emitted}
 use Rattle.split_rules.specs.Walk.{expr_emissions, leave_emissions, move_emissions, end_emissions}
 use Rattle.split_rules.specs.Walk.{call_emissions, block_emissions}
 use Rattle.split_rules.proofs.WalkedStates.{state_of, goes_on, counts_more, Reaches, reaches_flow, reaches_on}
 use Rattle.split_rules.proofs.WalkedStates.{goes_then}
-use Rattle.split_rules.proofs.WalkedExpressions.{own_nodes_fit, expr_goes}
+use Rattle.split_rules.proofs.WalkedExpressions.{variable_there, own_nodes_fit, expr_goes}
+use Rattle.split_rules.proofs.WalkedRiders.{IsGivenOne, rides_fit}
 use Rattle.split_rules.proofs.WalkedMoves.{IsLaneOn, owed_by, entry_there, leave_goes, counts_at, MovesTo, move_goes}
 use Rattle.split_rules.proofs.WalkedCalls.{IsWalkable, AreNamed, named_more, set_local_goes, set_field_goes}
 use Rattle.split_rules.proofs.WalkedCalls.{set_element_goes, give_back_goes, call_goes}
@@ -66,8 +68,8 @@ Owns scope host named branches owed opened emissions =
 statement_then : (scope : Scope) (walked : Walked) → IsWalkable scope walked.labelled.program walked.planned →
     (around : Around) (lane : Lane) → IsLaneOn scope lane → (statement : StmtId) (others : List StmtId)
     (named : List HostId) (branches : ℕ) (owed opened : List Pending) →
-    AreNamed walked.labelled.program walked.planned named → (own : List Emission)
-    (rest : Counts → Lane → List Emission) (left : Counts) →
+    AreNamed walked.labelled.program walked.planned named → (given : Option VarId) → IsGivenOne scope given →
+    (own : List Emission) (rest : Counts → Lane → List Emission) (left : Counts) →
     let next = next_spot walked.planned lane.spot statement others in
     let counts = counts_at named branches in
     let moved = move_emissions walked around counts lane next (statement ∷ others) in
@@ -81,9 +83,10 @@ statement_then : (scope : Scope) (walked : Walked) → IsWalkable scope walked.l
     AreNamed walked.labelled.program walked.planned named_there →
     Walks scope walked lane_there named_there branches_there owed opened
     (rest (counts_at named_there branches_there) lane_there)) →
-    Walks scope walked lane named branches owed opened (moved ++ own ++ rest left (lane_at counts lane next))
-statement_then scope walked walkable around lane there statement others named branches owed opened are own rest left
-    left_is owns follows =
+    Walks scope walked lane named branches owed opened
+    (moved ++ own ++ rest left (lane_behind walked counts lane next given others))
+statement_then scope walked walkable around lane there statement others named branches owed opened are given given_there
+    own rest left left_is owns follows =
     reaches_on scope first (moved ++ own) (rest left lane_there) (at next.host 0) stopped owed_there opened owed opened
     (reaches_on scope first moved own (at next.host 0) (at next.host 0) owed_there opened owed_there opened
     moves.reaches
@@ -96,7 +99,7 @@ statement_then scope walked walkable around lane there statement others named br
     (state_of (at next.host 0) (named ++ more) branches_there owed_there opened) (rest here lane_there) stopped owed
     opened in
     subst Q (is ∙ sym left_is) (subst P moves.lane_host
-    (follows lane_there (named ++ more) branches_there moves.there (are_more more))))
+    (follows lane_there (named ++ more) branches_there lane_fits (are_more more))))
   where
     program : ProgramTree
     program = walked.labelled.program
@@ -115,7 +118,8 @@ statement_then scope walked walkable around lane there statement others named br
         (next_spot walked.planned lane.spot statement others) (statement ∷ others)
 
     lane_there : Lane
-    lane_there = lane_at (counts_at named branches) lane (next_spot walked.planned lane.spot statement others)
+    lane_there = lane_behind walked (counts_at named branches) lane
+        (next_spot walked.planned lane.spot statement others) given others
 
     owed_there : List Pending
     owed_there = owed_by lane_there ++ owed
@@ -124,6 +128,14 @@ statement_then scope walked walkable around lane there statement others named br
         (statement_host walked.planned.plan statement) (next_spot walked.planned lane.spot statement others)
     moves = move_goes scope program walked walkable.scoped around lane there statement others named branches owed opened
         are.some
+
+    lane_fits : IsLaneOn scope lane_there
+    lane_fits = record {
+      host = moves.there.host;
+      back = moves.there.back;
+      riding = rides_fit scope walked.planned (next_spot walked.planned lane.spot statement others) given others
+          given_there;
+    }
 
     are_more : (more : List HostId) → AreNamed walked.labelled.program walked.planned (named ++ more)
     are_more more = named_more walked.labelled.program walked.planned named are more
@@ -371,6 +383,14 @@ host_there scope walked walkable host statement is =
     let P : HostId → Type 0 = λ one. one.0 < scope.hosts in
     subst P (sym is) (walkable.scoped.statements statement)
 
+-- a variable that keeps a result
+into_there : (scope : Scope) (walked : Walked) → IsWalkable scope walked.labelled.program walked.planned →
+    (method : MethodId) (into : Option VarId) → HasOptionalVariable walked.labelled.program method into →
+    IsGivenOne scope into
+into_there scope walked walkable method None there = tt
+into_there scope walked walkable method (Some x) there =
+    variable_there scope walked.labelled.program walked.planned walkable.scoped method x there
+
 pub block_goes : (scope : Scope) (walked : Walked) (method : MethodId) (gives : Bool) →
     IsInMethod scope walked method gives → (block : BlockTree) →
     IsBlockIn walked.labelled.program method gives block → AreSitesOf scope.sites walked.planned.plan block →
@@ -386,11 +406,12 @@ block_goes scope walked method gives within (set_local heading x value rest) the
     let planned = walked.planned in
     let next = next_spot planned lane.spot heading.id (own_statements rest) in
     statement_then scope walked within.walkable around lane lane_there heading.id (own_statements rest) named branches
-    owed opened are _ (λ counts lane_then. block_emissions walked around counts lane_then rest) _ refl
+    owed opened are (Some x)
+    (variable_there scope program planned within.walkable.scoped method x there.0) _ (λ counts lane_then. block_emissions walked around counts lane_then rest) _ refl
     (λ host_is named_there many owed_there are_there is.
     reaches_flow scope (at next.host 0) (at next.host 0) named_there many owed_there opened _
     (set_local_goes scope program planned within.walkable.scoped method x value there.0 there.1 next.host around.pc
-    heading.id named_there many owed_there opened))
+    heading.id (carried_to planned next (own_statements rest)) named_there many owed_there opened))
     (λ lane_then named_there many lane_is are_there.
     block_goes scope walked method gives within rest there.2 sites around lane_then lane_is named_there many owed opened
     are_there)
@@ -401,7 +422,7 @@ block_goes scope walked method gives within (set_field heading field value rest)
     let planned = walked.planned in
     let next = next_spot planned lane.spot heading.id (own_statements rest) in
     statement_then scope walked within.walkable around lane lane_there heading.id (own_statements rest) named branches
-    owed opened are _ (λ counts lane_then. block_emissions walked around counts lane_then rest) _ refl
+    owed opened are None tt _ (λ counts lane_then. block_emissions walked around counts lane_then rest) _ refl
     (λ host_is named_there many owed_there are_there is.
     reaches_flow scope (at next.host 0) (at next.host 0) named_there many owed_there opened _
     (set_field_goes scope program planned within.walkable.scoped method field value there.0 there.1 next.host around.pc
@@ -415,7 +436,7 @@ block_goes scope walked method gives within (set_element heading field index val
     let planned = walked.planned in
     let next = next_spot planned lane.spot heading.id (own_statements rest) in
     statement_then scope walked within.walkable around lane lane_there heading.id (own_statements rest) named branches
-    owed opened are _ (λ counts lane_then. block_emissions walked around counts lane_then rest) _ refl
+    owed opened are None tt _ (λ counts lane_then. block_emissions walked around counts lane_then rest) _ refl
     (λ host_is named_there many owed_there are_there is.
     reaches_flow scope (at next.host 0) (at next.host 0) named_there many owed_there opened _
     (set_element_goes scope program planned within.walkable.scoped method field index value there.0 there.1 there.2
@@ -436,13 +457,13 @@ block_goes scope walked method gives within (branch heading guard first second r
     let own : Counts → List Emission = λ here. branch_own (branch_front walked around here heading guard next others)
     here next.host one two in
     let here = counts_after (counts_at named branches) moved in
-    statement_then scope walked within.walkable around lane lane_there heading.id others named branches owed opened are
+    statement_then scope walked within.walkable around lane lane_there heading.id others named branches owed opened are None tt
     (own here) (λ counts lane_then. block_emissions walked around counts lane_then rest) (counts_after here (own here))
     (sym (counts_more (counts_at named branches) moved (own here)))
     (λ host_is named_there many owed_there are_there is.
     let P : Counts → Type 0 = λ counts. Owns scope next.host named_there many owed_there opened (own counts) in
     let host_within = host_there scope walked within.walkable next.host heading.id host_is in
-    let lane_is : IsLaneOn scope (lane_on next.host) = record { host = host_within; back = tt } in
+    let lane_is : IsLaneOn scope (lane_on next.host) = record { host = host_within; back = tt; riding = tt } in
     subst P is (branch_goes scope walked within.walkable method around heading guard there.0 next host_within others one
     two named_there many owed_there opened are_there
     (λ owed_in opened_in named_in many_in are_in. block_goes scope walked method gives within first there.1 sites.0
@@ -465,13 +486,13 @@ block_goes scope walked method gives within (loop heading guard body rest) there
     let own : Counts → List Emission = λ here. loop_own (loop_front walked around here heading guard next others)
     here next.host inner in
     let here = counts_after (counts_at named branches) moved in
-    statement_then scope walked within.walkable around lane lane_there heading.id others named branches owed opened are
+    statement_then scope walked within.walkable around lane lane_there heading.id others named branches owed opened are None tt
     (own here) (λ counts lane_then. block_emissions walked around counts lane_then rest) (counts_after here (own here))
     (sym (counts_more (counts_at named branches) moved (own here)))
     (λ host_is named_there many owed_there are_there is.
     let P : Counts → Type 0 = λ counts. Owns scope next.host named_there many owed_there opened (own counts) in
     let host_within = host_there scope walked within.walkable next.host heading.id host_is in
-    let lane_is : IsLaneOn scope (lane_on next.host) = record { host = host_within; back = tt } in
+    let lane_is : IsLaneOn scope (lane_on next.host) = record { host = host_within; back = tt; riding = tt } in
     subst P is (loop_goes scope walked within.walkable method around heading guard there.0 next host_within others inner
     named_there many owed_there opened are_there
     (λ owed_in opened_in named_in many_in are_in. block_goes scope walked method gives within body there.1 sites.0
@@ -489,14 +510,16 @@ block_goes scope walked method gives within (call heading site called arguments 
     let left = under_token planned next others in
     let moved = move_emissions walked around (counts_at named branches) lane next (heading.id ∷ others) in
     let own : Counts → List Emission = λ here. call_emissions walked here next.host around.pc heading.id site called
-    arguments into left in
-    statement_then scope walked within.walkable around lane lane_there heading.id others named branches owed opened are
+    arguments into (carried_to planned next others) left in
+    statement_then scope walked within.walkable around lane lane_there heading.id others named branches owed opened are into
+    (into_there scope walked within.walkable method into there.2)
     (own (counts_after (counts_at named branches) moved))
     (λ counts lane_then. block_emissions walked around counts lane_then rest) _ refl
     (λ host_is named_there many owed_there are_there is.
     let P : Counts → Type 0 = λ counts. Owns scope next.host named_there many owed_there opened (own counts) in
     let host_within = host_there scope walked within.walkable next.host heading.id host_is in
-    subst P is (call_goes scope walked within.walkable method site called arguments into left there.0 there.1 there.2
+    subst P is (call_goes scope walked within.walkable method site called arguments into
+    (carried_to planned next others) left there.0 there.1 there.2
     next.host around.pc heading.id host_within (sites.0 ∙ ap Some (sym host_is)) named_there many owed_there opened
     are_there))
     (λ lane_then named_there many lane_is are_there.
@@ -509,7 +532,7 @@ block_goes scope walked method gives within (give_back heading value rest) there
     let planned = walked.planned in
     let next = next_spot planned lane.spot heading.id (own_statements rest) in
     statement_then scope walked within.walkable around lane lane_there heading.id (own_statements rest) named branches
-    owed opened are _ (λ counts lane_then. block_emissions walked around counts lane_then rest) _ refl
+    owed opened are None tt _ (λ counts lane_then. block_emissions walked around counts lane_then rest) _ refl
     (λ host_is named_there many owed_there are_there is.
     reaches_flow scope (at next.host 0) (at next.host 0) named_there many owed_there opened _
     (give_back_goes scope walked within.walkable.scoped method value there.1 within.result

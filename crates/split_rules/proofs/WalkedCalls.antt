@@ -1,6 +1,6 @@
 -- What a walk gives for a statement on the host where it stands: it goes on there, and nothing more is owed behind it.
-use Rattle.std.proofs.Common.{◌≡◌, ℕ, suc, zero, ◌+◌, ◌<◌, true, false}
-use Rattle.std.proofs.Common.{List, [], ◌∷◌, ◌++◌, length, refl, subst, arith}
+use Rattle.std.proofs.Common.{◌≡◌, ℕ, suc, zero, ◌+◌, ◌<◌, ◌≤◌, true, false}
+use Rattle.std.proofs.Common.{List, [], ◌∷◌, ◌++◌, length, refl, sym, subst, arith}
 use Rattle.std.proofs.lemmas.List.Elements.{All-nil, All-cons}
 use Rattle.std.proofs.lemmas.Option.{slice_get_within}
 use Rattle.std.specs.Prelude.{Option, Some, None, slice_get}
@@ -17,23 +17,27 @@ use Rattle.jif_tree.specs.WellNumbered.{HasField, HasVariable, HasOptionalVariab
 use Rattle.jif_tree.specs.WellNumbered.{is_some}
 use Rattle.host_code.specs.declared.code_expr.Node.TheVariants as node
 use Rattle.host_code.specs.declared.instruction.Op.TheVariants as op
+use Rattle.host_code.specs.declared.riders.TheConstants.{MOST_RIDERS}
 use Rattle.host_code.specs.Code.{host_of_site}
 use Rattle.msg_cost.specs.Moves.{PlannedShape, home_of}
-use Rattle.split_rules.specs.Emissions.{Emission}
+use Rattle.split_rules.specs.Emissions.{Emission, stands}
 use Rattle.split_rules.specs.Expressions.{reads_in, nodes_of, first_element}
-use Rattle.split_rules.specs.Flow.{Scope, at, Pending, State, NodeFits, Goes}
+use Rattle.split_rules.specs.Flow.{Scope, at, Pending, State, NodeFits, IsVariable, Goes}
 use Rattle.split_rules.specs.Walk.{Walked, emitted, expr_emissions, send_emissions, pass_emissions, argument_emissions}
-use Rattle.split_rules.specs.Walk.{kept_emissions, call_emissions, result_emissions}
+use Rattle.split_rules.specs.Walk.{kept_emissions, called_emissions, call_emissions, riding_params, result_emissions, entry_id}
 use Rattle.split_rules.proofs.WalkedStates.{state_of, goes_on, Reaches}
 use Rattle.split_rules.proofs.WalkedExpressions.{IsScopeOf, field_there, variable_there, nodes_fit, own_nodes_fit}
 use Rattle.split_rules.proofs.WalkedExpressions.{first_fits, expr_goes, send_goes, pass_goes}
 use Rattle.split_rules.proofs.WalkedMoves.{no_halt, entry_there, counts_at}
+use Rattle.split_rules.proofs.WalkedRiders.{CanRideTo, params_fit, call_goes_with}
 
 -- what a program has that is walked under a plan
 pub record IsWalkable (scope : Scope) (program : ProgramTree) (planned : PlannedShape) : Type 0 where
   pub scoped : IsScopeOf scope program planned
   pub methods : (place : ℕ) (tree : MethodTree) → slice_get program.methods place ≡ Some tree →
       IsMethodIn program (record { 0 = place }) tree
+  pub few : (place : ℕ) (tree : MethodTree) → slice_get program.methods place ≡ Some tree →
+      length tree.params ≤ MOST_RIDERS
 
 -- ---- the entries of methods
 
@@ -73,17 +77,18 @@ GoesOnAt scope host named branches owed opened emissions =
 pub set_local_goes : (scope : Scope) (program : ProgramTree) (planned : PlannedShape) →
     IsScopeOf scope program planned → (method : MethodId) (x : VarId) (value : ExprTree) →
     HasVariable program method x → IsExprIn program method value → (host : HostId) (label : Label) (id : StmtId)
-    (named : List HostId) (branches : ℕ) (owed opened : List Pending) →
+    (carried : Option HostId) (named : List HostId) (branches : ℕ) (owed opened : List Pending) →
     GoesOnAt scope host named branches owed opened (expr_emissions host label id 0 value
-    ++ emitted host label id (op.Let x (nodes_of 0 value)) ∷ send_emissions planned host label id x)
-set_local_goes scope program planned scoped method x value there value_there host label id named branches owed opened =
+    ++ emitted host label id (op.Let x (nodes_of 0 value)) ∷ send_emissions planned host label id x carried)
+set_local_goes scope program planned scoped method x value there value_there host label id carried named branches owed
+    opened =
     let variable = variable_there scope program planned scoped method x there in
     goes_on scope (state_of (at host 0) named branches owed opened) (expr_emissions host label id 0 value)
-    (emitted host label id (op.Let x (nodes_of 0 value)) ∷ send_emissions planned host label id x)
+    (emitted host label id (op.Let x (nodes_of 0 value)) ∷ send_emissions planned host label id x carried)
     (state_of (at host (0 + reads_in value)) named branches owed opened) _
     (expr_goes scope program planned scoped method value value_there host label id named branches owed opened 0) (
       (refl, (variable, own_nodes_fit scope program planned scoped method value value_there 0)),
-      send_goes scope program planned scoped host label id x variable named branches owed opened 0,
+      send_goes scope program planned scoped host label id x carried variable named branches owed opened 0,
     )
 
 pub set_field_goes : (scope : Scope) (program : ProgramTree) (planned : PlannedShape) →
@@ -185,48 +190,61 @@ give_back_goes scope walked scoped method value value_there there gives host lab
 
 -- ---- calls
 
+variables_there : (scope : Scope) (program : ProgramTree) (planned : PlannedShape) → IsScopeOf scope program planned →
+    (method : MethodId) (variables : List VarId) → AllByRecursion (HasVariable program method) variables →
+    AllByRecursion (IsVariable scope) variables
+variables_there scope program planned scoped method [] all = tt
+variables_there scope program planned scoped method (x ∷ variables) all = (
+  variable_there scope program planned scoped method x all.0,
+  variables_there scope program planned scoped method variables all.1,
+)
+
 arguments_go : (scope : Scope) (walked : Walked) → IsScopeOf scope walked.labelled.program walked.planned →
     (caller called : MethodId) (params : List VarId) (arguments : List ExprTree) →
     AllByRecursion (HasVariable walked.labelled.program called) params →
-    AllByRecursion (IsExprIn walked.labelled.program caller) arguments → (host : HostId) (label : Label) (id : StmtId)
-    (named : List HostId) (branches : ℕ) (owed opened : List Pending) →
-    GoesOnAt scope host named branches owed opened (argument_emissions walked host label id params arguments)
-arguments_go scope walked scoped caller called params [] variables values host label id named branches owed opened =
+    AllByRecursion (IsExprIn walked.labelled.program caller) arguments → (host home : HostId) (label : Label)
+    (id : StmtId) (named : List HostId) (branches : ℕ) (owed opened : List Pending) →
+    GoesOnAt scope host named branches owed opened (argument_emissions walked host home label id params arguments)
+arguments_go scope walked scoped caller called params [] variables values host home label id named branches owed
+    opened =
     refl
-arguments_go scope walked scoped caller called [] (argument ∷ others) variables values host label id named branches
+arguments_go scope walked scoped caller called [] (argument ∷ others) variables values host home label id named branches
     owed opened = refl
-arguments_go scope walked scoped caller called (param ∷ params) (argument ∷ others) variables values host label id named
-    branches owed opened =
+arguments_go scope walked scoped caller called (param ∷ params) (argument ∷ others) variables values host home label id
+    named branches owed opened =
     let program = walked.labelled.program in
     let planned = walked.planned in
     let here = state_of (at host 0) named branches owed opened in
     let reads = expr_emissions host label id 0 argument in
     let handed = emitted host label id (op.Arg param (nodes_of 0 argument))
-    ∷ pass_emissions planned host label id param in
+    ∷ pass_emissions planned host label id param (Some home) in
     let variable = variable_there scope program planned scoped called param variables.0 in
-    goes_on scope here (reads ++ handed) (argument_emissions walked host label id params others) here here
+    goes_on scope here (reads ++ handed) (argument_emissions walked host home label id params others) here here
     (goes_on scope here reads handed (state_of (at host (0 + reads_in argument)) named branches owed opened) here
     (expr_goes scope program planned scoped caller argument values.0 host label id named branches owed opened 0) (
       (refl, (variable, own_nodes_fit scope program planned scoped caller argument values.0 0)),
-      pass_goes scope program planned scoped host label id param variable named branches owed opened 0,
+      pass_goes scope program planned scoped host label id param (Some home) variable named branches owed opened 0,
     ))
-    (arguments_go scope walked scoped caller called params others variables.1 values.1 host label id named branches
+    (arguments_go scope walked scoped caller called params others variables.1 values.1 host home label id named branches
     owed opened)
 
 kept_goes : (scope : Scope) (walked : Walked) → IsScopeOf scope walked.labelled.program walked.planned →
     (caller called : MethodId) (result into : Option VarId) →
     HasOptionalVariable walked.labelled.program called result →
     HasOptionalVariable walked.labelled.program caller into → (host : HostId) (label : Label) (id : StmtId)
-    (named : List HostId) (branches : ℕ) (owed opened : List Pending) →
-    GoesOnAt scope host named branches owed opened (kept_emissions walked host label id result into)
-kept_goes scope walked scoped caller called None None there into_there host label id named branches owed opened = refl
-kept_goes scope walked scoped caller called None (Some into) there into_there host label id named branches owed opened =
-    refl
-kept_goes scope walked scoped caller called (Some result) None there into_there host label id named branches owed
+    (carried : Option HostId) (named : List HostId) (branches : ℕ) (owed opened : List Pending) →
+    GoesOnAt scope host named branches owed opened (kept_emissions walked host label id result into carried)
+kept_goes scope walked scoped caller called None None there into_there host label id carried named branches owed
     opened =
     refl
-kept_goes scope walked scoped caller called (Some result) (Some into) there into_there host label id named branches owed
+kept_goes scope walked scoped caller called None (Some into) there into_there host label id carried named branches owed
     opened =
+    refl
+kept_goes scope walked scoped caller called (Some result) None there into_there host label id carried named branches
+    owed opened =
+    refl
+kept_goes scope walked scoped caller called (Some result) (Some into) there into_there host label id carried named
+    branches owed opened =
     let program = walked.labelled.program in
     let planned = walked.planned in
     let variable = variable_there scope program planned scoped caller into into_there in (
@@ -238,40 +256,43 @@ kept_goes scope walked scoped caller called (Some result) (Some into) there into
               (variable_there scope program planned scoped called result there) (All-nil (NodeFits scope 0)),
         ),
       ),
-      send_goes scope program planned scoped host label id into variable named branches owed opened 0,
+      send_goes scope program planned scoped host label id into carried variable named branches owed opened 0,
     )
 
 pub call_goes : (scope : Scope) (walked : Walked) → IsWalkable scope walked.labelled.program walked.planned →
     (caller : MethodId) (site : SiteId) (called : MethodId) (arguments : List ExprTree) (into : Option VarId)
-    (left : List StmtId) → HasMethod walked.labelled.program (length arguments) (is_some into) called →
+    (carried : Option HostId) (left : List StmtId) →
+    HasMethod walked.labelled.program (length arguments) (is_some into) called →
     AllByRecursion (IsExprIn walked.labelled.program caller) arguments →
     HasOptionalVariable walked.labelled.program caller into → (host : HostId) (label : Label) (id : StmtId) →
     host.0 < scope.hosts → host_of_site scope.sites site.0 ≡ Some host → (named : List HostId) (branches : ℕ)
     (owed opened : List Pending) → AreNamed walked.labelled.program walked.planned named →
     Reaches scope (state_of (at host 0) named branches owed opened)
-    (call_emissions walked (counts_at named branches) host label id site called arguments into left)
+    (call_emissions walked (counts_at named branches) host label id site called arguments into carried left)
     (at host 0) owed opened
-call_goes scope walked walkable caller site called arguments into left there values into_there host label id within
+call_goes scope walked walkable caller site called arguments into carried left there values into_there host label id within
     site_there named branches owed opened are =
-    rw there.1 (record {
+    subst P (sym there.1) (record {
       more = host ∷ [];
       branches = branches;
       goes = (
         within,
         (
           (refl, site_there),
-          goes_on scope inside (argument_emissions walked host label id tree.params arguments) _ inside _
-              (arguments_go scope walked scoped caller called tree.params arguments method.params values host label id
-              (named ++ host ∷ []) branches (pending ∷ owed) opened) (
+          goes_on scope inside (argument_emissions walked host called_on label id tree.params arguments) _ inside _
+              (arguments_go scope walked scoped caller called tree.params arguments method.params values host called_on
+              label id (named ++ host ∷ []) branches (pending ∷ owed) opened) (
                 (refl, entry_there named host [] (length named) refl are.some),
-                (
-                  (refl, ((no_halt (suc called.0) (omega arith), home), scoped.statements tree.head)),
-                  (
-                    (refl, refl),
-                    kept_goes scope walked scoped caller called tree.result into method.result into_there host label id
-                        (named ++ host ∷ []) branches owed opened,
-                  ),
-                ),
+                call_goes_with scope host called_on label id (entry_id (suc called.0))
+                    (riding_params walked.planned host called_on tree.params arguments) (named ++ host ∷ []) branches
+                    (pending ∷ owed) opened rides (no_halt (suc called.0) (omega arith), home)
+                    (scoped.statements tree.head) (stands host (length named)
+                    ∷ kept_emissions walked host label id tree.result into carried)
+                    (state_of (at host 0) (named ++ host ∷ []) branches owed opened) (
+                      (refl, refl),
+                      kept_goes scope walked scoped caller called tree.result into method.result into_there host label
+                          id carried (named ++ host ∷ []) branches owed opened,
+                    ),
               ),
         ),
       );
@@ -285,6 +306,19 @@ call_goes scope walked walkable caller site called arguments into left there val
 
     method : IsMethodIn walked.labelled.program called there.0
     method = walkable.methods called.0 there.0 there.1
+
+    P : Option MethodTree → Type 0
+    P it = Reaches scope (state_of (at host 0) named branches owed opened)
+        (called_emissions walked (counts_at named branches) host label id site called it arguments into carried left)
+        (at host 0) owed opened
+
+    called_on : HostId
+    called_on = home_of walked.planned there.0
+
+    rides : CanRideTo scope host called_on (riding_params walked.planned host called_on tree.params arguments)
+    rides = params_fit scope walked.planned host called_on tree.params arguments (scoped.statements tree.head)
+        (variables_there scope walked.labelled.program walked.planned scoped called tree.params method.params)
+        (walkable.few called.0 there.0 there.1)
 
     pending : Pending
     pending = record { host = host; number = length named }

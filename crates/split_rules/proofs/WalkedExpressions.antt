@@ -4,7 +4,7 @@ use Rattle.std.proofs.Common.{◌≡◌, ◌≢◌, ◌∙◌, ℕ, suc, zero, �
 use Rattle.std.proofs.Common.{List, [], ◌∷◌, ◌++◌, map, filter, length, refl, ap, sym, subst, arith, eq-eqb}
 use Rattle.std.proofs.lemmas.List.Elements.{All-nil, All-cons, All-append, All-head, All-tail}
 use Rattle.std.proofs.lemmas.Option.{slice_get_within}
-use Rattle.std.specs.Prelude.{All}
+use Rattle.std.specs.Prelude.{All, Option}
 use Rattle.std.specs.List.{range_with_len}
 use Rattle.js_base.specs.declared.ids.HostId.{HostId}
 use Rattle.js_base.specs.declared.ids.FieldId.{FieldId}
@@ -19,11 +19,11 @@ use Rattle.host_code.specs.declared.code_expr.Node.{Node}
 use Rattle.host_code.specs.declared.code_expr.Node.TheVariants as node
 use Rattle.host_code.specs.declared.instruction.Op.TheVariants as op
 use Rattle.need_labels.specs.Plan.{statement_host}
-use Rattle.msg_cost.specs.Moves.{PlannedShape}
-use Rattle.msg_cost.specs.Terms.{reads_on, is_other_reader}
+use Rattle.msg_cost.specs.Moves.{PlannedShape, is_to}
+use Rattle.msg_cost.specs.Terms.{reads_on, is_told}
 use Rattle.split_rules.specs.Expressions.{Reading, reads_in, nodes_of, readings_of, first_element}
 use Rattle.split_rules.specs.Flow.{Scope, at, Pending, NodeFits, ExpressionFits, IsField, IsVariable, IsOther, Goes}
-use Rattle.split_rules.specs.Walk.{emitted, read_emissions, expr_emissions, other_readers, send_emissions}
+use Rattle.split_rules.specs.Walk.{emitted, read_emissions, expr_emissions, told_readers, send_emissions}
 use Rattle.split_rules.specs.Walk.{pass_emissions}
 use Rattle.split_rules.proofs.WalkedStates.{state_of}
 
@@ -165,35 +165,37 @@ expr_goes scope program planned scoped method expr there host label statement na
     readings_go scope host label statement named branches owed opened (readings_of first expr) first
     (first + reads_in expr) (reads_fit scope program planned scoped method expr there first)
 
--- ---- those who read a variable
+-- ---- those who are told the value of a variable
 
 true_not_false : true ≡ false → ⊥
 true_not_false is = cc
 
-other_passes : (scope : Scope) (planned : PlannedShape) (host : HostId) (x : VarId) (other : ℕ) → other < scope.hosts →
-    is_other_reader planned host x other ≡ true → IsOther scope host (record { 0 = other })
-other_passes scope planned host x other within passes = (within, apart)
+told_passes : (scope : Scope) (planned : PlannedShape) (host : HostId) (x : VarId) (carried : Option HostId)
+    (other : ℕ) → other < scope.hosts → is_told planned host x carried other ≡ true →
+    IsOther scope host (record { 0 = other })
+told_passes scope planned host x carried other within passes = (within, apart)
   where
     apart : record { 0 = other } ≢ host
     apart same =
         let number : other ≡ host.0 = ap (λ (one : HostId). one.0) same in
-        let failed : is_other_reader planned host x other ≡ false =
-        ap (λ b. not b && reads_on planned x other) (eq-eqb other host.0 number) in
+        let failed : is_told planned host x carried other ≡ false =
+        ap (λ b. (not b && reads_on planned x other) && not (is_to carried other)) (eq-eqb other host.0 number) in
         true_not_false (sym passes ∙ failed)
 
-others_below : (scope : Scope) (planned : PlannedShape) (host : HostId) (x : VarId) (first count : ℕ) →
+told_below : (scope : Scope) (planned : PlannedShape) (host : HostId) (x : VarId) (carried : Option HostId)
+    (first count : ℕ) →
     first + count ≤ scope.hosts →
     All (IsOther scope host) (map (λ other. record { 0 = other })
-    (filter (is_other_reader planned host x) (range_with_len first count)))
-others_below scope planned host x first zero within = All-nil (IsOther scope host)
-others_below scope planned host x first (suc count) within =
+    (filter (is_told planned host x carried) (range_with_len first count)))
+told_below scope planned host x carried first zero within = All-nil (IsOther scope host)
+told_below scope planned host x carried first (suc count) within =
     let so : first + suc count ≤ scope.hosts = within in
-    chosen (is_other_reader planned host x first)
-    (λ passes. other_passes scope planned host x first (omega arith) passes)
-    (others_below scope planned host x (first + 1) count (omega arith))
+    chosen (is_told planned host x carried first)
+    (λ passes. told_passes scope planned host x carried first (omega arith) passes)
+    (told_below scope planned host x carried (first + 1) count (omega arith))
   where
     others : List ℕ
-    others = filter (is_other_reader planned host x) (range_with_len (first + 1) count)
+    others = filter (is_told planned host x carried) (range_with_len (first + 1) count)
 
     chosen : (b : Bool) → (b ≡ true → IsOther scope host (record { 0 = first })) →
         All (IsOther scope host) (map (λ other. record { 0 = other }) others) →
@@ -201,11 +203,12 @@ others_below scope planned host x first (suc count) within =
     chosen true is all = All-cons (IsOther scope host) (record { 0 = first }) _ (is refl) all
     chosen false is all = all
 
-others_there : (scope : Scope) (program : ProgramTree) (planned : PlannedShape) → IsScopeOf scope program planned →
-    (host : HostId) (x : VarId) → All (IsOther scope host) (other_readers planned host x)
-others_there scope program planned scoped host x =
+told_there : (scope : Scope) (program : ProgramTree) (planned : PlannedShape) → IsScopeOf scope program planned →
+    (host : HostId) (x : VarId) (carried : Option HostId) →
+    All (IsOther scope host) (told_readers planned host x carried)
+told_there scope program planned scoped host x carried =
     let same = scoped.hosts in
-    others_below scope planned host x 0 (length planned.hosts.hosts) (omega arith)
+    told_below scope planned host x carried 0 (length planned.hosts.hosts) (omega arith)
 
 sends_go : (scope : Scope) (host : HostId) (label : Label) (statement : StmtId) (x : VarId) → IsVariable scope x →
     (named : List HostId) (branches : ℕ) (owed opened : List Pending) (count : ℕ) (others : List HostId) →
@@ -234,19 +237,19 @@ passes_go scope host label statement x there named branches owed opened count (o
 )
 
 pub send_goes : (scope : Scope) (program : ProgramTree) (planned : PlannedShape) → IsScopeOf scope program planned →
-    (host : HostId) (label : Label) (statement : StmtId) (x : VarId) → IsVariable scope x →
+    (host : HostId) (label : Label) (statement : StmtId) (x : VarId) (carried : Option HostId) → IsVariable scope x →
     (named : List HostId) (branches : ℕ) (owed opened : List Pending) (count : ℕ) →
     Goes scope (state_of (at host count) named branches owed opened)
-    (send_emissions planned host label statement x) (state_of (at host count) named branches owed opened)
-send_goes scope program planned scoped host label statement x there named branches owed opened count =
-    sends_go scope host label statement x there named branches owed opened count (other_readers planned host x)
-    (others_there scope program planned scoped host x)
+    (send_emissions planned host label statement x carried) (state_of (at host count) named branches owed opened)
+send_goes scope program planned scoped host label statement x carried there named branches owed opened count =
+    sends_go scope host label statement x there named branches owed opened count (told_readers planned host x carried)
+    (told_there scope program planned scoped host x carried)
 
 pub pass_goes : (scope : Scope) (program : ProgramTree) (planned : PlannedShape) → IsScopeOf scope program planned →
-    (host : HostId) (label : Label) (statement : StmtId) (x : VarId) → IsVariable scope x →
+    (host : HostId) (label : Label) (statement : StmtId) (x : VarId) (carried : Option HostId) → IsVariable scope x →
     (named : List HostId) (branches : ℕ) (owed opened : List Pending) (count : ℕ) →
     Goes scope (state_of (at host count) named branches owed opened)
-    (pass_emissions planned host label statement x) (state_of (at host count) named branches owed opened)
-pass_goes scope program planned scoped host label statement x there named branches owed opened count =
-    passes_go scope host label statement x there named branches owed opened count (other_readers planned host x)
-    (others_there scope program planned scoped host x)
+    (pass_emissions planned host label statement x carried) (state_of (at host count) named branches owed opened)
+pass_goes scope program planned scoped host label statement x carried there named branches owed opened count =
+    passes_go scope host label statement x there named branches owed opened count (told_readers planned host x carried)
+    (told_there scope program planned scoped host x carried)

@@ -6,6 +6,7 @@ use Rattle.std.proofs.lemmas.Bool.Decides.{eqb_tells}
 use Rattle.std.specs.Prelude.{Option, Some, None, slice_get, unwrap_or, ⊤}
 use Rattle.js_base.specs.declared.ids.HostId.{HostId}
 use Rattle.js_base.specs.declared.ids.EntryId.{EntryId}
+use Rattle.js_base.specs.declared.ids.VarId.{VarId}
 use Rattle.js_base.specs.declared.ids.StmtId.{StmtId}
 use Rattle.jif_tree.specs.Trees.{ProgramTree}
 use Rattle.host_code.specs.Code.{halt}
@@ -13,13 +14,14 @@ use Rattle.need_labels.specs.Plan.{statement_host}
 use Rattle.msg_cost.specs.declared.spot.Spot.{Spot}
 use Rattle.msg_cost.specs.Moves.{PlannedShape, is_same, is_trusted_for_all, host_behind, return_host, on, end_of}
 use Rattle.msg_cost.specs.Moves.{entered, next_spot}
-use Rattle.split_rules.specs.Emissions.{Counts}
+use Rattle.split_rules.specs.Emissions.{Counts, stands}
 use Rattle.split_rules.specs.Flow.{Scope, at, Pending, State, IsEntryOn, Goes}
 use Rattle.split_rules.specs.Walk.{Walked, Around, Lane, entry_id, leave_emissions, enter_emissions, move_emissions}
-use Rattle.split_rules.specs.Walk.{lane_at}
+use Rattle.split_rules.specs.Walk.{lane_at, emitted, go_with}
 use Rattle.split_rules.proofs.Places.{same_host}
 use Rattle.split_rules.proofs.WalkedStates.{state_of, Reaches, reaches_flow, goes_then}
 use Rattle.split_rules.proofs.WalkedExpressions.{IsScopeOf}
+use Rattle.split_rules.proofs.WalkedRiders.{CanRide, go_goes}
 
 -- ---- hosts
 
@@ -30,10 +32,11 @@ abbrev pub IsBackOn : Scope → Option HostId → Type 0
 IsBackOn scope None = ⊤
 IsBackOn scope (Some back) = back.0 < scope.hosts
 
--- the hosts of a lane are there
+-- the hosts of a lane are there, and what rides from it
 pub record IsLaneOn (scope : Scope) (lane : Lane) : Type 0 where
   pub host : lane.spot.host.0 < scope.hosts
   pub back : IsBackOn scope lane.spot.back
+  pub riding : CanRide scope lane.riding
 
 end_there : (scope : Scope) (back : Option HostId) (host : HostId) → IsBackOn scope back → host.0 < scope.hosts →
     (unwrap_or back host).0 < scope.hosts
@@ -66,53 +69,54 @@ entry_there named host more number is some =
 -- ---- leaving
 
 leave_from : (scope : Scope) (around : Around) (host : HostId) (back : Option HostId) (number : ℕ)
-    (named : List HostId) (branches : ℕ) (owed opened : List Pending) →
-    let lane : Lane = record { spot = record { host = host; back = back }; return_entry = number } in
+    (riders : List VarId) (named : List HostId) (branches : ℕ) (owed opened : List Pending) →
+    let lane : Lane = record { spot = record { host = host; back = back }; return_entry = number; riding = riders } in
     Goes scope (state_of (at host 0) named branches (owes back number ++ owed) opened) (leave_emissions around lane)
     (state_of (at (end_of lane.spot) 0) named branches owed opened)
-leave_from scope around host None number named branches owed opened = refl
-leave_from scope around host (Some back) number named branches owed opened = ((refl, tt), ((refl, tt), refl))
+leave_from scope around host None number riders named branches owed opened = refl
+leave_from scope around host (Some back) number riders named branches owed opened = ((refl, tt), ((refl, tt), refl))
 
 pub leave_goes : (scope : Scope) (around : Around) (lane : Lane) (named : List HostId) (branches : ℕ)
     (owed opened : List Pending) →
     Goes scope (state_of (at lane.spot.host 0) named branches (owed_by lane ++ owed) opened)
     (leave_emissions around lane) (state_of (at (end_of lane.spot) 0) named branches owed opened)
 leave_goes scope around lane named branches owed opened =
-    leave_from scope around lane.spot.host lane.spot.back lane.return_entry named branches owed opened
+    leave_from scope around lane.spot.host lane.spot.back lane.return_entry lane.riding named branches owed opened
 
 -- ---- entering
 
 abbrev pub counts_at : List HostId → ℕ → Counts
 counts_at named branches = record { entries = length named; branches = branches }
 
-abbrev Enters : Scope → Walked → Around → List StmtId → List HostId → ℕ → List Pending → List Pending → HostId → Spot →
-    Type 0
-Enters scope walked around statements named branches owed opened from next =
+abbrev Enters : Scope → Walked → Around → List StmtId → List HostId → ℕ → List Pending → List Pending → HostId →
+    List VarId → Spot → Type 0
+Enters scope walked around statements named branches owed opened from riders next =
     Reaches scope (state_of (at from 0) named branches owed opened)
-    (enter_emissions walked around (counts_at named branches) from next statements)
+    (enter_emissions walked around (counts_at named branches) from riders next statements)
     (at next.host 0) (owes next.back (length named) ++ owed) opened
 
 stayed : (scope : Scope) (walked : Walked) (around : Around) (statements : List StmtId) (named : List HostId)
-    (branches : ℕ) (owed opened : List Pending) (from host : HostId) → from.0 ≡ host.0 →
-    Enters scope walked around statements named branches owed opened from (on host)
-stayed scope walked around statements named branches owed opened from host same =
+    (branches : ℕ) (owed opened : List Pending) (from host : HostId) (riders : List VarId) → from.0 ≡ host.0 →
+    Enters scope walked around statements named branches owed opened from riders (on host)
+stayed scope walked around statements named branches owed opened from host riders same =
     rw (eq-eqb from.0 host.0 same) (reaches_flow scope (at from 0) (at host 0) named branches owed opened []
     (ap (λ one. state_of (at one 0) named branches owed opened) (same_host from host same)))
 
 handed : (scope : Scope) (walked : Walked) (around : Around) (statements : List StmtId) (named : List HostId)
-    (branches : ℕ) (owed opened : List Pending) (from host : HostId) → 0 < length named → from.0 ≢ host.0 →
-    host.0 < scope.hosts → Enters scope walked around statements named branches owed opened from (on host)
-handed scope walked around statements named branches owed opened from host some apart within =
+    (branches : ℕ) (owed opened : List Pending) (from host : HostId) (riders : List VarId) → CanRide scope riders →
+    0 < length named → from.0 ≢ host.0 → host.0 < scope.hosts →
+    Enters scope walked around statements named branches owed opened from riders (on host)
+handed scope walked around statements named branches owed opened from host riders can some apart within =
     let back = other_host host from (λ same. apart (sym same)) in
     rw (ne_eqb from.0 host.0 apart) (record {
       more = host ∷ [];
       branches = branches;
       goes = (
         within,
-        (
-          (refl, (entry_there named host [] (length named) refl some, (within, back))),
-          ((refl, tt), refl),
-        ),
+        go_goes scope from host around.pc around.owner (entry_id (length named)) riders (named ++ host ∷ []) branches
+            (record { host = host; number = length named } ∷ owed) opened can
+            (entry_there named host [] (length named) refl some) (within, back) (stands host (length named) ∷ [])
+            (state_of (at host 0) (named ++ host ∷ []) branches owed opened) ((refl, tt), refl),
       );
     })
 
@@ -120,10 +124,11 @@ abbrev pub lent_spot : HostId → HostId → Spot
 lent_spot host back = record { host = host; back = Some back }
 
 lent : (scope : Scope) (walked : Walked) (around : Around) (statements : List StmtId) (named : List HostId)
-    (branches : ℕ) (owed opened : List Pending) (from host back : HostId) → 0 < length named → from.0 ≢ host.0 →
-    host.0 < scope.hosts → back.0 < scope.hosts →
-    Enters scope walked around statements named branches owed opened from (lent_spot host back)
-lent scope walked around statements named branches owed opened from host back some apart within back_within =
+    (branches : ℕ) (owed opened : List Pending) (from host back : HostId) (riders : List VarId) →
+    CanRide scope riders → 0 < length named → from.0 ≢ host.0 → host.0 < scope.hosts → back.0 < scope.hosts →
+    Enters scope walked around statements named branches owed opened from riders (lent_spot host back)
+lent scope walked around statements named branches owed opened from host back riders can some apart within
+    back_within =
     elim (eqb_tells from.0 back.0) [
       | inl same ↦
           let P : HostId → Type 0 = λ one. IsEntryOn both one (entry_id (length named)) in
@@ -136,10 +141,7 @@ lent scope walked around statements named branches owed opened from host back so
                 within,
                 (
                   (refl, subst P (sym (same_host from back same.1)) first),
-                  (
-                    (refl, (second, (within, other_host host from (λ same. apart (sym same))))),
-                    ((number_is, tt), ends),
-                  ),
+                  goes,
                 ),
               ),
             );
@@ -154,10 +156,7 @@ lent scope walked around statements named branches owed opened from host back so
                 within,
                 (
                   (refl, (first, (back_within, other_host back from (λ same. other.1 (sym same))))),
-                  (
-                    (refl, (second, (within, other_host host from (λ same. apart (sym same))))),
-                    ((number_is, tt), ends),
-                  ),
+                  goes,
                 ),
               ),
             );
@@ -191,6 +190,16 @@ lent scope walked around statements named branches owed opened from host back so
 
     ends : behind both ≡ behind (named ++ back ∷ host ∷ [])
     ends = ap behind (append_assoc named (back ∷ []) (host ∷ []))
+
+    goes : Goes scope (state_of (at from 0) both branches
+        (pending (length (named ++ back ∷ [])) ∷ record { host = back; number = length named } ∷ owed) opened)
+        (emitted from around.pc around.owner (go_with riders (entry_id (length named + 1)) host)
+        ∷ stands host (length named + 1) ∷ [])
+        (behind (named ++ back ∷ host ∷ []))
+    goes = go_goes scope from host around.pc around.owner (entry_id (length named + 1)) riders both branches
+        (pending (length (named ++ back ∷ [])) ∷ record { host = back; number = length named } ∷ owed) opened can second
+        (within, other_host host from (λ same. apart (sym same))) (stands host (length named + 1) ∷ [])
+        (behind (named ++ back ∷ host ∷ [])) ((number_is, tt), ends)
 
 -- ---- where a segment begins
 
@@ -265,16 +274,16 @@ unmoved scope walked around lane statements named branches owed opened host ther
 moved : (scope : Scope) (walked : Walked) (around : Around) (lane : Lane) (statements : List StmtId)
     (named : List HostId) (branches : ℕ) (owed opened : List Pending) (next : Spot) →
     lane.spot.host.0 ≢ next.host.0 → next.host.0 < scope.hosts → IsBackOn scope next.back →
-    Enters scope walked around statements named branches owed opened (end_of lane.spot) next →
+    Enters scope walked around statements named branches owed opened (end_of lane.spot) lane.riding next →
     MovesTo scope walked around lane statements named branches owed opened next.host next
 moved scope walked around lane statements named branches owed opened next apart within back enters = record {
   reaches = rw (ne_eqb lane.spot.host.0 next.host.0 apart)
       (goes_then scope (state_of (at lane.spot.host 0) named branches (owed_by lane ++ owed) opened)
       (leave_emissions around lane)
-      (enter_emissions walked around (counts_at named branches) (end_of lane.spot) next statements)
+      (enter_emissions walked around (counts_at named branches) (end_of lane.spot) lane.riding next statements)
       (at (end_of lane.spot) 0) (at next.host 0) branches owed opened (owes next.back (length named) ++ owed) opened
       (leave_goes scope around lane named branches owed opened) enters);
-  there = rw (ne_eqb lane.spot.host.0 next.host.0 apart) (record { host = within; back = back });
+  there = rw (ne_eqb lane.spot.host.0 next.host.0 apart) (record { host = within; back = back; riding = tt });
   lane_host = rw (ne_eqb lane.spot.host.0 next.host.0 apart) refl;
   next_host = refl;
 }
@@ -330,17 +339,18 @@ move_goes scope program walked scoped around lane there statement others named b
         elim (eqb_tells from.0 host.0) [
           | inl same ↦ subst P (sym (entered_here planned from host statements same.1))
               (moved scope walked around lane statements named branches owed opened (on host) apart within tt
-              (stayed scope walked around statements named branches owed opened from host same.1))
+              (stayed scope walked around statements named branches owed opened from host lane.riding same.1))
           | inr other ↦ elim (entered_there planned from host statements other.1) [
             | inl is ↦ subst P (sym is)
                 (moved scope walked around lane statements named branches owed opened (on host) apart within tt
-                (handed scope walked around statements named branches owed opened from host some other.1 within))
+                (handed scope walked around statements named branches owed opened from host lane.riding there.riding
+                some other.1 within))
             | inr is ↦ subst P (sym is)
                 (moved scope walked around lane statements named branches owed opened
                 (lent_spot host (return_host planned from host statements)) apart within
                 (return_there scope program planned scoped from host statements from_within)
                 (lent scope walked around statements named branches owed opened from host
-                (return_host planned from host statements) some other.1 within
+                (return_host planned from host statements) lane.riding there.riding some other.1 within
                 (return_there scope program planned scoped from host statements from_within)))
           ]
         ]

@@ -1,6 +1,6 @@
 -- The walk over a program obeys the flow, from the entries of its methods on to where nothing is left to stand or to
 -- land.
-use Rattle.std.proofs.Common.{◌≡◌, ◌∙◌, ℕ, suc, zero, ◌+◌, ◌<◌, List, [], ◌∷◌, ◌++◌, map, length, refl, ap, sym}
+use Rattle.std.proofs.Common.{◌≡◌, ◌∙◌, ℕ, suc, zero, ◌+◌, ◌<◌, ◌≤◌, List, [], ◌∷◌, ◌++◌, map, length, refl, ap, sym}
 use Rattle.std.proofs.Common.{subst, arith, false}
 use Rattle.std.proofs.lemmas.List.{length-map}
 use Rattle.std.proofs.lemmas.Option.{slice_get-map}
@@ -8,6 +8,7 @@ use Rattle.std.specs.Prelude.{Option, Some, slice_get}
 use Rattle.std.specs.List.{AllByRecursion}
 use Rattle.std.specs.Option.{option_map}
 use Rattle.js_base.specs.declared.ids.HostId.{HostId}
+use Rattle.js_base.specs.declared.limits.TheConstants.{PARAMETERS}
 use Rattle.principals.specs.ActsFor.{Declared}
 use Rattle.jif_tree.specs.LabelRules.{method_at}
 use Rattle.jif_tree.specs.Trees.{MethodTree, ProgramTree}
@@ -22,6 +23,7 @@ use Rattle.split_rules.specs.Walk.{lane_on, walked_in, method_entry, methods_emi
 use Rattle.split_rules.specs.Walk.{block_emissions}
 use Rattle.split_rules.specs.WalkStart.{scope_of, front_emissions, method_entries, walk_start, IsEnd}
 use Rattle.split_rules.proofs.CodeItems.{statement_known}
+use Rattle.split_rules.proofs.NumberedLists.{at_all}
 use Rattle.split_rules.proofs.WalkedStates.{state_of, Reaches, reaches_flow, reaches_on, reaches_step}
 use Rattle.split_rules.proofs.WalkedExpressions.{IsScopeOf}
 use Rattle.split_rules.proofs.WalkedMoves.{counts_at}
@@ -31,7 +33,7 @@ use Rattle.split_rules.proofs.WalkedSites.{sites_there}
 
 -- ---- what a splittable program has
 
-scope_there : (placed : PlacedProgram) → IsSplittable placed →
+pub scope_there : (placed : PlacedProgram) → IsSplittable placed →
     IsScopeOf (scope_of placed.labelled placed.hosts placed.plan) placed.labelled.program (planned_from placed)
 scope_there placed splittable = record {
   fields = refl;
@@ -64,6 +66,8 @@ walkable_there placed splittable = record {
   methods = λ place tree is. method_there placed.labelled.program placed.labelled.program.methods 0
       splittable.numbered.methods place
       place tree (omega arith) is;
+  few = λ place tree is. at_all (λ (method : MethodTree). length method.params ≤ PARAMETERS)
+      placed.labelled.program.methods place tree splittable.within.params is;
 }
 
 start_named : (labelled : Labelled) (planned : PlannedShape) →
@@ -97,7 +101,7 @@ methods_go scope principals labelled planned walkable number (method ∷ methods
     (block_goes scope walked (record { 0 = number }) (is_some method.result)
     (record { walkable = walkable; result = there.0.result; gives_it = refl }) method.body there.0.body sites.0
     (record { owner = method.head; pc = method.begin }) (lane_on home)
-    (record { host = walkable.scoped.statements method.head; back = tt }) named branches left [] are))
+    (record { host = walkable.scoped.statements method.head; back = tt; riding = tt }) named branches left [] are))
     (λ more many is.
     let P : Counts → Type 0 = λ counts. Reaches scope (state_of stopped (named ++ more) many left [])
     (methods_emissions principals labelled planned counts (suc number) methods) stopped [] [] in

@@ -1,6 +1,11 @@
 -- The walk that splits a program: which instruction stands where, and which entries there are, in the order of the
--- text. Where the right to go on moves is defined with the cost of a plan (msg_cost, Moves). The rules are this
--- project's own, in the manner of the secure program partitioning of Zdancewic, Zheng, Nystrom and Myers.
+-- text. Where the right to go on moves, and which values ride with it, is defined with the cost of a plan (msg_cost,
+-- Moves). The rules are this project's own, in the manner of the secure program partitioning of Zdancewic, Zheng,
+-- Nystrom and Myers.
+--
+-- What rides is decided once, where a statement gives a variable its value: the value is sent to each other host that
+-- reads the variable, but for the host to which the right to go on moves straight from there. For that host it stays
+-- with the lane until the lane is left. So what is sent and what rides cannot disagree.
 --
 -- A result is never given back from a lent segment. Whoever is lent the token is not trusted for all that is left, so
 -- more is left than its own statements. A `return` is the last of all, and so its token is that of the method's body.
@@ -24,8 +29,9 @@ use Rattle.host_code.specs.declared.code_expr.Node.TheVariants as node
 use Rattle.need_labels.specs.Labelled.{Labelled, all_labels}
 use Rattle.need_labels.specs.Plan.{statement_host}
 use Rattle.msg_cost.specs.declared.spot.Spot.{Spot}
-use Rattle.msg_cost.specs.Moves.{PlannedShape, is_same, on, end_of, next_spot, own_statements, home_of, called_home}
-use Rattle.msg_cost.specs.Terms.{is_other_reader}
+use Rattle.msg_cost.specs.Moves.{PlannedShape, is_same, on, end_of, next_spot, carried_to, own_statements, home_of}
+use Rattle.msg_cost.specs.Moves.{called_home}
+use Rattle.msg_cost.specs.Terms.{is_other_reader, is_told}
 use Rattle.split_rules.specs.Emissions.{Emission, instruction, entry, stands, lands, Counts, counts_after}
 use Rattle.split_rules.specs.Expressions.{Reading, reads_in, nodes_of, readings_of, first_element}
 use Rattle.split_rules.specs.Placed.{PlacedProgram, planned_from}
@@ -44,13 +50,18 @@ pub record Around : Type 0 where
   pub owner : StmtId
   pub pc : Label
 
--- A spot, and the number of the entry that gives back what was lent there, where it was.
+-- A spot, the number of the entry that gives back what was lent there, where it was, and the variables whose values
+-- ride once the spot is left: one at the most.
 pub record Lane : Type 0 where
   pub spot : Spot
   pub return_entry : ℕ
+  pub riding : List VarId
 
 abbrev pub lane_on : HostId → Lane
-lane_on host = record { spot = on host; return_entry = 0 }
+lane_on host = record { spot = on host; return_entry = 0; riding = [] }
+
+abbrev pub with_riding : Lane → List VarId → Lane
+with_riding lane riding = record { spot = lane.spot; return_entry = lane.return_entry; riding = riding }
 
 abbrev pub entry_id : ℕ → EntryId
 entry_id number = record { 0 = number }
@@ -102,13 +113,42 @@ other_readers planned host x =
     map (λ other. record { 0 = other })
     (filter (is_other_reader planned host x) (range_with_len 0 (length planned.hosts.hosts)))
 
-abbrev pub send_emissions : PlannedShape → HostId → Label → StmtId → VarId → List Emission
-send_emissions planned host label statement x =
-    map (λ other. emitted host label statement (op.Send x other)) (other_readers planned host x)
+-- those of them to which the value does not ride
+abbrev pub told_readers : PlannedShape → HostId → VarId → Option HostId → List HostId
+told_readers planned host x carried =
+    map (λ other. record { 0 = other })
+    (filter (is_told planned host x carried) (range_with_len 0 (length planned.hosts.hosts)))
 
-abbrev pub pass_emissions : PlannedShape → HostId → Label → StmtId → VarId → List Emission
-pass_emissions planned host label statement x =
-    map (λ other. emitted host label statement (op.Pass x other)) (other_readers planned host x)
+-- the value of a variable is sent to those who read it, but for the host to which it rides
+abbrev pub send_emissions : PlannedShape → HostId → Label → StmtId → VarId → Option HostId → List Emission
+send_emissions planned host label statement x carried =
+    map (λ other. emitted host label statement (op.Send x other)) (told_readers planned host x carried)
+
+abbrev pub pass_emissions : PlannedShape → HostId → Label → StmtId → VarId → Option HostId → List Emission
+pass_emissions planned host label statement x carried =
+    map (λ other. emitted host label statement (op.Pass x other)) (told_readers planned host x carried)
+
+-- ---- what rides
+
+-- the variable where its value rides, which it does where another host reads it to which the right to go on moves
+abbrev pub riders_to : PlannedShape → HostId → VarId → Option HostId → List VarId
+riders_to planned host x None = []
+riders_to planned host x (Some to) = if is_other_reader planned host x to.0 then x ∷ [] else []
+
+-- what rides behind a statement at a spot that gives this variable a value, with these statements behind it
+abbrev pub rides_behind : PlannedShape → Spot → Option VarId → List StmtId → List VarId
+rides_behind planned spot None others = []
+rides_behind planned spot (Some x) others = riders_to planned spot.host x (carried_to planned spot others)
+
+-- the thread is handed over to an entry on another host, with what rides
+abbrev pub go_with : List VarId → EntryId → HostId → Op
+go_with [] there on = op.Go there on
+go_with (x ∷ riders) there on = op.GoWith there on (x ∷ riders)
+
+-- the same to the entry of a method, in its new frame
+abbrev pub call_with : List VarId → EntryId → HostId → Op
+call_with [] there on = op.Call there on
+call_with (x ∷ riders) there on = op.CallWith there on (x ∷ riders)
 
 -- ---- moves
 
@@ -126,9 +166,10 @@ abbrev pub push_or_ask : HostId → HostId → ℕ → Op
 push_or_ask from host number =
     if is_same from host then op.Push (entry_id number) else op.Ask (entry_id number) host
 
--- The token comes from a host to a spot, where these statements begin: handed on, or lent.
-abbrev pub enter_emissions : Walked → Around → Counts → HostId → Spot → List StmtId → List Emission
-enter_emissions walked around counts from spot statements =
+-- The token comes from a host to a spot, where these statements begin: handed on, or lent. The values of some variables
+-- ride.
+abbrev pub enter_emissions : Walked → Around → Counts → HostId → List VarId → Spot → List StmtId → List Emission
+enter_emissions walked around counts from riders spot statements =
     if is_same from spot.host then [] else entering spot.back
   where
     entering : Option HostId → List Emission
@@ -138,7 +179,7 @@ enter_emissions walked around counts from spot statements =
           label = around.pc;
           need = need_of walked.planned statements;
         })
-        ∷ emitted from around.pc around.owner (op.Go (entry_id counts.entries) spot.host)
+        ∷ emitted from around.pc around.owner (go_with riders (entry_id counts.entries) spot.host)
         ∷ stands spot.host counts.entries ∷ []
     entering (Some back) =
         entry (record {
@@ -152,7 +193,7 @@ enter_emissions walked around counts from spot statements =
           need = need_of walked.planned (row_on walked.planned spot.host statements);
         })
         ∷ emitted from around.pc around.owner (push_or_ask from back counts.entries)
-        ∷ emitted from around.pc around.owner (op.Go (entry_id (counts.entries + 1)) spot.host)
+        ∷ emitted from around.pc around.owner (go_with riders (entry_id (counts.entries + 1)) spot.host)
         ∷ stands spot.host (counts.entries + 1) ∷ []
 
 -- from a lane to the next spot, which may be the same
@@ -160,11 +201,17 @@ abbrev pub move_emissions : Walked → Around → Counts → Lane → Spot → L
 move_emissions walked around counts lane next statements =
     if is_same lane.spot.host next.host then []
     else leave_emissions around lane
-    ++ enter_emissions walked around counts (end_of lane.spot) next statements
+    ++ enter_emissions walked around counts (end_of lane.spot) lane.riding next statements
 
 abbrev pub lane_at : Counts → Lane → Spot → Lane
 lane_at counts lane next =
-    if is_same lane.spot.host next.host then lane else record { spot = next; return_entry = counts.entries }
+    if is_same lane.spot.host next.host then lane
+    else record { spot = next; return_entry = counts.entries; riding = [] }
+
+-- behind a statement at the next spot that gives this variable a value, with these statements behind it
+abbrev pub lane_behind : Walked → Counts → Lane → Spot → Option VarId → List StmtId → Lane
+lane_behind walked counts lane next given others =
+    with_riding (lane_at counts lane next) (rides_behind walked.planned next given others)
 
 -- the end of a block
 abbrev pub end_emissions : Around → Lane → List Emission
@@ -173,36 +220,51 @@ end_emissions around lane =
 
 -- ---- calls
 
--- each argument, and then its parameter for those who read it
-abbrev pub argument_emissions : Walked → HostId → Label → StmtId → List VarId → List ExprTree → List Emission
-argument_emissions walked host label statement params [] = []
-argument_emissions walked host label statement [] (argument ∷ others) = []
-argument_emissions walked host label statement (param ∷ params) (argument ∷ others) =
+-- each argument, and then its parameter for those who read it, but for the home of the method, to which it rides
+abbrev pub argument_emissions : Walked → HostId → HostId → Label → StmtId → List VarId → List ExprTree → List Emission
+argument_emissions walked host home label statement params [] = []
+argument_emissions walked host home label statement [] (argument ∷ others) = []
+argument_emissions walked host home label statement (param ∷ params) (argument ∷ others) =
     expr_emissions host label statement 0 argument
     ++ emitted host label statement (op.Arg param (nodes_of 0 argument))
-    ∷ pass_emissions walked.planned host label statement param
-    ++ argument_emissions walked host label statement params others
+    ∷ pass_emissions walked.planned host label statement param (Some home)
+    ++ argument_emissions walked host home label statement params others
+
+-- the parameters that ride to the home of the method, in their order
+abbrev pub riding_params : PlannedShape → HostId → HostId → List VarId → List ExprTree → List VarId
+riding_params planned host home params [] = []
+riding_params planned host home [] (argument ∷ others) = []
+riding_params planned host home (param ∷ params) (argument ∷ others) =
+    riders_to planned host param (Some home) ++ riding_params planned host home params others
 
 -- a result that is kept
-abbrev pub kept_emissions : Walked → HostId → Label → StmtId → Option VarId → Option VarId → List Emission
-kept_emissions walked host label statement (Some result) (Some into) =
+abbrev pub kept_emissions : Walked → HostId → Label → StmtId → Option VarId → Option VarId → Option HostId →
+    List Emission
+kept_emissions walked host label statement (Some result) (Some into) carried =
     emitted host label statement (op.Let into (node.Var result ∷ []))
-    ∷ send_emissions walked.planned host label statement into
-kept_emissions walked host label statement result into = []
+    ∷ send_emissions walked.planned host label statement into carried
+kept_emissions walked host label statement result into carried = []
 
--- The entry behind a call is named before its frame is made. It needs what the call and all that is left under the
--- token need.
-abbrev pub call_emissions : Walked → Counts → HostId → Label → StmtId → SiteId → MethodId → List ExprTree →
-    Option VarId → List StmtId → List Emission
-call_emissions walked counts host label statement site method arguments into left =
-    let called = method_at walked.labelled.program method in
+-- The entry behind a call of this method is named before its frame is made. It needs what the call and all that is left
+-- under the token need.
+abbrev pub called_emissions : Walked → Counts → HostId → Label → StmtId → SiteId → MethodId → Option MethodTree →
+    List ExprTree → Option VarId → Option HostId → List StmtId → List Emission
+called_emissions walked counts host label statement site method called arguments into carried left =
+    let home = called_home walked.planned called in
     entry (record { host = host; label = label; need = need_of walked.planned (statement ∷ left) })
     ∷ emitted host label statement (op.Frame site)
-    ∷ argument_emissions walked host label statement (params_of called) arguments
+    ∷ argument_emissions walked host home label statement (params_of called) arguments
     ++ emitted host label statement (op.Push (entry_id counts.entries))
-    ∷ emitted host label statement (op.Call (entry_id (suc method.0)) (called_home walked.planned called))
+    ∷ emitted host label statement (call_with (riding_params walked.planned host home (params_of called) arguments)
+    (entry_id (suc method.0)) home)
     ∷ stands host counts.entries
-    ∷ kept_emissions walked host label statement (result_of called) into
+    ∷ kept_emissions walked host label statement (result_of called) into carried
+
+abbrev pub call_emissions : Walked → Counts → HostId → Label → StmtId → SiteId → MethodId → List ExprTree →
+    Option VarId → Option HostId → List StmtId → List Emission
+call_emissions walked counts host label statement site method arguments into carried left =
+    called_emissions walked counts host label statement site method (method_at walked.labelled.program method) arguments
+    into carried left
 
 -- what a method gives back
 abbrev pub result_emissions : Walked → HostId → Label → StmtId → ExprTree → List Emission
@@ -224,9 +286,10 @@ block_emissions walked around counts lane (set_local heading x value rest) =
     let moved = move_emissions walked around counts lane next (heading.id ∷ others) in
     let own = expr_emissions next.host around.pc heading.id 0 value
     ++ emitted next.host around.pc heading.id (op.Let x (nodes_of 0 value))
-    ∷ send_emissions walked.planned next.host around.pc heading.id x in
+    ∷ send_emissions walked.planned next.host around.pc heading.id x (carried_to walked.planned next others) in
     moved ++ own
-    ++ block_emissions walked around (counts_after counts (moved ++ own)) (lane_at counts lane next) rest
+    ++ block_emissions walked around (counts_after counts (moved ++ own))
+    (lane_behind walked counts lane next (Some x) others) rest
 block_emissions walked around counts lane (set_field heading field value rest) =
     let others = own_statements rest in
     let next = next_spot walked.planned lane.spot heading.id others in
@@ -234,7 +297,8 @@ block_emissions walked around counts lane (set_field heading field value rest) =
     let own = expr_emissions next.host around.pc heading.id 0 value
     ++ emitted next.host around.pc heading.id (op.Put field first_element (nodes_of 0 value)) ∷ [] in
     moved ++ own
-    ++ block_emissions walked around (counts_after counts (moved ++ own)) (lane_at counts lane next) rest
+    ++ block_emissions walked around (counts_after counts (moved ++ own))
+    (lane_behind walked counts lane next None others) rest
 block_emissions walked around counts lane (set_element heading field index value rest) =
     let others = own_statements rest in
     let next = next_spot walked.planned lane.spot heading.id others in
@@ -244,7 +308,8 @@ block_emissions walked around counts lane (set_element heading field index value
     ++ emitted next.host around.pc heading.id
     (op.Put field (nodes_of 0 index) (nodes_of (reads_in index) value)) ∷ [] in
     moved ++ own
-    ++ block_emissions walked around (counts_after counts (moved ++ own)) (lane_at counts lane next) rest
+    ++ block_emissions walked around (counts_after counts (moved ++ own))
+    (lane_behind walked counts lane next None others) rest
 block_emissions walked around counts lane (branch heading guard first second rest) =
     let others = own_statements rest in
     let next = next_spot walked.planned lane.spot heading.id others in
@@ -268,7 +333,7 @@ block_emissions walked around counts lane (branch heading guard first second res
     let two = block_emissions walked inside (counts_after here (front ++ one ++ between)) (lane_on host) second in
     let own = front ++ one ++ between ++ two ++ stands host here.entries ∷ [] in
     moved ++ own
-    ++ block_emissions walked around (counts_after here own) (lane_at counts lane next) rest
+    ++ block_emissions walked around (counts_after here own) (lane_behind walked counts lane next None others) rest
 block_emissions walked around counts lane (loop heading guard body rest) =
     let others = own_statements rest in
     let next = next_spot walked.planned lane.spot heading.id others in
@@ -291,15 +356,16 @@ block_emissions walked around counts lane (loop heading guard body rest) =
     let own = front ++ block_emissions walked inside (counts_after here front) (lane_on host) body
     ++ lands host here.branches ∷ [] in
     moved ++ own
-    ++ block_emissions walked around (counts_after here own) (lane_at counts lane next) rest
+    ++ block_emissions walked around (counts_after here own) (lane_behind walked counts lane next None others) rest
 block_emissions walked around counts lane (call heading site method arguments into rest) =
     let others = own_statements rest in
     let next = next_spot walked.planned lane.spot heading.id others in
     let moved = move_emissions walked around counts lane next (heading.id ∷ others) in
     let own = call_emissions walked (counts_after counts moved) next.host around.pc heading.id site method arguments
-    into (under_token walked.planned next others) in
+    into (carried_to walked.planned next others) (under_token walked.planned next others) in
     moved ++ own
-    ++ block_emissions walked around (counts_after counts (moved ++ own)) (lane_at counts lane next) rest
+    ++ block_emissions walked around (counts_after counts (moved ++ own))
+    (lane_behind walked counts lane next into others) rest
 block_emissions walked around counts lane (give_back heading value rest) =
     let others = own_statements rest in
     let next = next_spot walked.planned lane.spot heading.id others in
@@ -307,7 +373,8 @@ block_emissions walked around counts lane (give_back heading value rest) =
     let own = expr_emissions next.host around.pc heading.id 0 value
     ++ result_emissions walked next.host around.pc heading.id value in
     moved ++ own
-    ++ block_emissions walked around (counts_after counts (moved ++ own)) (lane_at counts lane next) rest
+    ++ block_emissions walked around (counts_after counts (moved ++ own))
+    (lane_behind walked counts lane next None others) rest
 
 -- ---- methods and programs
 

@@ -149,13 +149,13 @@ pub fn typing_examples()
 /// The instructions of some small programs on each of their hosts, the hosts of their entries, and which statements are
 /// theirs.
 pub fn worked_laws()
-    // A local is sent to the host that reads it, and then that host is handed the right to go on.
-    ensures sent { operations_on sent_local 0 ≡ op.Let (var_id 0) (node.Number (pos 7) ∷ [])
-        ∷ op.Send (var_id 0) (host_id 1) ∷ op.Go (entry_id 2) (host_id 1) ∷ [] }
-    ensures sent_to { operations_on sent_local 1 ≡ op.Read (field_id 0) first_element
+    // A local rides to the host that reads it, which is handed the right to go on.
+    ensures rides { operations_on sent_local 0 ≡ op.Let (var_id 0) (node.Number (pos 7) ∷ [])
+        ∷ op.GoWith (entry_id 2) (host_id 1) (var_id 0 ∷ []) ∷ [] }
+    ensures rides_to { operations_on sent_local 1 ≡ op.Read (field_id 0) first_element
         ∷ op.Put (field_id 0) first_element (node.Temp 0 ∷ node.Var (var_id 0) ∷ node.Binary operator.Add ∷ [])
         ∷ op.Back ∷ [] }
-    ensures sent_entries { entry_hosts sent_local ≡ 0 ∷ 0 ∷ 1 ∷ [] }
+    ensures rides_entries { entry_hosts sent_local ≡ 0 ∷ 0 ∷ 1 ∷ [] }
     // Where the way back is long, the host of what follows is asked to take it back.
     ensures past { operations_on lent_past 0
         ≡ op.Ask (entry_id 2) (host_id 2) ∷ op.Go (entry_id 3) (host_id 1) ∷ [] }
@@ -185,10 +185,10 @@ pub fn worked_laws()
         ∷ op.Put (field_id 1) first_element (node.Temp 0 ∷ node.Number (pos 1) ∷ node.Binary operator.Add ∷ [])
         ∷ op.Back ∷ [] }
     ensures branch_entries { entry_hosts branched ≡ 0 ∷ 0 ∷ 0 ∷ 1 ∷ [] }
-    // A call makes a frame, sets each parameter and passes it on, and pushes the entry behind it, where the result is
-    // kept.
+    // A call makes a frame, sets each parameter, and pushes the entry behind it, where the result is kept. The parameter
+    // rides to the home of the method.
     ensures calls { operations_on called 0 ≡ op.Frame (site_id 1) ∷ op.Arg (var_id 1) (node.Number (pos 3) ∷ [])
-        ∷ op.Pass (var_id 1) (host_id 1) ∷ op.Push (entry_id 3) ∷ op.Call (entry_id 2) (host_id 1)
+        ∷ op.Push (entry_id 3) ∷ op.CallWith (entry_id 2) (host_id 1) (var_id 1 ∷ [])
         ∷ op.Let (var_id 0) (node.Var (var_id 2) ∷ []) ∷ op.Back ∷ [] }
     ensures gives_back { operations_on called 1
         ≡ op.Ret (var_id 2) (node.Var (var_id 1) ∷ node.Number (pos 1) ∷ node.Binary operator.Add ∷ [])

@@ -4,13 +4,13 @@ use Rattle.split_rules.specs.Positions.{IsIn}
 use Rattle.split_rules.specs.Worked.{called, calling, returning, loop_end}
 use Rattle.split_rules.proofs.laws.worked_laws.Goals as goal
 
-pub returns-clause-sent : goal.returns-clause-sent
+pub returns-clause-rides : goal.returns-clause-rides
 unfolding is_trusted_by
-returns-clause-sent c = refl
+returns-clause-rides c = refl
 
-pub returns-clause-sent_entries : goal.returns-clause-sent_entries
+pub returns-clause-rides_entries : goal.returns-clause-rides_entries
 unfolding is_trusted_by
-returns-clause-sent_entries c = refl
+returns-clause-rides_entries c = refl
 
 pub returns-clause-past : goal.returns-clause-past
 unfolding is_trusted_by
