@@ -117,7 +117,7 @@ pub lane_sees : (planned : PlannedShape) (pc : Label) (counts : Counts) (lane : 
     SpotSees planned pc lane.spot → SpotSees planned pc next → SpotSees planned pc (lane_at counts lane next).spot
 lane_sees planned pc counts lane next sees next_sees =
     let P : Lane → Type 0 = λ it. SpotSees planned pc it.spot in
-    one_of_two P (is_same lane.spot.host next.host) lane 
+    one_of_two P (is_same lane.spot.host next.host) lane
     (record { spot = next; return_entry = counts.entries; riding = [] }) sees next_sees
 
 -- ---- moves
@@ -161,9 +161,11 @@ entering_told : (walked : Walked) (around : Around) (counts : Counts) (from host
 entering_told walked around counts from host None riders statements named counted some from_sees sees behind =
     let planned = walked.planned in
     let one : Named = record { host = host; label = around.pc; need = need_of planned statements } in
-    one_of_two (AreTold walked.labelled planned named) (is_same from host) [] _ tt
-    (goes_well walked.labelled planned (named ++ one ∷ []) from around.pc (entry_id counts.entries) host riders
-    (hands_last planned named [] from one counts.entries counted some from_sees sees), tt)
+    one_of_two (AreTold walked.labelled planned named) (is_same from host) [] _ tt (
+      goes_well walked.labelled planned (named ++ one ∷ []) from around.pc (entry_id counts.entries) host riders
+          (hands_last planned named [] from one counts.entries counted some from_sees sees),
+      tt,
+    )
 entering_told walked around counts from host (Some back) riders statements named counted some from_sees sees behind =
     let planned = walked.planned in
     let first : Named = record {

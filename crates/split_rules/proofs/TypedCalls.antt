@@ -60,11 +60,12 @@ out_params planned me statement home (param ∷ params) (argument ∷ others) =
 -- and it rides there
 rides_all_both : (home : HostId) (first second : List VarId) (out more : List Forward) → RidesAll first home out →
     RidesAll second home more → RidesAll (first ++ second) home (out ++ more)
-rides_all_both home first second out more one two =
-    (map-append (λ (forward : Forward). forward.variable) out more
-    ∙ ap (λ names. names ++ map (λ (forward : Forward). forward.variable) more) one.0
-    ∙ ap (λ names. first ++ names) two.0,
-    all_both (λ (forward : Forward). forward.host ≡ home) out more one.1 two.1)
+rides_all_both home first second out more one two = (
+  map-append (λ (forward : Forward). forward.variable) out more
+      ∙ ap (λ names. names ++ map (λ (forward : Forward). forward.variable) more) one.0
+      ∙ ap (λ names. first ++ names) two.0,
+  all_both (λ (forward : Forward). forward.host ≡ home) out more one.1 two.1,
+)
 
 params_ride : (planned : PlannedShape) (me : HostId) (statement : BlockTree) (home : HostId) →
     home.0 < length planned.hosts.hosts → (params : List VarId) (arguments : List ExprTree) →
@@ -301,9 +302,16 @@ calls_typed : (planned : PlannedShape) (me home : HostId) (statement : BlockTree
 calls_typed planned me home (call heading at method arguments into rest) called due [] out entries branches rides same
     entered =
     let P : MethodId → Type 0 = λ it. EntryIs entries (suc called.0) (calm (body called) due)
-    (need_of_method planned (method_at planned.program it)) in
-    ((ap (λ (it : MethodId). suc it.0) (sym same), ap body (sym same), refl, none_riding home out rides,
-    subst P (sym same) entered), refl)
+    (need_of_method planned (method_at planned.program it)) in (
+      (
+        ap (λ (it : MethodId). suc it.0) (sym same),
+        ap body (sym same),
+        refl,
+        none_riding home out rides,
+        subst P (sym same) entered,
+      ),
+      refl,
+    )
 calls_typed planned me home (call heading at method arguments into rest) called due (x ∷ riders) out entries branches
     rides same entered =
     let P : MethodId → Type 0 = λ it. EntryIs entries (suc called.0) (calm (body called) due)

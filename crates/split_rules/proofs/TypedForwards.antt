@@ -87,9 +87,11 @@ one_kept p to first (suc count) from within =
 pub out_rides : (planned : PlannedShape) (me : HostId) (source : BlockTree) (x : VarId) (carried : Option HostId) →
     IsCarriedWithin planned carried →
     IsCarried (riders_to planned me x carried) (out_behind planned me source x carried) carried
-out_rides planned me source x None within =
-    (refl, ap (λ numbers. forwards_to source x (hosts_of numbers))
-    (none_kept planned me x (range_with_len 0 (length planned.hosts.hosts))))
+out_rides planned me source x None within = (
+  refl,
+  ap (λ numbers. forwards_to source x (hosts_of numbers))
+      (none_kept planned me x (range_with_len 0 (length planned.hosts.hosts))),
+)
 out_rides planned me source x (Some to) within =
     let P : List ℕ → Type 0 = λ numbers. RidesAll (riders_to planned me x (Some to)) to
     (forwards_to source x (hosts_of numbers)) in

@@ -540,51 +540,51 @@ lent : (walked : Walked) (around : Around) (level : Level) (from host back : Hos
     Entered walked around level from riders out (lent_spot host back) tree trees entries branches
 lent walked around level from host back riders out tree trees due left due_back run_there entries branches apart own
     some = record {
-  more = given ∷ segment ∷ [];
-  typed = rw (ne_eqb from.0 host.0 apart) (
-    known_at (left_at level from out all) one branches,
-    (given.position, refl, past_due, subst C past_need (covers_due planned (map run past)), refl),
-    (
-      known_at (left_at level from out all) both branches,
-      (segment.position, refl, row_on_host, subst D row_need (covers_due planned (map run row)), refl),
-      (
-        known_at (here from (with_forwards segment.position out)) both branches,
+      more = given ∷ segment ∷ [];
+      typed = rw (ne_eqb from.0 host.0 apart) (
+        known_at (left_at level from out all) one branches,
+        (given.position, refl, past_due, subst C past_need (covers_due planned (map run past)), refl),
         (
-          with_forwards (calm level (map run all)) out,
-          refl,
-          (due, left.sourced),
-          push_typed planned from back level (map run all) out number (with_forwards segment.position out) both branches
-              cuts due_back rides.1,
-        ),
-        (
-          known_at nowhere both branches,
+          known_at (left_at level from out all) both branches,
+          (segment.position, refl, row_on_host, subst D row_need (covers_due planned (map run row)), refl),
           (
-            with_forwards segment.position out,
-            refl,
-            (due_in_row planned from host all due, left.sourced),
-            go_typed planned from host (under number) (map run row) (number + 1) riders out both branches rides.0 second,
-          ),
-          (
-            known_at (here host segment.position) both branches,
-            (segment.position, segment.need, second_there, inl refl, refl),
-            ap (λ it. known_at (here host segment.position) it branches)
-                (append_assoc entries (given ∷ []) (segment ∷ []))
-                ∙ ap (λ row. known_at (here host (calm (under number) (map run row))) (entries ++ given ∷ segment ∷ [])
-                branches) (row_here planned host tree trees own),
+            known_at (here from (with_forwards segment.position out)) both branches,
+            (
+              with_forwards (calm level (map run all)) out,
+              refl,
+              (due, left.sourced),
+              push_typed planned from back level (map run all) out number (with_forwards segment.position out) both branches
+                  cuts due_back rides.1,
+            ),
+            (
+              known_at nowhere both branches,
+              (
+                with_forwards segment.position out,
+                refl,
+                (due_in_row planned from host all due, left.sourced),
+                go_typed planned from host (under number) (map run row) (number + 1) riders out both branches rides.0 second,
+              ),
+              (
+                known_at (here host segment.position) both branches,
+                (segment.position, segment.need, second_there, inl refl, refl),
+                ap (λ it. known_at (here host segment.position) it branches)
+                    (append_assoc entries (given ∷ []) (segment ∷ []))
+                    ∙ ap (λ row. known_at (here host (calm (under number) (map run row))) (entries ++ given ∷ segment ∷ [])
+                    branches) (row_here planned host tree trees own),
+              ),
+            ),
           ),
         ),
-      ),
-    ),
-  );
-  known = (
-    subst P behind (subst E (sym past_need) (at_last entries given (segment ∷ []))),
-    λ none. some (behind ∙ none),
-    subst F behind past_due,
-  );
-  trusted =
-      let Q : List BlockTree → Type 0 = λ row. AreDueOn planned host (map run row) in
-      subst Q (row_here planned host tree trees own) row_on_host;
-}
+      );
+      known = (
+        subst P behind (subst E (sym past_need) (at_last entries given (segment ∷ []))),
+        λ none. some (behind ∙ none),
+        subst F behind past_due,
+      );
+      trusted =
+          let Q : List BlockTree → Type 0 = λ row. AreDueOn planned host (map run row) in
+          subst Q (row_here planned host tree trees own) row_on_host;
+    }
   where
     planned : PlannedShape
     planned = walked.planned

@@ -3,7 +3,7 @@ use Rattle.std.proofs.Common.{◌≡◌, ◌∙◌, ℕ, zero, suc, true, List, 
 use Rattle.std.specs.Prelude.{Some, slice_get, unwrap_or, drop, pos, ⊤}
 use Rattle.js_base.specs.declared.ids.HostId.{HostId}
 use Rattle.js_base.specs.declared.ids.FieldId.{FieldId}
-use Rattle.jif_tree.specs.Trees.{ExprTree, BlockTree, done, set_field, MethodTree, number, local}
+use Rattle.jif_tree.specs.Trees.{BlockTree, MethodTree, number, local}
 use Rattle.host_code.specs.declared.code.Entry.{Entry}
 use Rattle.host_code.specs.declared.instruction.Instr.{Instr}
 use Rattle.host_code.specs.declared.instruction.Op.{Op}
@@ -14,100 +14,19 @@ use Rattle.msg_cost.specs.Moves.{PlannedShape, is_trusted_by}
 use Rattle.split_rules.specs.Expressions.{first_element, nodes_of}
 use Rattle.split_rules.specs.OpenExamples.{main_level, increase, setting, reading, tests_first}
 use Rattle.split_rules.specs.Positions.{IsIn, IsOf, Due, run, keep, Level, body, under, all_due, own_reads, is_on}
-use Rattle.split_rules.specs.Positions.{Argument, arguing, entering, Forward, no_call, Position, Entrance, calm}
-use Rattle.split_rules.specs.Positions.{with_reads, with_forwards, forwards_of, field_reads}
+use Rattle.split_rules.specs.Positions.{no_call, Position, Entrance, calm, with_reads, with_forwards, forwards_of}
 use Rattle.split_rules.specs.TypedCode.{Table, IsTypedOp, IsTypedEntry, IsTypedCode}
 use Rattle.split_rules.specs.Typing.{EntryIs, IsTrustedAt, AreDueOn, AreSourced, Covers, need_due, IsCalm, RidesAll}
 use Rattle.split_rules.specs.Typing.{Reads, Pushes, Follows, Enters}
-use Rattle.split_rules.specs.TypingExamples.{code_instead, CanBeTyped, rides, sent_and_rides, kept_back, rides_called}
-use Rattle.split_rules.specs.TypingExamples.{kept_from_call, lent_local, lent_past_local}
+use Rattle.split_rules.specs.TypingExamples.{code_instead, CanBeTyped, as_given, rides, sent_and_rides, kept_back}
+use Rattle.split_rules.specs.TypingExamples.{kept_from_call, ridden_table, lent_local, lent_local_table, called_table}
+use Rattle.split_rules.specs.TypingExamples.{called_level, local_out, lent_past_local, framed, argued, param_out}
 use Rattle.split_rules.specs.Walk.{need_of}
-use Rattle.split_rules.specs.Worked.{host_id, var_id, field_id, site_id, heading, increased, sent_local, called}
-use Rattle.split_rules.specs.Worked.{calling, returning}
+use Rattle.split_rules.specs.Worked.{host_id, var_id, field_id, site_id, increased, sent_local, called, calling, returning}
 use Rattle.split_rules.proofs.OneNext.{one_next}
 use Rattle.split_rules.proofs.TypedMoves.{covers_due}
 use Rattle.split_rules.proofs.TypedSplit.{same_there}
 use Rattle.split_rules.proofs.WalkedCalls.{nothing_there}
-
--- ---- what is known at each place
-
-abbrev entrance : Position → ℕ → Entrance
-entrance position need = record { position = position; need = need }
-
--- these positions, one after another, at the places of each host
-abbrev table_with : List Entrance → List (List Position) → Table
-table_with entries positions = record {
-  entries = entries;
-  at = λ host place. unwrap_or (slice_get (unwrap_or (slice_get positions host) []) place) (calm main_level []);
-}
-
--- the local is still to be sent to the other host
-abbrev local_out : Position → Position
-local_out here = with_forwards here (record { variable = var_id 0; host = host_id 1; source = setting } ∷ [])
-
-abbrev ridden_table : Table
-ridden_table =
-    table_with
-    (entrance (calm main_level []) 1
-    ∷ entrance (calm main_level (run setting ∷ run reading ∷ [])) 1
-    ∷ entrance (calm main_level (run reading ∷ [])) 0 ∷ [])
-    ((calm main_level (run setting ∷ run reading ∷ [])
-    ∷ local_out (calm main_level (run reading ∷ [])) ∷ [])
-    ∷ (calm main_level (run reading ∷ [])
-    ∷ tests_first (calm main_level (run reading ∷ []))
-    ∷ calm main_level [] ∷ []) ∷ [])
-
--- The entry where the last statement is due is pushed, and the local is still to be sent behind that.
-abbrev lent_local_table : Table
-lent_local_table =
-    table_with
-    (entrance (calm main_level []) 1
-    ∷ entrance (calm main_level (run setting ∷ run reading ∷ run (increase 3 1) ∷ [])) 1
-    ∷ entrance (calm main_level (run (increase 3 1) ∷ [])) 1
-    ∷ entrance (calm (under 2) (run reading ∷ [])) 0 ∷ [])
-    ((calm main_level (run setting ∷ run reading ∷ run (increase 3 1) ∷ [])
-    ∷ local_out (calm main_level (run reading ∷ run (increase 3 1) ∷ []))
-    ∷ local_out (calm (under 2) (run reading ∷ []))
-    ∷ calm main_level (run (increase 3 1) ∷ [])
-    ∷ with_reads (calm main_level (run (increase 3 1) ∷ []))
-    (record { field = field_id 1; index = number (pos 0) } ∷ [])
-    ∷ calm main_level [] ∷ [])
-    ∷ (calm (under 2) (run reading ∷ [])
-    ∷ tests_first (calm (under 2) (run reading ∷ []))
-    ∷ calm (under 2) [] ∷ []) ∷ [])
-
-abbrev argument : Argument
-argument = record { param = var_id 1; value = number (pos 3) }
-
--- the parameter is still to be sent to the host of the method
-abbrev param_out : List Forward
-param_out = record { variable = var_id 1; host = host_id 1; source = calling } ∷ []
-
--- the frame of the call is made, and then the parameter is set in it
-abbrev framed : Position
-framed = record (calm main_level (run calling ∷ [])) { calling = arguing calling [] (argument ∷ []) }
-
-abbrev argued : Position
-argued = record (with_forwards (calm main_level (run calling ∷ [])) param_out) {
-  calling = arguing calling (argument ∷ []) [];
-}
-
-abbrev called_level : Level
-called_level = body (record { 0 = 1 })
-
-abbrev called_table : Table
-called_table =
-    table_with
-    (entrance (calm main_level []) 1
-    ∷ entrance (calm main_level (run calling ∷ [])) 1
-    ∷ entrance (calm called_level (run returning ∷ [])) 0
-    ∷ entrance (calm main_level (keep calling ∷ [])) 1 ∷ [])
-    ((calm main_level (run calling ∷ [])
-    ∷ framed ∷ argued
-    ∷ record (with_forwards (calm called_level (run returning ∷ [])) param_out) { calling = entering calling }
-    ∷ calm main_level (keep calling ∷ [])
-    ∷ calm main_level [] ∷ [])
-    ∷ (calm called_level (run returning ∷ []) ∷ calm called_level [] ∷ []) ∷ [])
 
 -- ---- what holds of each item of a list with its place
 
@@ -181,13 +100,6 @@ reads_first planned me level statement others field own is = record {
 
 -- ---- a local rides
 
--- the values that the statements store
-abbrev with_local : ExprTree
-with_local = increased 0 (local (var_id 0))
-
-abbrev one_more : ExprTree
-one_more = increased 1 (number (pos 1))
-
 setting_of : IsOf sent_local.program setting
 setting_of = (record { 0 = 0 }, (0, setting, omega arith, refl, refl))
 
@@ -195,8 +107,7 @@ reading_of : IsOf sent_local.program reading
 reading_of = (record { 0 = 0 }, (1, reading, omega arith, refl, refl))
 
 -- the local is given its value, and has then still to be sent
-sets : (planned : PlannedShape) (entries : List Entrance) (others : List Due) →
-    is_on planned (host_id 0) setting ≡ true →
+sets : (planned : PlannedShape) (entries : List Entrance) (others : List Due) → is_on planned (host_id 0) setting ≡ true →
     let from = calm main_level (run setting ∷ others) in
     Follows planned entries (host_id 0) from (op.Let (var_id 0) (node.Number (pos 7) ∷ [])) (record {
       level = main_level;
@@ -214,15 +125,13 @@ sets planned entries others own = (
   refl,
 )
 
--- a field is given a value, whose fields were read
-stores : (planned : PlannedShape) (entries : List Entrance) (me : HostId) (level : Level) (id : ℕ) (field : FieldId)
-    (value : ExprTree) →
-    let statement = set_field (heading id) field value done in
-    is_on planned me statement ≡ true →
-    Follows planned entries me (with_reads (calm level (run statement ∷ [])) (field_reads value))
-    (op.Put field first_element (nodes_of 0 value)) (calm level [])
-stores planned entries me level id field value own = (
-  run (set_field (heading id) field value done),
+-- and read and stored with what it is added to
+stores : (planned : PlannedShape) (entries : List Entrance) (me : HostId) (level : Level) →
+    is_on planned me reading ≡ true →
+    Follows planned entries me (tests_first (calm level (run reading ∷ [])))
+    (op.Put (field_id 0) first_element (nodes_of 0 (increased 0 (local (var_id 0))))) (calm level [])
+stores planned entries me level own = (
+  run reading,
   [],
   record { due = refl; on_host = own; forwards = refl },
   refl,
@@ -230,7 +139,7 @@ stores planned entries me level id field value own = (
   refl,
 )
 
-pub local_rides : CanBeTyped sent_local rides
+pub local_rides : CanBeTyped sent_local as_given
 unfolding is_trusted_by
 local_rides =
     let first = host_id 0 in
@@ -245,11 +154,11 @@ local_rides =
         halts = refl;
         methods = each_at (IsMethodEntry sent_local ridden_table) sent_local.program.methods (refl, tt);
         entries = each_at (IsEntryBehind sent_local ridden_table)
-            (drop 1 (code_instead sent_local rides).entries) (
+            (drop 1 (code_instead sent_local as_given).entries) (
               enters sent_local ridden_table 1 _ main_level (run setting ∷ run reading ∷ []) refl refl both refl,
               (enters sent_local ridden_table 2 _ main_level (run reading ∷ []) refl refl there refl, tt),
             );
-        instructions = λ host. each_part (IsTypedThere sent_local ridden_table) (code_instead sent_local rides).parts (
+        instructions = λ host. each_part (IsTypedThere sent_local ridden_table) (code_instead sent_local as_given).parts (
           (
             ((both, tt), sets sent_local entries (run reading ∷ []) refl),
             (((both.1, ((refl, refl, setting_of, refl), tt)), ((refl, refl), (refl, (refl, tt)), refl)), tt),
@@ -257,10 +166,7 @@ local_rides =
           (
             (
               ((there, tt), reads_first sent_local second main_level reading [] (field_id 0) refl refl),
-              (
-                ((there, tt), stores sent_local entries second main_level 2 (field_id 0) with_local refl),
-                (((tt, tt), refl), tt),
-              ),
+              (((there, tt), stores sent_local entries second main_level refl), (((tt, tt), refl), tt)),
             ),
             tt,
           ),
@@ -276,7 +182,7 @@ setting_lent = (record { 0 = 0 }, (0, setting, omega arith, refl, refl))
 reading_lent : IsOf lent_local.program reading
 reading_lent = (record { 0 = 0 }, (1, reading, omega arith, refl, refl))
 
-pub rides_past_push : CanBeTyped lent_local rides
+pub rides_past_push : CanBeTyped lent_local as_given
 unfolding is_trusted_by
 rides_past_push =
     let first = host_id 0 in
@@ -295,7 +201,7 @@ rides_past_push =
         halts = refl;
         methods = each_at (IsMethodEntry lent_local lent_local_table) lent_local.program.methods (refl, tt);
         entries = each_at (IsEntryBehind lent_local lent_local_table)
-            (drop 1 (code_instead lent_local rides).entries) (
+            (drop 1 (code_instead lent_local as_given).entries) (
               enters lent_local lent_local_table 1 _ main_level (run setting ∷ run reading ∷ run last ∷ []) refl refl
                   all refl,
               (
@@ -304,20 +210,27 @@ rides_past_push =
               ),
             );
         instructions = λ host. each_part (IsTypedThere lent_local lent_local_table)
-            (code_instead lent_local rides).parts (
+            (code_instead lent_local as_given).parts (
               (
                 ((all, tt), sets lent_local entries (run reading ∷ run last ∷ []) refl),
                 (
-                  (
-                    (all.1, out),
-                    record { idle = (refl, refl); behind = run last ∷ []; pushed = refl; due = refl; goes = refl },
-                  ),
+                  ((all.1, out), record { idle = (refl, refl); behind = run last ∷ []; pushed = refl; due = refl; goes = refl }),
                   (
                     (((all.1.0, tt), out), ((refl, refl), (refl, (refl, tt)), refl)),
                     (
                       ((all.1.1, tt), reads_first lent_local first main_level last [] (field_id 1) refl refl),
                       (
-                        ((all.1.1, tt), stores lent_local entries first main_level 3 (field_id 1) one_more refl),
+                        (
+                          (all.1.1, tt),
+                          (
+                            run last,
+                            [],
+                            record { due = refl; on_host = refl; forwards = refl },
+                            refl,
+                            (refl, refl, record { reads = refl; are = refl }),
+                            refl,
+                          ),
+                        ),
                         (((tt, tt), refl), tt),
                       ),
                     ),
@@ -327,10 +240,7 @@ rides_past_push =
               (
                 (
                   ((there, tt), reads_first lent_local second (under 2) reading [] (field_id 0) refl refl),
-                  (
-                    ((there, tt), stores lent_local entries second (under 2) 2 (field_id 0) with_local refl),
-                    (((tt, tt), refl), tt),
-                  ),
+                  (((there, tt), stores lent_local entries second (under 2) refl), (((tt, tt), refl), tt)),
                 ),
                 tt,
               ),
@@ -365,7 +275,7 @@ argues entries = record {
   goes = refl;
 }
 
-pub parameter_rides : CanBeTyped called rides_called
+pub parameter_rides : CanBeTyped called as_given
 unfolding is_trusted_by
 parameter_rides =
     let first = host_id 0 in
@@ -382,23 +292,20 @@ parameter_rides =
         halts = refl;
         methods = each_at (IsMethodEntry called called_table) called.program.methods (refl, (refl, tt));
         entries = each_at (IsEntryBehind called called_table)
-            (drop 1 (code_instead called rides_called).entries) (
+            (drop 1 (code_instead called as_given).entries) (
               enters called called_table 1 _ main_level (run calling ∷ []) refl refl calls refl,
               (
                 enters called called_table 2 _ called_level (run returning ∷ []) refl refl there refl,
                 (enters called called_table 3 _ main_level (keep calling ∷ []) refl refl keeps refl, tt),
               ),
             );
-        instructions = λ host. each_part (IsTypedThere called called_table) (code_instead called rides_called).parts (
+        instructions = λ host. each_part (IsTypedThere called called_table) (code_instead called as_given).parts (
           (
             ((calls, tt), frames entries),
             (
               ((calls, tt), argues entries),
               (
-                (
-                  (calls, out),
-                  record { others = []; due = refl; reads = refl; all_set = refl; pushed = refl; goes = refl },
-                ),
+                ((calls, out), record { others = []; due = refl; reads = refl; all_set = refl; pushed = refl; goes = refl }),
                 (
                   ((inside, out), (refl, refl, refl, (refl, (refl, tt)), refl)),
                   (
@@ -468,7 +375,7 @@ leads planned entries me what here from next other same law own =
 abbrev set_first : Op
 set_first = op.Let (var_id 0) (node.Number (pos 7) ∷ [])
 
--- what has an item is not empty
+-- nothing that is left to be sent is nothing
 not_none : {X : Type 0} (x : X) (xs : List X) → ¬ (x ∷ xs ≡ [])
 not_none x xs same = absurd (cc)
 

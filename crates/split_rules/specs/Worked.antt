@@ -129,6 +129,34 @@ sent_local =
     (set_local (heading 1) (var_id 0) (number (pos 7))
     (set_field (heading 2) (field_id 0) (increased 0 (local (var_id 0))) done))
 
+-- `f = f + x;` for a field and the local
+abbrev pub adding : ℕ → ℕ → BlockTree → BlockTree
+adding id field rest = set_field (heading id) (field_id field) (increased field (local (var_id 0))) rest
+
+-- A local is read on two others, of which the first is handed the right to go on.
+abbrev pub read_by_two : PlannedShape
+read_by_two =
+    planned_on (a_host 1 ∷ a_host 0 ∷ a_host 0 ∷ [])
+    ((0 ∷ 1 ∷ 1 ∷ []) ∷ (1 ∷ 0 ∷ 1 ∷ []) ∷ (1 ∷ 1 ∷ 0 ∷ []) ∷ []) (1 ∷ 1 ∷ 0 ∷ 0 ∷ [])
+    (statement_id 2 ∷ statement_id 3 ∷ []) (host_id 1 ∷ host_id 2 ∷ [])
+    (host_id 0 ∷ host_id 0 ∷ host_id 1 ∷ host_id 2 ∷ [])
+    (set_local (heading 1) (var_id 0) (number (pos 7)) (adding 2 0 (adding 3 1 done)))
+
+-- A local is read on another host, and between them stands a statement on the first.
+abbrev pub read_later : PlannedShape
+read_later =
+    planned_on (a_host 1 ∷ a_host 0 ∷ []) ((0 ∷ 1 ∷ []) ∷ (1 ∷ 0 ∷ []) ∷ []) (1 ∷ 1 ∷ 1 ∷ 0 ∷ [])
+    (statement_id 3 ∷ []) (host_id 1 ∷ host_id 0 ∷ []) (host_id 0 ∷ host_id 0 ∷ host_id 0 ∷ host_id 1 ∷ [])
+    (set_local (heading 1) (var_id 0) (number (pos 7))
+    (set_field (heading 2) (field_id 1) (number (pos 1)) (adding 3 0 done)))
+
+-- A local is set on a host that was lent the right to go on, and read on the one that gets it back.
+abbrev pub set_where_lent : PlannedShape
+set_where_lent =
+    planned_on (a_host 1 ∷ a_host 0 ∷ []) ((0 ∷ 1 ∷ []) ∷ (1 ∷ 0 ∷ []) ∷ []) (1 ∷ 0 ∷ 1 ∷ [])
+    (statement_id 2 ∷ []) (host_id 0 ∷ host_id 0 ∷ []) (host_id 0 ∷ host_id 1 ∷ host_id 0 ∷ [])
+    (set_local (heading 1) (var_id 0) (number (pos 7)) (adding 2 0 done))
+
 -- Of two statements on other hosts the first is lent the right to go on, and gives it to the host of the second, since
 -- the way back is long.
 abbrev pub lent_past : PlannedShape
@@ -191,6 +219,22 @@ called =
     } ∷ []))
     (a_host 1 ∷ a_host 0 ∷ []) ((0 ∷ 1 ∷ []) ∷ (1 ∷ 0 ∷ []) ∷ []) (1 ∷ 1 ∷ 0 ∷ 0 ∷ [])
     ([] ∷ (statement_id 3 ∷ []) ∷ [] ∷ []) [] (host_id 0 ∷ host_id 0 ∷ host_id 1 ∷ host_id 1 ∷ [])
+
+-- `x = m(3); f = f + x;`, where the method stands on the host of the call, and the second statement on another.
+abbrev pub kept_and_read : PlannedShape
+kept_and_read =
+    planned_for
+    (program_with (a_field ∷ []) (variable_of 0 ∷ variable_of 1 ∷ variable_of 1 ∷ [])
+    (main_of (call (heading 1) (site_id 1) (record { 0 = 1 }) (number (pos 3) ∷ []) (Some (var_id 0)) (adding 2 0 done))
+    ∷ record (main_of (give_back (heading 4) (local (var_id 1)) done)) {
+      name = codes "m";
+      params = var_id 1 ∷ [];
+      result = Some (var_id 2);
+      head = statement_id 3;
+    } ∷ []))
+    (a_host 1 ∷ a_host 0 ∷ []) ((0 ∷ 1 ∷ []) ∷ (1 ∷ 0 ∷ []) ∷ []) (1 ∷ 1 ∷ 0 ∷ 0 ∷ 0 ∷ [])
+    ((statement_id 2 ∷ []) ∷ (statement_id 4 ∷ []) ∷ [] ∷ []) (host_id 1 ∷ [])
+    (host_id 0 ∷ host_id 0 ∷ host_id 1 ∷ host_id 0 ∷ host_id 0 ∷ [])
 
 -- `a[f] = a[2] + 1;`
 abbrev pub indexed : PlannedShape

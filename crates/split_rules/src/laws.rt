@@ -19,8 +19,8 @@ ghost use Rattle.split_rules.specs.Opening.{IsOpenCode, HasOwnLabels, CoversRuns
 ghost use Rattle.split_rules.specs.Opening.{NamesWithin, IsCoveredBy};
 ghost use Rattle.split_rules.specs.OpenExamples.{code_of, untrusted, trusted_by_first, thread_on_first, lent_table};
 ghost use Rattle.split_rules.specs.OpenExamples.{sent_table, branched_table, looped_table, FirstOpens};
-ghost use Rattle.split_rules.specs.TypingExamples.{first_instead, CanBeTyped, rides, sent_and_rides, kept_back};
-ghost use Rattle.split_rules.specs.TypingExamples.{rides_called, kept_from_call, lent_local, lent_past_local};
+ghost use Rattle.split_rules.specs.TypingExamples.{first_instead, CanBeTyped, as_given, rides, sent_and_rides, kept_back};
+ghost use Rattle.split_rules.specs.TypingExamples.{kept_from_call, lent_local, lent_past_local};
 ghost use Rattle.split_rules.specs.Settled.{AreSettled};
 ghost use Rattle.split_rules.specs.Walk.{program_emissions};
 ghost use Rattle.std.specs.Prelude.{◌≡◌, ℕ, ◌+◌, ◌*◌, ◌≤◌, List, ◌∷◌, [], length, pos};
@@ -35,7 +35,8 @@ ghost use Rattle.host_code.specs.declared.code_expr.Node.{Node};
 ghost use Rattle.host_code.specs.declared.code_expr.Node.TheVariants as node;
 ghost use Rattle.split_rules.specs.Expressions.{first_element};
 ghost use Rattle.split_rules.specs.Walk.{entry_id};
-ghost use Rattle.split_rules.specs.Worked.{sent_local, lent_past, lent_back, looped, branched, called, indexed};
+ghost use Rattle.split_rules.specs.Worked.{sent_local, read_by_two, read_later, set_where_lent, lent_past, lent_back};
+ghost use Rattle.split_rules.specs.Worked.{looped, branched, called, kept_and_read, indexed};
 ghost use Rattle.split_rules.specs.Worked.{labelled_apart, operations_on, entry_hosts, label_words};
 ghost use Rattle.split_rules.specs.Worked.{calling, returning, loop_end};
 ghost use Rattle.split_rules.specs.Worked.{field_id, var_id, site_id, host_id, trusted_by};
@@ -115,26 +116,15 @@ pub fn typing_laws()
         Divides planned me here guard other other_target → (next ≡ other) × (target ≡ other_target) }
 {}
 
-/// Code in which values ride, in place of that of some small programs, and whether there are positions by which it is
-/// typed.
+/// Whether there are positions by which code is typed in which values ride: that of the walk over some small programs, and
+/// other code in its place.
 pub fn typing_examples()
     // A local is not sent before the thread is handed over, but rides with it.
-    ensures rides_on { first_instead sent_local rides ≡ op.Let (var_id 0) (node.Number (pos 7) ∷ [])
-        ∷ op.GoWith (entry_id 2) (host_id 1) (var_id 0 ∷ []) ∷ [] }
-    ensures local_rides { CanBeTyped sent_local rides }
+    ensures local_rides { CanBeTyped sent_local as_given }
     // It rides where the entry behind is pushed between.
-    ensures rides_on_past { first_instead lent_local rides ≡ op.Let (var_id 0) (node.Number (pos 7) ∷ [])
-        ∷ op.Push (entry_id 2) ∷ op.GoWith (entry_id 3) (host_id 1) (var_id 0 ∷ [])
-        ∷ op.Read (field_id 1) first_element
-        ∷ op.Put (field_id 1) first_element (node.Temp 0 ∷ node.Number (pos 1) ∷ node.Binary operator.Add ∷ [])
-        ∷ op.Back ∷ [] }
-    ensures rides_past_push { CanBeTyped lent_local rides }
+    ensures rides_past_push { CanBeTyped lent_local as_given }
     // A parameter rides with the call, behind the push of the entry where the result is kept.
-    ensures rides_on_called { first_instead called rides_called
-        ≡ op.Frame (site_id 1) ∷ op.Arg (var_id 1) (node.Number (pos 3) ∷ [])
-        ∷ op.Push (entry_id 3) ∷ op.CallWith (entry_id 2) (host_id 1) (var_id 1 ∷ [])
-        ∷ op.Let (var_id 0) (node.Var (var_id 2) ∷ []) ∷ op.Back ∷ [] }
-    ensures parameter_rides { CanBeTyped called rides_called }
+    ensures parameter_rides { CanBeTyped called as_given }
     // What rides was not sent, and what was sent does not ride.
     ensures not_sent_and_rides { ¬ CanBeTyped sent_local sent_and_rides }
     // A thread is not handed over, and no method called, while something is left to be sent that does not ride.
@@ -156,6 +146,32 @@ pub fn worked_laws()
         ∷ op.Put (field_id 0) first_element (node.Temp 0 ∷ node.Var (var_id 0) ∷ node.Binary operator.Add ∷ [])
         ∷ op.Back ∷ [] }
     ensures rides_entries { entry_hosts sent_local ≡ 0 ∷ 0 ∷ 1 ∷ [] }
+    // It is sent to another host that reads it too.
+    ensures two_read { operations_on read_by_two 0 ≡ op.Let (var_id 0) (node.Number (pos 7) ∷ [])
+        ∷ op.Send (var_id 0) (host_id 2) ∷ op.GoWith (entry_id 2) (host_id 1) (var_id 0 ∷ []) ∷ [] }
+    // It rides where the host that hands the right to go on gets it back.
+    ensures rides_past { operations_on lent_local 0 ≡ op.Let (var_id 0) (node.Number (pos 7) ∷ [])
+        ∷ op.Push (entry_id 2) ∷ op.GoWith (entry_id 3) (host_id 1) (var_id 0 ∷ [])
+        ∷ op.Read (field_id 1) first_element
+        ∷ op.Put (field_id 1) first_element (node.Temp 0 ∷ node.Number (pos 1) ∷ node.Binary operator.Add ∷ [])
+        ∷ op.Back ∷ [] }
+    // It does not where another host is asked to take it back, so it is sent.
+    ensures sent_past { operations_on lent_past_local 0 ≡ op.Let (var_id 0) (node.Number (pos 7) ∷ [])
+        ∷ op.Send (var_id 0) (host_id 1) ∷ op.Ask (entry_id 2) (host_id 2) ∷ op.Go (entry_id 3) (host_id 1) ∷ [] }
+    // Nor where another statement stands between on the same host, or where a host that was lent the right to go on gives
+    // it back.
+    ensures sent_before { operations_on read_later 0 ≡ op.Let (var_id 0) (node.Number (pos 7) ∷ [])
+        ∷ op.Send (var_id 0) (host_id 1) ∷ op.Put (field_id 1) first_element (node.Number (pos 1) ∷ [])
+        ∷ op.Go (entry_id 2) (host_id 1) ∷ [] }
+    ensures sent_back { operations_on set_where_lent 1 ≡ op.Let (var_id 0) (node.Number (pos 7) ∷ [])
+        ∷ op.Send (var_id 0) (host_id 0) ∷ op.Back ∷ [] }
+    // A result that is kept rides, and no parameter rides where the method stands on the host of the call.
+    ensures result_rides { operations_on kept_and_read 0
+        ≡ op.Frame (site_id 1) ∷ op.Arg (var_id 1) (node.Number (pos 3) ∷ [])
+        ∷ op.Push (entry_id 3) ∷ op.Call (entry_id 2) (host_id 0)
+        ∷ op.Let (var_id 0) (node.Var (var_id 2) ∷ [])
+        ∷ op.GoWith (entry_id 4) (host_id 1) (var_id 0 ∷ [])
+        ∷ op.Ret (var_id 2) (node.Var (var_id 1) ∷ []) ∷ op.Back ∷ [] }
     // Where the way back is long, the host of what follows is asked to take it back.
     ensures past { operations_on lent_past 0
         ≡ op.Ask (entry_id 2) (host_id 2) ∷ op.Go (entry_id 3) (host_id 1) ∷ [] }

@@ -3,23 +3,11 @@ use Rattle.msg_cost.specs.Moves.{is_trusted_by}
 use Rattle.split_rules.proofs.TypingExamples as example
 use Rattle.split_rules.proofs.laws.typing_examples.Goals as goal
 
-pub returns-clause-rides_on : goal.returns-clause-rides_on
-unfolding is_trusted_by
-returns-clause-rides_on c = refl
-
 pub returns-clause-local_rides : goal.returns-clause-local_rides
 returns-clause-local_rides c = example.local_rides
 
-pub returns-clause-rides_on_past : goal.returns-clause-rides_on_past
-unfolding is_trusted_by
-returns-clause-rides_on_past c = refl
-
 pub returns-clause-rides_past_push : goal.returns-clause-rides_past_push
 returns-clause-rides_past_push c = example.rides_past_push
-
-pub returns-clause-rides_on_called : goal.returns-clause-rides_on_called
-unfolding is_trusted_by
-returns-clause-rides_on_called c = refl
 
 pub returns-clause-parameter_rides : goal.returns-clause-parameter_rides
 returns-clause-parameter_rides c = example.parameter_rides

@@ -12,6 +12,30 @@ pub returns-clause-rides_entries : goal.returns-clause-rides_entries
 unfolding is_trusted_by
 returns-clause-rides_entries c = refl
 
+pub returns-clause-two_read : goal.returns-clause-two_read
+unfolding is_trusted_by
+returns-clause-two_read c = refl
+
+pub returns-clause-rides_past : goal.returns-clause-rides_past
+unfolding is_trusted_by
+returns-clause-rides_past c = refl
+
+pub returns-clause-sent_past : goal.returns-clause-sent_past
+unfolding is_trusted_by
+returns-clause-sent_past c = refl
+
+pub returns-clause-sent_before : goal.returns-clause-sent_before
+unfolding is_trusted_by
+returns-clause-sent_before c = refl
+
+pub returns-clause-sent_back : goal.returns-clause-sent_back
+unfolding is_trusted_by
+returns-clause-sent_back c = refl
+
+pub returns-clause-result_rides : goal.returns-clause-result_rides
+unfolding is_trusted_by
+returns-clause-result_rides c = refl
+
 pub returns-clause-past : goal.returns-clause-past
 unfolding is_trusted_by
 returns-clause-past c = refl
