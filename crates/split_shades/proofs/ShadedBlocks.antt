@@ -1,5 +1,5 @@
 -- Blocks: from a lane on, all emissions of a block are shaded.
-use Rattle.std.proofs.Common.{◌≡◌, ◌∙◌, false, inl, inr, List, [], ◌∷◌, ◌++◌, length, refl, ap, sym, subst}
+use Rattle.std.proofs.Common.{◌≡◌, ◌∙◌, ℕ, false, inl, inr, List, [], ◌∷◌, ◌++◌, length, refl, ap, sym, subst}
 use Rattle.std.proofs.Common.{append_assoc}
 use Rattle.std.proofs.Common.{eq-eqb, ne_eqb}
 use Rattle.std.proofs.lemmas.Bool.Decides.{eqb_tells}
