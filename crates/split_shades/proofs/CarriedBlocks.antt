@@ -1,6 +1,6 @@
 -- What the walk over a block gives carries the program labels of its statements, and of the block where the right to go
 -- on moves.
-use Rattle.std.proofs.Common.{◌≡◌, ◌∙◌, ℕ, inl, inr, List, [], ◌∷◌, ◌++◌, map, refl, ap, sym, subst}
+use Rattle.std.proofs.Common.{◌≡◌, ◌∙◌, ℕ, suc, ◌+◌, inl, inr, List, [], ◌∷◌, ◌++◌, map, refl, ap, sym, subst}
 use Rattle.std.proofs.lemmas.Bool.Decides.{eqb_tells}
 use Rattle.std.specs.Prelude.{Option, Some, None, ⊤}
 use Rattle.std.specs.List.{AllByRecursion}
@@ -9,6 +9,7 @@ use Rattle.js_base.specs.declared.ids.VarId.{VarId}
 use Rattle.js_base.specs.declared.ids.StmtId.{StmtId}
 use Rattle.js_base.specs.declared.ids.MethodId.{MethodId}
 use Rattle.js_base.specs.declared.ids.SiteId.{SiteId}
+use Rattle.js_base.specs.declared.ids.EntryId.{EntryId}
 use Rattle.label_lattice.specs.declared.label.Label.{Label}
 use Rattle.label_lattice.specs.Lattice.{join_of}
 use Rattle.jif_tree.specs.Trees.{ExprTree, BlockTree, done, set_local, set_field, set_element, branch, loop, call}
@@ -21,13 +22,14 @@ use Rattle.host_code.specs.declared.instruction.Op.TheVariants as op
 use Rattle.need_labels.specs.Labelled.{Labelled, pc_of, all_labels}
 use Rattle.need_labels.specs.Plan.{statement_host}
 use Rattle.msg_cost.specs.declared.spot.Spot.{Spot}
-use Rattle.msg_cost.specs.Moves.{PlannedShape, is_same, end_of, entered, next_spot, own_statements}
+use Rattle.msg_cost.specs.Moves.{PlannedShape, is_same, end_of, entered, next_spot, carried_to, called_home}
+use Rattle.msg_cost.specs.Moves.{own_statements}
 use Rattle.split_rules.specs.Emissions.{Emission, stands, lands, Counts, counts_after}
 use Rattle.split_rules.specs.Expressions.{Reading, readings_of, reads_in}
 use Rattle.split_rules.specs.Positions.{IsOf, all_statements}
-use Rattle.split_rules.specs.Walk.{Walked, Around, Lane, walked_in, lane_on, lane_at, entry_id, emitted, read_emissions}
-use Rattle.split_rules.specs.Walk.{under_token, expr_emissions, other_readers, leave_emissions}
-use Rattle.split_rules.specs.Walk.{enter_emissions, move_emissions, argument_emissions}
+use Rattle.split_rules.specs.Walk.{Walked, Around, Lane, walked_in, lane_on, lane_behind, entry_id, emitted, read_emissions}
+use Rattle.split_rules.specs.Walk.{under_token, expr_emissions, told_readers, leave_emissions, go_with, call_with}
+use Rattle.split_rules.specs.Walk.{enter_emissions, move_emissions, argument_emissions, riding_params}
 use Rattle.split_rules.specs.Walk.{kept_emissions, call_emissions, result_emissions, block_emissions}
 use Rattle.split_rules.proofs.BackedLabels.{all_first, all_second, all_both}
 use Rattle.split_rules.proofs.LabelsKept.{AreFinal}
@@ -135,18 +137,31 @@ leave_carried basis planned around lane block = by lane.spot.host lane.spot.back
   where
     by : (host : HostId) (back : Option HostId) (number : ℕ) →
         AllCarried basis planned
-        (leave_emissions around (record { spot = record { host = host; back = back }; return_entry = number }))
+        (leave_emissions around (record {
+          spot = record { host = host; back = back };
+          return_entry = number;
+          riding = lane.riding;
+        }))
     by host None number = tt
     by host (Some back) number = (block, (tt, tt))
 
+-- whatever rides where the thread is handed over
+go_carried : (basis : Basis) (planned : PlannedShape) (host : HostId) (label : Label) (statement : StmtId)
+    (riders : List VarId) (there : EntryId) (on : HostId) → IsBlockOf basis statement label →
+    CarriesWell basis planned host label statement (go_with riders there on)
+go_carried basis planned host label statement [] there on block = block
+go_carried basis planned host label statement (x ∷ riders) there on block = block
+
 enter_carried : (basis : Basis) (planned : PlannedShape) (walked : Walked) (around : Around) (counts : Counts)
-    (from host : HostId) (back : Option HostId) (statements : List StmtId) →
+    (from : HostId) (riders : List VarId) (host : HostId) (back : Option HostId) (statements : List StmtId) →
     IsBlockOf basis around.owner around.pc →
     AllCarried basis planned
-    (enter_emissions walked around counts from (record { host = host; back = back }) statements)
-enter_carried basis planned walked around counts from host None statements block =
-    one_of_two (AllCarried basis planned) (is_same from host) [] _ tt ((around.owner, block), (block, (tt, tt)))
-enter_carried basis planned walked around counts from host (Some back) statements block =
+    (enter_emissions walked around counts from riders (record { host = host; back = back }) statements)
+enter_carried basis planned walked around counts from riders host None statements block =
+    let goes = go_carried basis planned from around.pc around.owner riders (entry_id counts.entries) host block in
+    one_of_two (AllCarried basis planned) (is_same from host) [] _ tt ((around.owner, block), (goes, (tt, tt)))
+enter_carried basis planned walked around counts from riders host (Some back) statements block =
+    let goes = go_carried basis planned from around.pc around.owner riders (entry_id (counts.entries + 1)) host block in
     one_of_two (AllCarried basis planned) (is_same from host) [] _ tt (
       (around.owner, block),
       (
@@ -154,7 +169,7 @@ enter_carried basis planned walked around counts from host (Some back) statement
         (
           one_of_two (CarriesWell basis planned from around.pc around.owner) (is_same from back)
               (op.Push (entry_id counts.entries)) (op.Ask (entry_id counts.entries) back) (inr block) block,
-          (block, (tt, tt)),
+          (goes, (tt, tt)),
         ),
       ),
     )
@@ -165,9 +180,10 @@ move_carried : (basis : Basis) (planned : PlannedShape) (walked : Walked) (aroun
 move_carried basis planned walked around counts lane next statements block =
     one_of_two (AllCarried basis planned) (is_same lane.spot.host next.host) [] _ tt
     (then_carried basis planned (leave_emissions around lane)
-    (enter_emissions walked around counts (end_of lane.spot) next statements)
+    (enter_emissions walked around counts (end_of lane.spot) lane.riding next statements)
     (leave_carried basis planned around lane block)
-    (enter_carried basis planned walked around counts (end_of lane.spot) next.host next.back statements block))
+    (enter_carried basis planned walked around counts (end_of lane.spot) lane.riding next.host next.back statements
+    block))
 
 -- the next spot is on the host of the statement
 spot_host : (planned : PlannedShape) (spot : Spot) (statement : StmtId) (others : List StmtId) →
@@ -222,47 +238,60 @@ passes_carried basis planned host label statement x (other ∷ others) own =
     (own, passes_carried basis planned host label statement x others own)
 
 arguments_carried : (basis : Basis) (planned : PlannedShape) (walked : Walked) → walked.planned ≡ planned →
-    (host : HostId) (label : Label) (statement : StmtId) (params : List VarId) (arguments : List ExprTree) →
+    (host home : HostId) (label : Label) (statement : StmtId) (params : List VarId) (arguments : List ExprTree) →
     IsOwn basis planned host label statement →
-    AllCarried basis planned (argument_emissions walked host label statement params arguments)
-arguments_carried basis planned walked same host label statement params [] own = tt
-arguments_carried basis planned walked same host label statement [] (argument ∷ others) own = tt
-arguments_carried basis planned walked same host label statement (param ∷ params) (argument ∷ others) own =
+    AllCarried basis planned (argument_emissions walked host home label statement params arguments)
+arguments_carried basis planned walked same host home label statement params [] own = tt
+arguments_carried basis planned walked same host home label statement [] (argument ∷ others) own = tt
+arguments_carried basis planned walked same host home label statement (param ∷ params) (argument ∷ others) own =
     let reads = expr_emissions host label statement 0 argument in
-    then_carried basis planned _ (argument_emissions walked host label statement params others)
+    let told = told_readers walked.planned host param (Some home) in
+    then_carried basis planned _ (argument_emissions walked host home label statement params others)
     (then_carried basis planned reads _ (expr_carried basis planned host label statement 0 argument own)
-    (own, passes_carried basis planned host label statement param (other_readers walked.planned host param) own))
-    (arguments_carried basis planned walked same host label statement params others own)
+    (own, passes_carried basis planned host label statement param told own))
+    (arguments_carried basis planned walked same host home label statement params others own)
 
 keeps_carried : (basis : Basis) (planned : PlannedShape) (walked : Walked) (host : HostId) (label : Label)
-    (statement : StmtId) (result into : Option VarId) → IsOwn basis planned host label statement →
-    AllCarried basis planned (kept_emissions walked host label statement result into)
-keeps_carried basis planned walked host label statement (Some result) (Some into) own =
-    (own, sends_carried basis planned host label statement into (other_readers walked.planned host into) own)
-keeps_carried basis planned walked host label statement (Some result) None own = tt
-keeps_carried basis planned walked host label statement None (Some into) own = tt
-keeps_carried basis planned walked host label statement None None own = tt
+    (statement : StmtId) (result into : Option VarId) (carried : Option HostId) →
+    IsOwn basis planned host label statement →
+    AllCarried basis planned (kept_emissions walked host label statement result into carried)
+keeps_carried basis planned walked host label statement (Some result) (Some into) carried own =
+    (own, sends_carried basis planned host label statement into (told_readers walked.planned host into carried) own)
+keeps_carried basis planned walked host label statement (Some result) None carried own = tt
+keeps_carried basis planned walked host label statement None (Some into) carried own = tt
+keeps_carried basis planned walked host label statement None None carried own = tt
+
+-- whatever rides with a call
+calls_carried : (basis : Basis) (planned : PlannedShape) (host : HostId) (label : Label) (statement : StmtId)
+    (riders : List VarId) (there : EntryId) (on : HostId) → IsOwn basis planned host label statement →
+    CarriesWell basis planned host label statement (call_with riders there on)
+calls_carried basis planned host label statement [] there on own = own
+calls_carried basis planned host label statement (x ∷ riders) there on own = own
 
 call_carried : (basis : Basis) (planned : PlannedShape) (walked : Walked) → walked.planned ≡ planned →
     (around : Around) → IsBlockOf basis around.owner around.pc → (counts : Counts) (host : HostId) (statement : StmtId)
-    (site : SiteId) (method : MethodId) (arguments : List ExprTree) (into : Option VarId) (left : List StmtId) →
-    IsOwn basis planned host around.pc statement →
+    (site : SiteId) (method : MethodId) (arguments : List ExprTree) (into : Option VarId) (carried : Option HostId)
+    (left : List StmtId) → IsOwn basis planned host around.pc statement →
     AllCarried basis planned
-    (call_emissions walked counts host around.pc statement site method arguments into left)
-call_carried basis planned walked same around block counts host statement site method arguments into left own =
-    let called = method_at walked.labelled.program method in (
+    (call_emissions walked counts host around.pc statement site method arguments into carried left)
+call_carried basis planned walked same around block counts host statement site method arguments into carried left own =
+    let called = method_at walked.labelled.program method in
+    let home = called_home walked.planned called in (
       (around.owner, block),
       (
         own,
         then_carried basis planned
-            (argument_emissions walked host around.pc statement (params_of called) arguments) _
-            (arguments_carried basis planned walked same host around.pc statement (params_of called) arguments own) (
+            (argument_emissions walked host home around.pc statement (params_of called) arguments) _
+            (arguments_carried basis planned walked same host home around.pc statement (params_of called) arguments
+            own) (
               inl own,
               (
-                own,
+                calls_carried basis planned host around.pc statement
+                    (riding_params walked.planned host home (params_of called) arguments) (entry_id (suc method.0)) home
+                    own,
                 (
                   tt,
-                  keeps_carried basis planned walked host around.pc statement (result_of called) into own,
+                  keeps_carried basis planned walked host around.pc statement (result_of called) into carried own,
                 ),
               ),
             ),
@@ -316,8 +345,8 @@ block_carried basis planned tree around (set_local heading x value rest) block k
     (move_carried basis planned walked around counts lane next (heading.id ∷ others) block)
     (then_carried basis planned (expr_emissions next.host pc heading.id 0 value) _
     (expr_carried basis planned next.host pc heading.id 0 value own)
-    (own, sends_carried basis planned next.host pc heading.id x (other_readers planned next.host x) own))
-    (block_carried basis planned tree around rest block kept.1 there.1 _ (lane_at counts lane next))
+    (own, sends_carried basis planned next.host pc heading.id x (told_readers planned next.host x (carried_to planned next others)) own))
+    (block_carried basis planned tree around rest block kept.1 there.1 _ (lane_behind walked counts lane next (Some x) others))
 block_carried basis planned tree around (set_field heading field value rest) block kept there counts lane =
     let walked = walked_in basis.principals basis.labelled planned tree in
     let pc = around.pc in
@@ -329,7 +358,7 @@ block_carried basis planned tree around (set_field heading field value rest) blo
     (move_carried basis planned walked around counts lane next (heading.id ∷ others) block)
     (then_carried basis planned (expr_emissions next.host pc heading.id 0 value) _
     (expr_carried basis planned next.host pc heading.id 0 value own) (own, tt))
-    (block_carried basis planned tree around rest block kept.1 there.1 _ (lane_at counts lane next))
+    (block_carried basis planned tree around rest block kept.1 there.1 _ (lane_behind walked counts lane next None others))
 block_carried basis planned tree around (set_element heading field index value rest) block kept there counts lane =
     let walked = walked_in basis.principals basis.labelled planned tree in
     let pc = around.pc in
@@ -344,7 +373,7 @@ block_carried basis planned tree around (set_element heading field index value r
     (then_carried basis planned (one ++ two) _
     (then_carried basis planned one two (expr_carried basis planned next.host pc heading.id 0 index own)
     (expr_carried basis planned next.host pc heading.id (reads_in index) value own)) (own, tt))
-    (block_carried basis planned tree around rest block kept.1 there.1 _ (lane_at counts lane next))
+    (block_carried basis planned tree around rest block kept.1 there.1 _ (lane_behind walked counts lane next None others))
 block_carried basis planned tree around (branch heading guard first second rest) block kept there counts lane =
     let walked = walked_in basis.principals basis.labelled planned tree in
     let pc = around.pc in
@@ -389,7 +418,7 @@ block_carried basis planned tree around (branch heading guard first second rest)
     (all_first (IsOf basis.labelled.program) (all_statements second) _ inner) _ (lane_on host))) (tt, tt))
     (block_carried basis planned tree around rest block kept.3
     (all_second (IsOf basis.labelled.program) (all_statements second) _ inner) (counts_after here whole)
-    (lane_at counts lane next))
+    (lane_behind walked counts lane next None others))
 block_carried basis planned tree around (loop heading guard inner rest) block kept there counts lane =
     let walked = walked_in basis.principals basis.labelled planned tree in
     let others = own_statements rest in
@@ -419,7 +448,7 @@ block_carried basis planned tree around (loop heading guard inner rest) block ke
     (all_first (IsOf basis.labelled.program) (all_statements inner) _ there.1) _ (lane_on host))) (tt, tt))
     (block_carried basis planned tree around rest block kept.2
     (all_second (IsOf basis.labelled.program) (all_statements inner) _ there.1) (counts_after here whole)
-    (lane_at counts lane next))
+    (lane_behind walked counts lane next None others))
 block_carried basis planned tree around (call heading site method arguments into rest) block kept there counts lane =
     let walked = walked_in basis.principals basis.labelled planned tree in
     let others = own_statements rest in
@@ -430,8 +459,8 @@ block_carried basis planned tree around (call heading site method arguments into
     (move_carried basis planned walked around counts lane next (heading.id ∷ others) block)
     (call_carried basis planned walked refl around block
     (counts_after counts (move_emissions walked around counts lane next (heading.id ∷ others))) next.host heading.id
-    site method arguments into (under_token planned next others) own)
-    (block_carried basis planned tree around rest block kept.1 there.1 _ (lane_at counts lane next))
+    site method arguments into (carried_to planned next others) (under_token planned next others) own)
+    (block_carried basis planned tree around rest block kept.1 there.1 _ (lane_behind walked counts lane next into others))
 block_carried basis planned tree around (give_back heading value rest) block kept there counts lane =
     let walked = walked_in basis.principals basis.labelled planned tree in
     let pc = around.pc in
@@ -444,4 +473,4 @@ block_carried basis planned tree around (give_back heading value rest) block kep
     (then_carried basis planned (expr_emissions next.host pc heading.id 0 value) _
     (expr_carried basis planned next.host pc heading.id 0 value own)
     (result_carried basis planned walked next.host pc heading.id value own))
-    (block_carried basis planned tree around rest block kept.1 there.1 _ (lane_at counts lane next))
+    (block_carried basis planned tree around rest block kept.1 there.1 _ (lane_behind walked counts lane next None others))

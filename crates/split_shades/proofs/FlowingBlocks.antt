@@ -99,15 +99,15 @@ call_flows : (principals : Declared) (labelled : Labelled) (planned : PlannedSha
     AreResultsLabelled labelled.program → (labels final : VariableLabels) → AreFinal labelled final →
     Stay labels final → Stay (declared_labels labelled.program) labels → (own called : MethodId) (pc : Label)
     (found : Option MethodTree) (arguments : List ExprTree) (into : Option VarId) →
-    method_at labelled.program called ≡ found → AllByRecursion (IsExprIn labelled.program own) arguments →
-    AllByRecursion (IsExprLabelled labels) arguments → AllByRecursion (IsLabelled labels) (params_of found) →
-    IsLabelledIfAny labels into →
+    method_at labelled.program called ≡ found → is_some (result_of found) ≡ is_some into →
+    AllByRecursion (IsExprIn labelled.program own) arguments → AllByRecursion (IsExprLabelled labels) arguments →
+    AllByRecursion (IsLabelled labels) (params_of found) → IsLabelledIfAny labels into →
     let setting = setting_of principals labelled.program tree in
     AllByRecursion (Holds principals) (call_constraints setting pc labels found arguments into) →
     TellsUnder principals labelled planned tree pc arguments →
     CallFlows principals labelled planned pc found arguments into
 call_flows principals labelled planned tree results labels final are stay since own called pc found arguments into is
-    there values has into_has holds told =
+    both there values has into_has holds told =
     let setting = setting_of principals labelled.program tree in
     let params = params_of found in
     let flows = all_first (Holds principals) (argument_flows setting pc labels arguments params) _ holds.1 in
@@ -117,7 +117,7 @@ call_flows principals labelled planned tree results labels final are stay since 
       arguments_flow = arguments_flow principals labelled planned tree labels final are stay own pc params arguments
           there values has flows told;
       result_flows = result_flows_on principals labelled planned tree labels final are stay since pc (result_of found)
-          into (declared found is) into_has kept;
+          into both (declared found is) into_has kept;
     }
   where
     declared : (it : Option MethodTree) → method_at labelled.program called ≡ it →
@@ -283,8 +283,9 @@ block_flows principals labelled planned tree results method gives same_gives fin
     let P : Label → Type 0 = λ it. TellsUnder principals labelled planned tree it arguments in
     let told = subst P kept.0 uses.0.tellings in
     let asked = all_second (Holds principals) (flat_map (expr_constraints setting pc labels) arguments) _ met.0 in
+    let both = ap (λ found. is_some (result_of found)) there.0.1 ∙ there.0.3 in
     let flows = call_flows principals labelled planned tree results labels final are stays since method called pc
-    (method_at labelled.program called) arguments into refl there.1 values.0 has.0 has.1 asked told in (
+    (method_at labelled.program called) arguments into refl both there.1 values.0 has.0 has.1 asked told in (
       flows.begins,
       flows.arguments_flow,
       flows.result_flows,

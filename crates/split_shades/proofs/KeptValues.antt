@@ -140,20 +140,22 @@ still_labelled labels later stay x (label, there) = (label, stay.kept x.0 label 
 pub result_flows_on : (principals : Declared) (labelled : Labelled) (planned : PlannedShape) (tree : MethodTree)
     (labels final : VariableLabels) → AreFinal labelled final → Stay labels final →
     Stay (declared_labels labelled.program) labels → (pc : Label) (result into : Option VarId) →
-    IsLabelledIfAny (declared_labels labelled.program) result → IsLabelledIfAny labels into →
+    is_some result ≡ is_some into → IsLabelledIfAny (declared_labels labelled.program) result →
+    IsLabelledIfAny labels into →
     AllByRecursion (Holds principals) (result_flows pc labels result into) →
     ResultFlows (basis_of principals labelled) planned pc result into
-result_flows_on principals labelled planned tree labels final are stay since pc (Some result) (Some into) declared has
-    holds =
+result_flows_on principals labelled planned tree labels final are stay since pc (Some result) (Some into) both declared
+    has holds =
     let there = still_labelled (declared_labels labelled.program) labels since result declared in
     let from = variable_label labels result in
     value_kept principals labelled planned tree labels final are stay pc (local result) there tt from
     (variable_label labels into) (label_of labelled into) (flows_self from) holds.0
     (sym (label_there labelled labels final are stay into has))
-result_flows_on principals labelled planned tree labels final are stay since pc (Some result) None declared has holds =
-    tt
-result_flows_on principals labelled planned tree labels final are stay since pc None (Some into) declared has holds = tt
-result_flows_on principals labelled planned tree labels final are stay since pc None None declared has holds = tt
+result_flows_on principals labelled planned tree labels final are stay since pc (Some result) None both declared has
+    holds = tt
+result_flows_on principals labelled planned tree labels final are stay since pc None (Some into) both declared has
+    holds = absurd (true≢false (sym both))
+result_flows_on principals labelled planned tree labels final are stay since pc None None both declared has holds = tt
 
 pub answer_flows : (principals : Declared) (labelled : Labelled) (planned : PlannedShape) (tree : MethodTree)
     (labels final : VariableLabels) → AreFinal labelled final → Stay labels final → (pc : Label) (value : ExprTree) →

@@ -3,6 +3,7 @@ pub mod KeptValues
 pub mod FlowingBlocks
 pub mod FlowingPrograms
 pub mod ShadedStates
+pub mod ShadedRiders
 pub mod ShadedMoves
 pub mod ShadedValues
 pub mod ShadedStatements

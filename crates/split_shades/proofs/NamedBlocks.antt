@@ -7,6 +7,7 @@ use Rattle.js_base.specs.declared.ids.VarId.{VarId}
 use Rattle.js_base.specs.declared.ids.StmtId.{StmtId}
 use Rattle.js_base.specs.declared.ids.MethodId.{MethodId}
 use Rattle.js_base.specs.declared.ids.SiteId.{SiteId}
+use Rattle.js_base.specs.declared.ids.EntryId.{EntryId}
 use Rattle.label_lattice.specs.declared.label.Label.{Label}
 use Rattle.jif_tree.specs.Trees.{ExprTree, BlockTree, done, set_local, set_field, set_element, branch, loop, call}
 use Rattle.jif_tree.specs.Trees.{give_back, MethodTree}
@@ -14,13 +15,13 @@ use Rattle.jif_tree.specs.LabelRules.{method_at, params_of, result_of}
 use Rattle.host_code.specs.declared.instruction.Op.TheVariants as op
 use Rattle.need_labels.specs.Labelled.{pc_of}
 use Rattle.msg_cost.specs.declared.spot.Spot.{Spot}
-use Rattle.msg_cost.specs.Moves.{PlannedShape, is_same, end_of, next_spot, own_statements, called_home}
+use Rattle.msg_cost.specs.Moves.{PlannedShape, is_same, end_of, next_spot, carried_to, own_statements, called_home}
 use Rattle.split_rules.specs.Emissions.{Emission, instruction, entry, stands, lands, Counts, counts_after, counts_with}
 use Rattle.split_rules.specs.Expressions.{Reading, readings_of, reads_in}
 use Rattle.split_rules.specs.Positions.{IsOf, all_statements}
-use Rattle.split_rules.specs.Walk.{Walked, Around, Lane, walked_in, lane_on, lane_at, entry_id, emitted, read_emissions}
-use Rattle.split_rules.specs.Walk.{under_token, expr_emissions, other_readers, leave_emissions, enter_emissions}
-use Rattle.split_rules.specs.Walk.{move_emissions, argument_emissions, kept_emissions, call_emissions, result_emissions}
+use Rattle.split_rules.specs.Walk.{Walked, Around, Lane, walked_in, lane_on, lane_behind, entry_id, emitted, read_emissions}
+use Rattle.split_rules.specs.Walk.{under_token, expr_emissions, told_readers, leave_emissions, enter_emissions}
+use Rattle.split_rules.specs.Walk.{go_with, call_with, riding_params, move_emissions, argument_emissions, kept_emissions, call_emissions, result_emissions}
 use Rattle.split_rules.specs.Walk.{block_emissions}
 use Rattle.split_rules.proofs.BackedLabels.{all_first, all_second, all_both}
 use Rattle.split_rules.proofs.WalkedBlocks.{inside_of, branch_front, branch_own, loop_front, loop_own}
@@ -81,7 +82,11 @@ leave_named has basis around lane = by lane.spot.host lane.spot.back lane.return
   where
     by : (host : HostId) (back : Option HostId) (number : ℕ) →
         AllNamed has basis
-        (leave_emissions around (record { spot = record { host = host; back = back }; return_entry = number }))
+        (leave_emissions around (record {
+          spot = record { host = host; back = back };
+          return_entry = number;
+          riding = lane.riding;
+        }))
     by host None number = tt
     by host (Some back) number = (tt, (tt, tt))
 
@@ -91,20 +96,33 @@ leave_counts counts around lane = by lane.spot.host lane.spot.back lane.return_e
   where
     by : (host : HostId) (back : Option HostId) (number : ℕ) →
         counts_after counts
-        (leave_emissions around (record { spot = record { host = host; back = back }; return_entry = number }))
+        (leave_emissions around (record {
+          spot = record { host = host; back = back };
+          return_entry = number;
+          riding = lane.riding;
+        }))
         ≡ counts
     by host None number = refl
     by host (Some back) number = refl
 
+-- whatever rides where the thread is handed over
+go_named : (has : ℕ → Label → Type 0) (basis : Basis) (label : Label) (statement : StmtId) (riders : List VarId)
+    (there : EntryId) (on : HostId) → has there.0 label → IsBlockOf basis statement label →
+    NamesWell has basis label statement (go_with riders there on)
+go_named has basis label statement [] there on told block = (told, block)
+go_named has basis label statement (x ∷ riders) there on told block = (told, block)
+
 enter_named : (has : ℕ → Label → Type 0) (basis : Basis) (walked : Walked) (around : Around) (counts : Counts)
-    (from host : HostId) (back : Option HostId) (statements : List StmtId) →
+    (from : HostId) (riders : List VarId) (host : HostId) (back : Option HostId) (statements : List StmtId) →
     IsBlockOf basis around.owner around.pc →
     AreNamed has basis counts
-    (enter_emissions walked around counts from (record { host = host; back = back }) statements)
-enter_named has basis walked around counts from host None statements block =
+    (enter_emissions walked around counts from riders (record { host = host; back = back }) statements)
+enter_named has basis walked around counts from riders host None statements block =
+    let goes = go_named has basis around.pc around.owner riders (entry_id counts.entries) host in
     one_of_two (AreNamed has basis counts) (is_same from host) [] _ (λ told. tt)
-    (λ told. (tt, ((told.0, block), (tt, tt))))
-enter_named has basis walked around counts from host (Some back) statements block =
+    (λ told. (tt, (goes told.0 block, (tt, tt))))
+enter_named has basis walked around counts from riders host (Some back) statements block =
+    let goes = go_named has basis around.pc around.owner riders (entry_id (counts.entries + 1)) host in
     let next : suc counts.entries ≡ counts.entries + 1 = omega arith in
     let P : ℕ → Type 0 = λ at. has at around.pc in
     one_of_two (AreNamed has basis counts) (is_same from host) [] _ (λ told. tt) (λ told. (
@@ -115,7 +133,7 @@ enter_named has basis walked around counts from host (Some back) statements bloc
           one_of_two (NamesWell has basis around.pc around.owner) (is_same from back)
               (op.Push (entry_id counts.entries)) (op.Ask (entry_id counts.entries) back)
               (around.pc, told.0, inl block) (told.0, block),
-          ((subst P next told.1.0, block), (tt, tt)),
+          (goes (subst P next told.1.0) block, (tt, tt)),
         ),
       ),
     ))
@@ -124,12 +142,12 @@ move_named : (has : ℕ → Label → Type 0) (basis : Basis) (walked : Walked) 
     (lane : Lane) (next : Spot) (statements : List StmtId) → IsBlockOf basis around.owner around.pc →
     AreNamed has basis counts (move_emissions walked around counts lane next statements)
 move_named has basis walked around counts lane next statements block =
-    let entering = enter_emissions walked around counts (end_of lane.spot) next statements in
+    let entering = enter_emissions walked around counts (end_of lane.spot) lane.riding next statements in
     let P : Counts → Type 0 = λ it. AreNamed has basis it entering in
     one_of_two (AreNamed has basis counts) (is_same lane.spot.host next.host) [] _ (λ told. tt)
     (then_named has basis counts (leave_emissions around lane) entering (λ told. leave_named has basis around lane)
     (subst P (sym (leave_counts counts around lane))
-    (enter_named has basis walked around counts (end_of lane.spot) next.host next.back statements block)))
+    (enter_named has basis walked around counts (end_of lane.spot) lane.riding next.host next.back statements block)))
 
 -- ---- statements
 
@@ -158,47 +176,58 @@ passes_named has basis host label statement x [] = tt
 passes_named has basis host label statement x (other ∷ others) =
     (tt, passes_named has basis host label statement x others)
 
-arguments_named : (has : ℕ → Label → Type 0) (basis : Basis) (walked : Walked) (host : HostId) (label : Label)
+arguments_named : (has : ℕ → Label → Type 0) (basis : Basis) (walked : Walked) (host home : HostId) (label : Label)
     (statement : StmtId) (params : List VarId) (arguments : List ExprTree) →
-    AllNamed has basis (argument_emissions walked host label statement params arguments)
-arguments_named has basis walked host label statement params [] = tt
-arguments_named has basis walked host label statement [] (argument ∷ others) = tt
-arguments_named has basis walked host label statement (param ∷ params) (argument ∷ others) =
+    AllNamed has basis (argument_emissions walked host home label statement params arguments)
+arguments_named has basis walked host home label statement params [] = tt
+arguments_named has basis walked host home label statement [] (argument ∷ others) = tt
+arguments_named has basis walked host home label statement (param ∷ params) (argument ∷ others) =
     let reads = expr_emissions host label statement 0 argument in
-    all_both (IsWellNamed has basis) _ (argument_emissions walked host label statement params others)
+    all_both (IsWellNamed has basis) _ (argument_emissions walked host home label statement params others)
     (all_both (IsWellNamed has basis) reads _ (expr_named has basis host label statement 0 argument)
-    (tt, passes_named has basis host label statement param (other_readers walked.planned host param)))
-    (arguments_named has basis walked host label statement params others)
+    (tt, passes_named has basis host label statement param (told_readers walked.planned host param (Some home))))
+    (arguments_named has basis walked host home label statement params others)
 
 keeps_named : (has : ℕ → Label → Type 0) (basis : Basis) (walked : Walked) (host : HostId) (label : Label)
-    (statement : StmtId) (result into : Option VarId) →
-    AllNamed has basis (kept_emissions walked host label statement result into)
-keeps_named has basis walked host label statement (Some result) (Some into) =
-    (tt, sends_named has basis host label statement into (other_readers walked.planned host into))
-keeps_named has basis walked host label statement (Some result) None = tt
-keeps_named has basis walked host label statement None (Some into) = tt
-keeps_named has basis walked host label statement None None = tt
+    (statement : StmtId) (result into : Option VarId) (carried : Option HostId) →
+    AllNamed has basis (kept_emissions walked host label statement result into carried)
+keeps_named has basis walked host label statement (Some result) (Some into) carried =
+    (tt, sends_named has basis host label statement into (told_readers walked.planned host into carried))
+keeps_named has basis walked host label statement (Some result) None carried = tt
+keeps_named has basis walked host label statement None (Some into) carried = tt
+keeps_named has basis walked host label statement None None carried = tt
+
+-- whatever rides with a call
+calls_named : (has : ℕ → Label → Type 0) (basis : Basis) (label : Label) (statement : StmtId) (riders : List VarId)
+    (there : EntryId) (on : HostId) → NamesWell has basis label statement (op.Call there on) →
+    NamesWell has basis label statement (call_with riders there on)
+calls_named has basis label statement [] there on enters = enters
+calls_named has basis label statement (x ∷ riders) there on enters = enters
 
 call_named : (has : ℕ → Label → Type 0) (basis : Basis) (walked : Walked) (counts : Counts) (host : HostId)
     (label : Label) (statement : StmtId) (site : SiteId) (method : MethodId) (arguments : List ExprTree)
-    (into : Option VarId) (left : List StmtId) → IsPushedFor basis statement label →
+    (into : Option VarId) (carried : Option HostId) (left : List StmtId) → IsPushedFor basis statement label →
     NamesWell has basis label statement (op.Call (entry_id (suc method.0)) (called_home walked.planned
     (method_at walked.labelled.program method))) →
-    AreNamed has basis counts (call_emissions walked counts host label statement site method arguments into left)
-call_named has basis walked counts host label statement site method arguments into left pushed enters told =
-    let called = method_at walked.labelled.program method in (
+    AreNamed has basis counts
+    (call_emissions walked counts host label statement site method arguments into carried left)
+call_named has basis walked counts host label statement site method arguments into carried left pushed enters told =
+    let called = method_at walked.labelled.program method in
+    let home = called_home walked.planned called in (
       tt,
       (
         tt,
         all_both (IsWellNamed has basis)
-            (argument_emissions walked host label statement (params_of called) arguments) _
-            (arguments_named has basis walked host label statement (params_of called) arguments) (
+            (argument_emissions walked host home label statement (params_of called) arguments) _
+            (arguments_named has basis walked host home label statement (params_of called) arguments) (
               (label, told.0, pushed),
               (
-                enters,
+                calls_named has basis label statement
+                    (riding_params walked.planned host home (params_of called) arguments) (entry_id (suc method.0)) home
+                    enters,
                 (
                   tt,
-                  keeps_named has basis walked host label statement (result_of called) into,
+                  keeps_named has basis walked host label statement (result_of called) into carried,
                 ),
               ),
             ),
@@ -250,8 +279,9 @@ block_named has basis planned tree around (set_local heading x value rest) block
     (move_named has basis walked around counts lane next (heading.id ∷ others) block)
     (λ told. all_both (IsWellNamed has basis) (expr_emissions next.host pc heading.id 0 value) _
     (expr_named has basis next.host pc heading.id 0 value)
-    (tt, sends_named has basis next.host pc heading.id x (other_readers planned next.host x)))
-    (block_named has basis planned tree around rest block kept.1 there.1 _ (lane_at counts lane next))
+    (tt, sends_named has basis next.host pc heading.id x
+    (told_readers planned next.host x (carried_to planned next others))))
+    (block_named has basis planned tree around rest block kept.1 there.1 _ (lane_behind walked counts lane next (Some x) others))
 block_named has basis planned tree around (set_field heading field value rest) block kept there counts lane =
     let walked = walked_in basis.principals basis.labelled planned tree in
     let pc = around.pc in
@@ -261,7 +291,7 @@ block_named has basis planned tree around (set_field heading field value rest) b
     (move_named has basis walked around counts lane next (heading.id ∷ others) block)
     (λ told. all_both (IsWellNamed has basis) (expr_emissions next.host pc heading.id 0 value) _
     (expr_named has basis next.host pc heading.id 0 value) (tt, tt))
-    (block_named has basis planned tree around rest block kept.1 there.1 _ (lane_at counts lane next))
+    (block_named has basis planned tree around rest block kept.1 there.1 _ (lane_behind walked counts lane next None others))
 block_named has basis planned tree around (set_element heading field index value rest) block kept there counts lane =
     let walked = walked_in basis.principals basis.labelled planned tree in
     let pc = around.pc in
@@ -274,7 +304,7 @@ block_named has basis planned tree around (set_element heading field index value
     (all_both (IsWellNamed has basis) (expr_emissions next.host pc heading.id 0 index) _
     (expr_named has basis next.host pc heading.id 0 index)
     (expr_named has basis next.host pc heading.id (reads_in index) value)) (tt, tt))
-    (block_named has basis planned tree around rest block kept.1 there.1 _ (lane_at counts lane next))
+    (block_named has basis planned tree around rest block kept.1 there.1 _ (lane_behind walked counts lane next None others))
 block_named has basis planned tree around (branch heading guard first second rest) block kept there counts lane =
     let walked = walked_in basis.principals basis.labelled planned tree in
     let pc = around.pc in
@@ -317,7 +347,7 @@ block_named has basis planned tree around (branch heading guard first second res
     (all_first (IsOf basis.labelled.program) (all_statements second) _ inner) _ (lane_on host))) (λ told. (tt, tt)))
     (block_named has basis planned tree around rest block kept.3
     (all_second (IsOf basis.labelled.program) (all_statements second) _ inner) (counts_after here whole)
-    (lane_at counts lane next))
+    (lane_behind walked counts lane next None others))
 block_named has basis planned tree around (loop heading guard body rest) block kept there counts lane =
     let walked = walked_in basis.principals basis.labelled planned tree in
     let others = own_statements rest in
@@ -345,7 +375,7 @@ block_named has basis planned tree around (loop heading guard body rest) block k
     (all_first (IsOf basis.labelled.program) (all_statements body) _ there.1) _ (lane_on host))) (λ told. (tt, tt)))
     (block_named has basis planned tree around rest block kept.2
     (all_second (IsOf basis.labelled.program) (all_statements body) _ there.1) (counts_after here whole)
-    (lane_at counts lane next))
+    (lane_behind walked counts lane next None others))
 block_named has basis planned tree around (call heading site method arguments into rest) block kept there counts lane =
     let walked = walked_in basis.principals basis.labelled planned tree in
     let others = own_statements rest in
@@ -356,9 +386,9 @@ block_named has basis planned tree around (call heading site method arguments in
     (move_named has basis walked around counts lane next (heading.id ∷ others) block)
     (call_named has basis walked
     (counts_after counts (move_emissions walked around counts lane next (heading.id ∷ others))) next.host around.pc
-    heading.id site method arguments into (under_token planned next others) pushed
+    heading.id site method arguments into (carried_to planned next others) (under_token planned next others) pushed
     (call heading site method arguments into done, there.0, refl, refl))
-    (block_named has basis planned tree around rest block kept.1 there.1 _ (lane_at counts lane next))
+    (block_named has basis planned tree around rest block kept.1 there.1 _ (lane_behind walked counts lane next into others))
 block_named has basis planned tree around (give_back heading value rest) block kept there counts lane =
     let walked = walked_in basis.principals basis.labelled planned tree in
     let pc = around.pc in
@@ -369,4 +399,4 @@ block_named has basis planned tree around (give_back heading value rest) block k
     (λ told. all_both (IsWellNamed has basis) (expr_emissions next.host pc heading.id 0 value) _
     (expr_named has basis next.host pc heading.id 0 value)
     (result_named has basis walked next.host pc heading.id value))
-    (block_named has basis planned tree around rest block kept.1 there.1 _ (lane_at counts lane next))
+    (block_named has basis planned tree around rest block kept.1 there.1 _ (lane_behind walked counts lane next None others))

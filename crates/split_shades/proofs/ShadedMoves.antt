@@ -3,7 +3,9 @@ use Rattle.std.proofs.Common.{◌≡◌, ◌≢◌, ◌∙◌, ℕ, ◌+◌, ◌
 use Rattle.std.proofs.Common.{sym, subst, arith, eq-eqb, ne_eqb, append_assoc, append-nil, length-append}
 use Rattle.std.proofs.lemmas.Bool.Decides.{eqb_tells}
 use Rattle.std.specs.Prelude.{Option, Some, None, slice_get, ⊤}
+use Rattle.std.specs.List.{AllByRecursion}
 use Rattle.js_base.specs.declared.ids.HostId.{HostId}
+use Rattle.js_base.specs.declared.ids.VarId.{VarId}
 use Rattle.js_base.specs.declared.ids.StmtId.{StmtId}
 use Rattle.label_lattice.specs.declared.label.Label.{Label}
 use Rattle.label_lattice.specs.Label.{ConfFlows}
@@ -13,7 +15,7 @@ use Rattle.need_labels.specs.Plan.{statement_host}
 use Rattle.msg_cost.specs.Moves.{PlannedShape, on, end_of, entered, next_spot, return_host}
 use Rattle.split_rules.specs.Positions.{Level, under}
 use Rattle.split_rules.specs.Walk.{Walked, Around, Lane, entry_id, emitted, leave_emissions, enter_emissions}
-use Rattle.split_rules.specs.Walk.{move_emissions, lane_at, end_emissions, push_or_ask}
+use Rattle.split_rules.specs.Walk.{move_emissions, lane_at, end_emissions, push_or_ask, go_with}
 use Rattle.split_rules.proofs.Places.{same_host}
 use Rattle.split_rules.proofs.TypedMoves.{lane_level}
 use Rattle.split_rules.proofs.ToldMoves.{SpotSees, AllSee, next_well}
@@ -21,9 +23,10 @@ use Rattle.split_rules.proofs.WalkedCalls.{still_there}
 use Rattle.split_rules.proofs.WalkedMoves.{at_last, entered_here, entered_there, next_here, next_there, lent_spot}
 use Rattle.split_shades.specs.Flows.{IsSeenOn}
 use Rattle.split_shades.specs.Shades.{Shade, EntryShade, Ahead, calm_ahead, Meets, level_entry}
-use Rattle.split_shades.specs.Shading.{Scene, IsLevelOf, IsShade, IsEntryShade, PushesAt, Names}
+use Rattle.split_shades.specs.Shading.{Scene, MayTell, IsLevelOf, IsShade, IsEntryShade, PushesAt, Names}
 use Rattle.split_shades.specs.Shading.{Place, nowhere, here, Known, known_at, ShadedOp, IsShaded, AreShaded}
 use Rattle.split_shades.proofs.BasisLabels.{flows_self}
+use Rattle.split_shades.proofs.ShadedRiders.{RidesWell, go_with_shaded}
 use Rattle.split_shades.proofs.ShadedStates.{counts_in, shaded_on}
 
 -- ---- lanes
@@ -65,7 +68,11 @@ lane_level_is entries level pc lane is known = by lane.spot.host lane.spot.back 
   where
     by : (host : HostId) (back : Option HostId) (number : ℕ) → IsGivenBack entries level pc number back →
         IsLevelOf entries
-        (lane_level level (record { spot = record { host = host; back = back }; return_entry = number })) pc
+        (lane_level level (record {
+          spot = record { host = host; back = back };
+          return_entry = number;
+          riding = lane.riding;
+        })) pc
     by host None number there = is
     by host (Some back) number there = (block_entry level pc (Some pc), there, refl)
 
@@ -136,13 +143,17 @@ block_entry_is scene entries host level pc (Some one) either is seen = record {
 -- ---- leaving
 
 leave_from : (scene : Scene) (around : Around) (level : Level) (host : HostId) (back : Option HostId) (number : ℕ)
-    (entries : List EntryShade) (branches : List Ahead) → IsLevelOf entries level around.pc →
-    let lane : Lane = record { spot = record { host = host; back = back }; return_entry = number } in
+    (riding : List VarId) (entries : List EntryShade) (branches : List Ahead) → IsLevelOf entries level around.pc →
+    let lane : Lane = record {
+      spot = record { host = host; back = back };
+      return_entry = number;
+      riding = riding;
+    } in
     IsLaneKnown entries level around.pc lane →
     AreShaded scene (known_at (lane_place level around.pc lane) entries branches) (leave_emissions around lane)
     (known_at (here (end_of lane.spot) (calm_ahead level around.pc)) entries branches)
-leave_from scene around level host None number entries branches is known = refl
-leave_from scene around level host (Some back) number entries branches is known =
+leave_from scene around level host None number riding entries branches is known = refl
+leave_from scene around level host (Some back) number riding entries branches is known =
     let pc = around.pc in
     let given = block_entry level pc (Some pc) in (
       known_at nowhere entries branches,
@@ -160,25 +171,29 @@ pub leave_shaded : (scene : Scene) (around : Around) (level : Level) (lane : Lan
     AreShaded scene (known_at (lane_place level around.pc lane) entries branches) (leave_emissions around lane)
     (known_at (here (end_of lane.spot) (calm_ahead level around.pc)) entries branches)
 leave_shaded scene around level lane entries branches is known =
-    leave_from scene around level lane.spot.host lane.spot.back lane.return_entry entries branches is known
+    leave_from scene around level lane.spot.host lane.spot.back lane.return_entry lane.riding entries branches is known
 
 -- ---- entering
 
--- a spot is entered from a host where the token of the block is held
-pub record Entered (scene : Scene) (walked : Walked) (around : Around) (level : Level) (from : HostId) (next : Spot)
-    (statements : List StmtId) (entries : List EntryShade) (branches : List Ahead) : Type 0 where
+-- the lane on a spot that was just entered
+abbrev entered_lane : List EntryShade → Spot → Lane
+entered_lane entries next = record { spot = next; return_entry = length entries; riding = [] }
+
+-- a spot is entered from a host where the token of the block is held, and some values ride
+pub record Entered (scene : Scene) (walked : Walked) (around : Around) (level : Level) (from : HostId)
+    (riders : List VarId) (next : Spot) (statements : List StmtId) (entries : List EntryShade) (branches : List Ahead) :
+    Type 0 where
   pub more : List EntryShade
   pub shaded : AreShaded scene (known_at (here from (calm_ahead level around.pc)) entries branches)
-      (enter_emissions walked around (counts_in entries branches) from next statements)
-      (known_at (lane_place level around.pc (record { spot = next; return_entry = length entries })) (entries ++ more)
-      branches)
-  pub known : IsLaneKnown (entries ++ more) level around.pc (record { spot = next; return_entry = length entries })
+      (enter_emissions walked around (counts_in entries branches) from riders next statements)
+      (known_at (lane_place level around.pc (entered_lane entries next)) (entries ++ more) branches)
+  pub known : IsLaneKnown (entries ++ more) level around.pc (entered_lane entries next)
 
 -- it is the same host
-stayed : (scene : Scene) (walked : Walked) (around : Around) (level : Level) (from host : HostId)
+stayed : (scene : Scene) (walked : Walked) (around : Around) (level : Level) (from host : HostId) (riders : List VarId)
     (statements : List StmtId) (entries : List EntryShade) (branches : List Ahead) → from.0 ≡ host.0 →
-    Entered scene walked around level from (on host) statements entries branches
-stayed scene walked around level from host statements entries branches same = record {
+    Entered scene walked around level from riders (on host) statements entries branches
+stayed scene walked around level from host riders statements entries branches same = record {
   more = [];
   shaded = rw (eq-eqb from.0 host.0 same)
       (ap (λ one. known_at (here one (calm_ahead level around.pc)) entries branches) (same_host from host same)
@@ -187,11 +202,12 @@ stayed scene walked around level from host statements entries branches same = re
 }
 
 -- the right to go on is handed on
-handed : (scene : Scene) (walked : Walked) (around : Around) (level : Level) (from host : HostId)
+handed : (scene : Scene) (walked : Walked) (around : Around) (level : Level) (from host : HostId) (riders : List VarId)
     (statements : List StmtId) (entries : List EntryShade) (branches : List Ahead) →
-    IsLevelOf entries level around.pc → IsSeenOn scene.planned host around.pc →
-    from.0 ≢ host.0 → Entered scene walked around level from (on host) statements entries branches
-handed scene walked around level from host statements entries branches is seen apart =
+    IsLevelOf entries level around.pc → IsSeenOn scene.planned host around.pc → from.0 ≢ host.0 →
+    AllByRecursion (λ x. MayTell scene around.pc x host) riders →
+    Entered scene walked around level from riders (on host) statements entries branches
+handed scene walked around level from host riders statements entries branches is seen apart rides =
     let pc = around.pc in
     let own = block_entry level pc None in
     let more = entries ++ own ∷ [] in
@@ -203,17 +219,16 @@ handed scene walked around level from host statements entries branches is seen a
         (own, refl, block_entry_is scene entries host level pc None (inl refl) is seen, refl),
         (
           known_at nowhere more branches,
-          plain_shaded scene from pc around.owner (op.Go (entry_id (length entries)) host) level more branches
-              (known_at nowhere more branches) (level_still entries (own ∷ []) level pc is) (
-                (
-                  (refl, refl),
-                  refl,
-                  refl,
-                  record { it = own; is = there; level = refl; block = refl },
-                  seen,
-                ),
+          plain_shaded scene from pc around.owner (go_with riders (entry_id (length entries)) host) level more branches
+              (known_at nowhere more branches) (level_still entries (own ∷ []) level pc is)
+              (go_with_shaded scene (known_at (here from (calm_ahead level pc)) more branches) from
+              (plain_shade level pc) riders (entry_id (length entries)) host (
+                (refl, refl),
                 refl,
-              ),
+                refl,
+                record { it = own; is = there; level = refl; block = refl },
+                seen,
+              ) rides),
           (
             known_at (here host (calm_ahead level pc)) more branches,
             (own, there, inl (refl, refl), refl),
@@ -246,10 +261,12 @@ push_shaded scene me back level pc statement number entries branches is there se
 
 -- the right to go on is lent
 lent : (scene : Scene) (walked : Walked) (around : Around) (level : Level) (from host back : HostId)
-    (statements : List StmtId) (entries : List EntryShade) (branches : List Ahead) → IsLevelOf entries level around.pc →
-    IsSeenOn scene.planned host around.pc → IsSeenOn scene.planned back around.pc → from.0 ≢ host.0 →
-    Entered scene walked around level from (record { host = host; back = Some back }) statements entries branches
-lent scene walked around level from host back statements entries branches is seen back_sees apart = record {
+    (riders : List VarId) (statements : List StmtId) (entries : List EntryShade) (branches : List Ahead) →
+    IsLevelOf entries level around.pc → IsSeenOn scene.planned host around.pc →
+    IsSeenOn scene.planned back around.pc → from.0 ≢ host.0 →
+    AllByRecursion (λ x. MayTell scene around.pc x host) riders →
+    Entered scene walked around level from riders (record { host = host; back = Some back }) statements entries branches
+lent scene walked around level from host back riders statements entries branches is seen back_sees apart rides = record {
   more = given ∷ segment ∷ [];
   shaded = rw (ne_eqb from.0 host.0 apart) (
     known_at (here from (calm_ahead level pc)) one branches,
@@ -262,17 +279,16 @@ lent scene walked around level from host back statements entries branches is see
         push_shaded scene from back level pc around.owner number both branches is_there given_there back_sees,
         (
           known_at nowhere both branches,
-          plain_shaded scene from pc around.owner (op.Go (entry_id (number + 1)) host) (under number) both branches
-              (known_at nowhere both branches) (given, given_there, refl) (
-                (
-                  (refl, refl),
-                  refl,
-                  refl,
-                  record { it = segment; is = segment_there; level = refl; block = refl },
-                  seen,
-                ),
+          plain_shaded scene from pc around.owner (go_with riders (entry_id (number + 1)) host) (under number) both
+              branches (known_at nowhere both branches) (given, given_there, refl)
+              (go_with_shaded scene (known_at (here from (calm_ahead (under number) pc)) both branches) from
+              (plain_shade (under number) pc) riders (entry_id (number + 1)) host (
+                (refl, refl),
                 refl,
-              ),
+                refl,
+                record { it = segment; is = segment_there; level = refl; block = refl },
+                seen,
+              ) rides),
           (
             known_at (here host (calm_ahead (under number) pc)) both branches,
             (segment, segment_there, inl (refl, refl), refl),
@@ -350,7 +366,7 @@ unmoved scene walked around level lane statements entries branches known =
 moved : (scene : Scene) (walked : Walked) (around : Around) (level : Level) (lane : Lane) (next : Spot)
     (statements : List StmtId) (entries : List EntryShade) (branches : List Ahead) →
     lane.spot.host.0 ≢ next.host.0 → IsLevelOf entries level around.pc → IsLaneKnown entries level around.pc lane →
-    Entered scene walked around level (end_of lane.spot) next statements entries branches →
+    Entered scene walked around level (end_of lane.spot) lane.riding next statements entries branches →
     Moves scene walked around level lane next statements entries branches
 moved scene walked around level lane next statements entries branches apart is known enters =
     let other = ne_eqb lane.spot.host.0 next.host.0 apart in
@@ -358,7 +374,7 @@ moved scene walked around level lane next statements entries branches apart is k
       more = enters.more;
       shaded = rw other (shaded_on scene (known_at (lane_place level around.pc lane) entries branches)
           (leave_emissions around lane)
-          (enter_emissions walked around (counts_in entries branches) (end_of lane.spot) next statements)
+          (enter_emissions walked around (counts_in entries branches) (end_of lane.spot) lane.riding next statements)
           (known_at (here (end_of lane.spot) (calm_ahead level around.pc)) entries branches) _
           (leave_shaded scene around level lane entries branches is known) enters.shaded);
       known = rw other enters.known;
@@ -369,9 +385,10 @@ pub move_shaded : (scene : Scene) (walked : Walked) (around : Around) (level : L
     (others : List StmtId) (entries : List EntryShade) (branches : List Ahead) → IsLevelOf entries level around.pc →
     IsLaneKnown entries level around.pc lane → SpotSees scene.planned around.pc lane.spot →
     AllSee scene.planned around.pc (statement ∷ others) →
+    RidesWell scene around.pc lane.riding (statement ∷ others) →
     Moves scene walked around level lane (next_spot scene.planned lane.spot statement others) (statement ∷ others)
     entries branches
-move_shaded scene walked around level lane statement others entries branches is known sees see =
+move_shaded scene walked around level lane statement others entries branches is known sees see rides =
     elim (eqb_tells lane.spot.host.0 host.0) [
       | inl same ↦ subst P (sym (next_here planned lane.spot statement others same.1))
           (unmoved scene walked around level lane statements entries branches known)
@@ -397,18 +414,19 @@ move_shaded scene walked around level lane statement others entries branches is 
     leaves apart = elim (eqb_tells from.0 host.0) [
       | inl same ↦ subst P (sym (entered_here planned from host statements same.1))
           (moved scene walked around level lane (on host) statements entries branches apart is known
-          (stayed scene walked around level from host statements entries branches same.1))
+          (stayed scene walked around level from host lane.riding statements entries branches same.1))
       | inr other ↦ elim (entered_there planned from host statements other.1) [
         | inl at ↦ subst P (sym at) (moved scene walked around level lane (on host) statements entries branches apart is
-            known (handed scene walked around level from host statements entries branches is see.0 other.1))
+            known (handed scene walked around level from host lane.riding statements entries branches is see.0 other.1
+            rides))
         | inr at ↦
             let back = return_host planned from host statements in
             let well = (next_well planned around.pc lane.spot statement others sees see).sees in
             let Q : Spot → Type 0 = λ spot. SpotSees planned around.pc spot in
             let both = subst Q (next_there planned lane.spot statement others apart ∙ at) well in
             subst P (sym at) (moved scene walked around level lane (lent_spot host back) statements entries branches
-            apart is known (lent scene walked around level from host back statements entries branches is see.0 both.1
-            other.1))
+            apart is known (lent scene walked around level from host back lane.riding statements entries branches is
+            see.0 both.1 other.1 rides))
       ]
     ]
 

@@ -97,7 +97,7 @@ methods_shaded scene all number (method ∷ methods) there well flows sites sile
     nowhere (begins scene home number method entries branches bodies own_there
     (block_shaded scene method all (record { owner = method.head; pc = method.begin }) method.body well.0.body flows.0
     sites.0 (λ none. (silent none).0) (body (record { 0 = number })) (lane_on home) entries branches named
-    (method_shade number method, own_there, refl) tt (well.0.home, tt)))
+    (method_shade number method, own_there, refl) tt (well.0.home, tt) tt))
     (λ more ahead counted.
     let Q : Counts → Type 0 = λ counts. Leads scene (known_at nowhere (entries ++ more) (branches ++ ahead))
     (methods_emissions scene.basis.principals scene.basis.labelled planned counts (suc number) methods) nowhere in

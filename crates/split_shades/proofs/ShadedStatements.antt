@@ -15,7 +15,7 @@ use Rattle.need_labels.specs.Plan.{field_host}
 use Rattle.split_rules.specs.Emissions.{Emission}
 use Rattle.split_rules.specs.Expressions.{reads_in, nodes_of, first_element}
 use Rattle.split_rules.specs.Positions.{Level}
-use Rattle.split_rules.specs.Walk.{Walked, walked_in, emitted, expr_emissions, other_readers, send_emissions}
+use Rattle.split_rules.specs.Walk.{Walked, walked_in, emitted, expr_emissions, told_readers, send_emissions}
 use Rattle.split_rules.specs.Walk.{result_emissions}
 use Rattle.split_rules.proofs.ToldEmissions.{Sees, Affects, PutsWell}
 use Rattle.split_rules.proofs.ToldWalks.{AreReaders}
@@ -78,13 +78,14 @@ value_keeps scene site value label flows = record {
 -- ---- assignments
 
 pub set_local_shaded : (scene : Scene) (me : HostId) (pc : Label) (id : StmtId) (level : Level)
-    (entries : List EntryShade) (branches : List Ahead) → IsBelow entries level pc → (x : VarId) (value : ExprTree) →
-    IsRead scene me pc value → ValueFlows scene.basis scene.planned pc value (label_of scene.basis.labelled x) →
-    AreReaders scene.planned (label_of scene.basis.labelled x) (other_readers scene.planned me x) →
+    (entries : List EntryShade) (branches : List Ahead) → IsBelow entries level pc → (x : VarId) (value : ExprTree)
+    (carried : Option HostId) → IsRead scene me pc value →
+    ValueFlows scene.basis scene.planned pc value (label_of scene.basis.labelled x) →
+    AreReaders scene.planned (label_of scene.basis.labelled x) (told_readers scene.planned me x carried) →
     AreShaded scene (block_known me pc level entries branches)
     (expr_emissions me pc id 0 value ++ emitted me pc id (op.Let x (nodes_of 0 value))
-    ∷ send_emissions scene.planned me pc id x) (block_known me pc level entries branches)
-set_local_shaded scene me pc id level entries branches below x value read flows see =
+    ∷ send_emissions scene.planned me pc id x carried) (block_known me pc level entries branches)
+set_local_shaded scene me pc id level entries branches below x value carried read flows see =
     let site = site_in me pc id level in
     let is = site_is scene entries me pc id level below in
     let next = block_known me pc level entries branches in
@@ -96,7 +97,8 @@ set_local_shaded scene me pc id level entries branches below x value read flows 
             (refl, refl, value_keeps scene site value (label_of scene.basis.labelled x) flows, refl),
             refl,
           ),
-      sends_shaded scene site entries branches is refl refl x flows.program (other_readers scene.planned me x) see,
+      sends_shaded scene site entries branches is refl refl x flows.program (told_readers scene.planned me x carried)
+          see,
     ))
 
 -- the host of a field that is set may see the program label

@@ -60,11 +60,12 @@ ArgumentsFlow basis planned pc (param ∷ params) (argument ∷ others) =
     ValueFlows basis planned pc argument (label_of basis.labelled param)
     × ArgumentsFlow basis planned pc params others
 
--- the result of a call is kept, as the value of a variable
+-- the result of a call, which there is where one is kept, as the value of a variable
 abbrev pub ResultFlows : Basis → PlannedShape → Label → Option VarId → Option VarId → Type 0
+ResultFlows basis planned pc result None = ⊤
+ResultFlows basis planned pc None (Some into) = ⊥
 ResultFlows basis planned pc (Some result) (Some into) =
     ValueFlows basis planned pc (local result) (label_of basis.labelled into)
-ResultFlows basis planned pc result into = ⊤
 
 -- a value is kept in the result of its method, which has one
 abbrev pub AnswerFlows : Basis → PlannedShape → Label → Option VarId → ExprTree → Type 0

@@ -98,14 +98,15 @@ pub record Stores (scene : Scene) (here : Shade) (field : FieldId) (at nodes : L
 abbrev pub IsPlain : Shade → Type 0
 IsPlain here = (here.temps ≡ []) × (here.released ≡ [])
 
--- a host may be told the value of a variable here: the program label flows to the variable, which the host may see
-abbrev pub MayTell : Scene → Shade → VarId → HostId → Type 0
-MayTell scene here x to = ConfFlows here.pc (label_of scene.basis.labelled x)
-    × IsSeenOn scene.planned to (label_of scene.basis.labelled x)
+-- Under a program label a host may be told the value of a variable: the program label flows to the variable, which the
+-- host may see.
+abbrev pub MayTell : Scene → Label → VarId → HostId → Type 0
+MayTell scene pc x to =
+    ConfFlows pc (label_of scene.basis.labelled x) × IsSeenOn scene.planned to (label_of scene.basis.labelled x)
 
 -- a variable is sent to a host
 abbrev pub Sends : Scene → Shade → VarId → HostId → Type 0
-Sends scene here x to = IsPlain here × (here.guard ≡ None) × MayTell scene here x to
+Sends scene here x to = IsPlain here × (here.guard ≡ None) × MayTell scene here.pc x to
 
 -- ---- pushes
 
@@ -225,7 +226,7 @@ CallsOn scene entries here number on =
 
 -- The values of these variables ride to a host.
 abbrev pub Rides : Scene → Shade → List VarId → HostId → Type 0
-Rides scene here riders on = AllByRecursion (λ x. MayTell scene here x on) riders
+Rides scene here riders on = AllByRecursion (λ x. MayTell scene here.pc x on) riders
 
 -- An instruction behind which the thread ends.
 abbrev pub Ends : Scene → List EntryShade → Shade → Op → Type 0
