@@ -1,5 +1,5 @@
 -- What a statement gives by itself, on a host that holds the token already, without the statements behind it.
-use Rattle.std.specs.Prelude.{List, [], ◌∷◌, ◌++◌}
+use Rattle.std.specs.Prelude.{List, [], ◌∷◌, ◌++◌, Option}
 use Rattle.js_base.specs.declared.ids.HostId.{HostId}
 use Rattle.js_base.specs.declared.ids.StmtId.{StmtId}
 use Rattle.jif_tree.specs.Trees.{ExprTree, BlockTree, done, set_local, set_field, set_element, branch, loop, call}
@@ -43,33 +43,34 @@ loop_front walked around here host left id guard =
     ++ emitted host inside.pc id (op.Branch (nodes_of 0 guard) here.branches)
     ∷ emitted host inside.pc id (op.Push (entry_id here.entries)) ∷ []
 
--- The statements behind it that run under the same token are given by their numbers.
-abbrev pub own_emissions : Walked → Around → Counts → HostId → List StmtId → BlockTree → List Emission
-own_emissions walked around here host left done = []
-own_emissions walked around here host left (set_local heading x value rest) =
+-- The statements behind it that run under the same token are given by their numbers, and what it gives is carried to a
+-- host or to none.
+abbrev pub own_emissions : Walked → Around → Counts → HostId → List StmtId → Option HostId → BlockTree → List Emission
+own_emissions walked around here host left carried done = []
+own_emissions walked around here host left carried (set_local heading x value rest) =
     expr_emissions host around.pc heading.id 0 value
     ++ emitted host around.pc heading.id (op.Let x (nodes_of 0 value))
-    ∷ send_emissions walked.planned host around.pc heading.id x
-own_emissions walked around here host left (set_field heading field value rest) =
+    ∷ send_emissions walked.planned host around.pc heading.id x carried
+own_emissions walked around here host left carried (set_field heading field value rest) =
     expr_emissions host around.pc heading.id 0 value
     ++ emitted host around.pc heading.id (op.Put field first_element (nodes_of 0 value)) ∷ []
-own_emissions walked around here host left (set_element heading field index value rest) =
+own_emissions walked around here host left carried (set_element heading field index value rest) =
     expr_emissions host around.pc heading.id 0 index
     ++ expr_emissions host around.pc heading.id (reads_in index) value
     ++ emitted host around.pc heading.id (op.Put field (nodes_of 0 index) (nodes_of (reads_in index) value)) ∷ []
-own_emissions walked around here host left (branch heading guard first second rest) =
+own_emissions walked around here host left carried (branch heading guard first second rest) =
     let inside = inside_of walked around heading.id guard in
     let front = branch_front walked around here host left heading.id guard in
     let one = block_emissions walked inside (counts_after here front) (lane_on host) first in
     let between = lands host here.branches ∷ [] in
     let two = block_emissions walked inside (counts_after here (front ++ one ++ between)) (lane_on host) second in
     front ++ one ++ between ++ two ++ stands host here.entries ∷ []
-own_emissions walked around here host left (loop heading guard body rest) =
+own_emissions walked around here host left carried (loop heading guard body rest) =
     let inside = inside_of walked around heading.id guard in
     let front = loop_front walked around here host left heading.id guard in
     front ++ block_emissions walked inside (counts_after here front) (lane_on host) body
     ++ lands host here.branches ∷ []
-own_emissions walked around here host left (call heading site method arguments into rest) =
-    call_emissions walked here host around.pc heading.id site method arguments into left
-own_emissions walked around here host left (give_back heading value rest) =
+own_emissions walked around here host left carried (call heading site method arguments into rest) =
+    call_emissions walked here host around.pc heading.id site method arguments into carried left
+own_emissions walked around here host left carried (give_back heading value rest) =
     expr_emissions host around.pc heading.id 0 value ++ result_emissions walked host around.pc heading.id value

@@ -2,6 +2,7 @@
 use Rattle.std.specs.Prelude.{◌≡◌, ℕ, ◌+◌, ◌<◌, Bool, ◌&&◌, nat_lt, List, [], ◌∷◌, ◌++◌, length, slice_index_or}
 use Rattle.js_base.specs.declared.ids.HostId.{HostId}
 use Rattle.js_base.specs.declared.ids.StmtId.{StmtId}
+use Rattle.js_base.specs.declared.ids.VarId.{VarId}
 use Rattle.label_lattice.specs.declared.label.Label.{Label}
 use Rattle.label_lattice.specs.Lattice.{empty_label}
 use Rattle.host_code.specs.declared.instruction.Op.TheVariants as op
@@ -10,7 +11,7 @@ use Rattle.control_split.specs.declared.trace.TraceItem.{TraceItem}
 use Rattle.control_split.specs.declared.trace.TraceItem.TheVariants as item
 use Rattle.split_rules.specs.Emissions.{Emission, instruction, entry, stands, lands, Counts, counts_with}
 use Rattle.split_rules.specs.SplitCode.{same_label, with_labels, label_place, label_of_emission}
-use Rattle.split_rules.specs.Walk.{emitted, entry_id, push_or_ask}
+use Rattle.split_rules.specs.Walk.{emitted, entry_id, push_or_ask, go_with}
 
 pub record TraceShape : Type 0 where
   pub labels : List Label
@@ -63,11 +64,11 @@ IsNamedLast labels place =
     place < length labels → label_place 0 (slice_index_or labels place empty_label) labels ≡ place
 
 -- The token is lent from a host to another, and given back to a third: the entry of the third, that of the segment, and
--- where the segment stands.
-abbrev pub lent : StmtId → Label → Counts → HostId → HostId → HostId → Ahead → List Emission
-lent owner pc counts from host back ahead =
+-- where the segment stands. The values of some variables ride.
+abbrev pub lent : StmtId → Label → Counts → HostId → List VarId → HostId → HostId → Ahead → List Emission
+lent owner pc counts from riders host back ahead =
     entry (record { host = back; label = pc; need = ahead.behind })
     ∷ entry (record { host = host; label = pc; need = ahead.row })
     ∷ emitted from pc owner (push_or_ask from back counts.entries)
-    ∷ emitted from pc owner (op.Go (entry_id (counts.entries + 1)) host)
+    ∷ emitted from pc owner (go_with riders (entry_id (counts.entries + 1)) host)
     ∷ stands host (counts.entries + 1) ∷ []

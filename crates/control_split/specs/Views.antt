@@ -1,5 +1,6 @@
 -- What contracts see of the places of a walk.
-use Rattle.std.specs.Prelude.{◌≤◌, All}
+use Rattle.std.specs.Prelude.{◌≤◌, All, List, [], ◌∷◌, Option, Some, None}
+use Rattle.js_base.specs.declared.ids.VarId.{VarId}
 use Rattle.jif_tree.specs.Trees.{BlockTree, ExprTree, method_tree}
 use Rattle.jif_tree.specs.Sizes.{expr_nodes, block_nodes}
 use Rattle.host_code.specs.declared.code_expr.TheConstants.{MOST_NODES}
@@ -29,8 +30,18 @@ walked_of walk =
 abbrev pub around_of : BlockAround → Around
 around_of around = record { owner = around.owner; pc = around.pc.now }
 
+-- the variable that rides, where one does
+abbrev pub riding_of : Option VarId → List VarId
+riding_of None = []
+riding_of (Some x) = x ∷ []
+
+-- the variables that ride, where some do
+abbrev pub riders_of : Option (List VarId) → List VarId
+riders_of None = []
+riders_of (Some riders) = riders
+
 abbrev pub lane_of : BlockLane → Lane
-lane_of lane = record { spot = lane.spot; return_entry = lane.return_entry }
+lane_of lane = record { spot = lane.spot; return_entry = lane.return_entry; riding = riding_of lane.riding }
 
 -- the expressions have so few nodes that their code has no more than it may have
 abbrev pub IsSizedExpr : ExprTree → Type 0

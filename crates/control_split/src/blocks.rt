@@ -1,12 +1,15 @@
 //! The statements of blocks.
 
-ghost use Rattle.std.specs.Prelude.{◌≡◌, ◌+◌, ◌≤◌, ◌∷◌, [], ◌++◌, List, OnOk};
+ghost use Rattle.std.specs.Prelude.{◌≡◌, ◌+◌, ◌≤◌, ◌∷◌, [], ◌++◌, List, None, OnOk, drop, length};
 ghost use Rattle.js_base.specs.declared.ids.StmtId.{StmtId};
 ghost use Rattle.host_code.specs.declared.code_expr.TheConstants.{MOST_NODES};
 ghost use Rattle.host_code.specs.declared.instruction.Op.TheVariants as op;
 ghost use Rattle.jif_tree.specs.Trees.{done, set_local, set_field, set_element, branch, loop, expr_tree, block_tree};
 ghost use Rattle.jif_tree.specs.Trees.{tree_before};
 ghost use Rattle.jif_tree.specs.Sizes.{expr_nodes};
+ghost use Rattle.msg_cost.specs.Kept.{AreTrustedTo};
+ghost use Rattle.msg_cost.specs.Moves.{next_spot, straight_to, carried_to};
+ghost use Rattle.msg_cost.specs.Views.{shape_of, ids_of};
 ghost use Rattle.split_rules.specs.Walk.{lane_on, need_of, block_emissions};
 ghost use Rattle.control_split.specs.Own.{own_emissions};
 ghost use Rattle.control_split.specs.Trace.{traced};
@@ -18,6 +21,7 @@ use crate::expressions::{add_reads, code_expr, first_element, value};
 use crate::labels::guarded;
 use crate::moves::{end, move_on};
 use crate::needs::{ahead_at, block_needs, left_behind};
+use crate::riders::rides_behind;
 use crate::trace::{Place, Trace};
 use crate::values::send;
 use crate::walk::{Around, Lane, Walk};
@@ -25,7 +29,7 @@ use host_code::Op;
 use jif_tree::{Expr, Stmt, StmtKind, tree_laws};
 use js_base::limits::HOSTS;
 use js_base::{EntryId, FieldId, HostId, OutOfMemory, VarId};
-use msg_cost::{Spot, next_spot};
+use msg_cost::{Planned, Spot, next_spot, straight_to};
 
 /// The statements of a block that begins on this host.
 ///
@@ -48,19 +52,49 @@ pub fn block(
     let mut lane = Lane {
         spot: Spot::on(home),
         return_entry: 0,
+        riding: None,
     };
     let mut noted = [0; HOSTS];
+    let mut next = spot_at(&planned, lane.spot, block, 0, &mut noted);
     for (place, one) in block.iter().enumerate() {
-        let next = next_spot(&planned, lane.spot, block, place, &mut noted);
         let ahead = ahead_at(&walk.split, block, &needs, place);
-        lane = move_on(trace, around, lane, next, ahead)?;
+        lane = move_on(walk.split.alloc, trace, around, lane, next, ahead)?;
+        let behind = spot_at(&planned, next, block, place + 1, &mut noted);
+        let carried = straight_to(next, behind);
         let left = left_behind(&walk.split, next, block, &needs, place);
-        statement(walk, trace, around, next.host, one, left)?;
+        statement(walk, trace, around, next.host, one, left, carried)?;
+        lane.riding = rides_behind(&walk.split, next, one, carried);
+        next = behind;
     }
     end(trace, around, lane)
 }
 
-/// A statement on its host, where the token is there already. What is left under the token needs so much.
+/// Where the statement at a place of a block runs, behind one that runs at a spot. Where there is none the spot stays.
+fn spot_at(
+    planned: &Planned<'_>,
+    spot: Spot,
+    block: &[Stmt],
+    place: usize,
+    noted: &mut [usize; HOSTS],
+) -> Spot
+    requires within { place ≤ length block.now }
+    requires noted { AreTrustedTo (shape_of planned.now) block.now place noted.old }
+    ensures next { (statement : StmtId) (others : List StmtId) →
+        ids_of (drop place block.now) ≡ statement ∷ others →
+        result ≡ next_spot (shape_of planned.now) spot statement others }
+    ensures carried { straight_to spot result
+        ≡ carried_to (shape_of planned.now) spot (ids_of (drop place block.now)) }
+    ensures noted { AreTrustedTo (shape_of planned.now) block.now (place + 1) noted.new }
+{
+    if place < block.len() {
+        next_spot(planned, spot, block, place, noted)
+    } else {
+        spot
+    }
+}
+
+/// A statement on its host, where the token is there already. What is left under the token needs so much, and what the
+/// statement gives is carried to a host or to none.
 #[cycle(blocks)]
 fn statement(
     walk: &Walk<'_>,
@@ -69,11 +103,12 @@ fn statement(
     host: HostId,
     statement: &Stmt,
     left: u64,
+    carried: Option<HostId>,
 ) -> Result<(), OutOfMemory>
     requires { IsSizedBlock (tree_before statement.now done) }
     ensures { (others : List StmtId) → left ≡ need_of (planned_in walk.now.split) others →
         OnOk result (trace.new ≡ traced trace.old (own_emissions (walked_of walk.now) (around_of around.now)
-        trace.old.counts host others (tree_before statement.now done))) }
+        trace.old.counts host others carried (tree_before statement.now done))) }
 {
     tree_laws();
     let place = Place {
@@ -83,7 +118,7 @@ fn statement(
     };
     let with_left = walk.split.need_of(statement.id) | left;
     match &statement.kind {
-        StmtKind::Let { var, value } => set_local(walk, trace, &place, *var, value),
+        StmtKind::Let { var, value } => set_local(walk, trace, &place, *var, value, carried),
         StmtKind::SetField { field, value } => set_field(walk, trace, &place, *field, value),
         StmtKind::SetElement {
             field,
@@ -104,27 +139,28 @@ fn statement(
                 args,
                 into: *into,
             };
-            call(walk, trace, &place, &what, with_left)
+            call(walk, trace, &place, &what, with_left, carried)
         }
         StmtKind::Return { value } => give_back(walk, trace, &place, value),
     }
 }
 
-/// A local becomes a value, which is sent to those who read it.
+/// A local becomes a value, which is sent to those who read it, but for the one to which it is carried.
 fn set_local(
     walk: &Walk<'_>,
     trace: &mut Trace,
     place: &Place<'_>,
     x: VarId,
     expr: &Expr,
+    carried: Option<HostId>,
 ) -> Result<(), OutOfMemory>
     requires { IsSizedExpr (expr_tree expr.now) }
     ensures { OnOk result (trace.new ≡ traced trace.old (own_emissions (walked_of walk.now) (around_at place.now)
-        trace.old.counts place.now.host [] (set_local (heading_at place.now) x (expr_tree expr.now) done))) }
+        trace.old.counts place.now.host [] carried (set_local (heading_at place.now) x (expr_tree expr.now) done))) }
 {
     let nodes = value(walk.split.alloc, trace, place, expr)?;
     trace.instruction(place, Op::Let(x, nodes))?;
-    send(&walk.split, trace, place, x)
+    send(&walk.split, trace, place, x, carried)
 }
 
 /// A plain field becomes a value.
@@ -137,7 +173,7 @@ fn set_field(
 ) -> Result<(), OutOfMemory>
     requires { IsSizedExpr (expr_tree expr.now) }
     ensures { OnOk result (trace.new ≡ traced trace.old (own_emissions (walked_of walk.now) (around_at place.now)
-        trace.old.counts place.now.host [] (set_field (heading_at place.now) field (expr_tree expr.now) done))) }
+        trace.old.counts place.now.host [] None (set_field (heading_at place.now) field (expr_tree expr.now) done))) }
 {
     let nodes = value(walk.split.alloc, trace, place, expr)?;
     let index = first_element(walk.split.alloc)?;
@@ -155,7 +191,7 @@ fn set_element(
 ) -> Result<(), OutOfMemory>
     requires { expr_nodes (expr_tree index.now) + expr_nodes (expr_tree expr.now) ≤ MOST_NODES }
     ensures { OnOk result (trace.new ≡ traced trace.old (own_emissions (walked_of walk.now) (around_at place.now)
-        trace.old.counts place.now.host []
+        trace.old.counts place.now.host [] None
         (set_element (heading_at place.now) field (expr_tree index.now) (expr_tree expr.now) done))) }
 {
     let alloc = walk.split.alloc;
@@ -182,7 +218,7 @@ fn branch(
     requires no { IsSizedBlock (block_tree no.now) }
     ensures { (others : List StmtId) → left ≡ need_of (planned_in walk.now.split) others →
         OnOk result (trace.new ≡ traced trace.old (own_emissions (walked_of walk.now) (around_at place.now)
-        trace.old.counts place.now.host others
+        trace.old.counts place.now.host others None
         (branch (heading_at place.now) (expr_tree guard.now) (block_tree yes.now) (block_tree no.now) done))) }
 {
     let pc = guarded(walk, place.label, guard);
@@ -217,7 +253,7 @@ fn repeat(
     requires body { IsSizedBlock (block_tree body.now) }
     ensures { (others : List StmtId) → need ≡ need_of (planned_in walk.now.split) (place.now.statement ∷ others) →
         OnOk result (trace.new ≡ traced trace.old (own_emissions (walked_of walk.now) (around_at place.now)
-        trace.old.counts place.now.host others
+        trace.old.counts place.now.host others None
         (loop (heading_at place.now) (expr_tree guard.now) (block_tree body.now) done))) }
 {
     let pc = guarded(walk, place.label, guard);

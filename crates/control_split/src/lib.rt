@@ -10,6 +10,7 @@ mod methods;
 mod moves;
 mod needs;
 mod parts;
+mod riders;
 mod tables;
 mod trace;
 mod values;

@@ -2,20 +2,21 @@
 
 ghost use Rattle.std.specs.Prelude.{◌≡◌, ◌∷◌, [], IfOk, OnOk, List};
 ghost use Rattle.js_base.specs.declared.ids.StmtId.{StmtId};
-ghost use Rattle.host_code.specs.declared.instruction.Op.TheVariants as op;
 ghost use Rattle.split_rules.specs.Emissions.{entry, stands};
 ghost use Rattle.split_rules.specs.Walk.{leave_emissions, end_emissions, push_or_ask, enter_emissions, move_emissions};
-ghost use Rattle.split_rules.specs.Walk.{Walked, lane_at, emitted, entry_id};
+ghost use Rattle.split_rules.specs.Walk.{Walked, lane_at, emitted, entry_id, go_with};
 ghost use Rattle.control_split.specs.Ahead.{IsAhead};
 ghost use Rattle.control_split.specs.Trace.{traced, lent};
-ghost use Rattle.control_split.specs.Views.{around_of, lane_of};
+ghost use Rattle.control_split.specs.Views.{around_of, lane_of, riders_of};
 
 use crate::needs::Ahead;
+use crate::riders::{go_with, one_rider};
 use crate::trace::Trace;
 use crate::walk::{Around, Lane};
-use host_code::Op;
+use host_code::{Op, RiderVars};
 use js_base::{EntryId, HostId, OutOfMemory};
 use msg_cost::Spot;
+use std::alloc::Global;
 
 /// A lent segment gives the token back, to an entry that stands there from now on.
 fn leave(trace: &mut Trace, around: &Around<'_>, lane: Lane) -> Result<(), OutOfMemory>
@@ -50,65 +51,70 @@ fn push_or_ask(from: HostId, host: HostId, number: u32) -> Op
     }
 }
 
-/// The token is handed on from a host to another, whose statements need so much.
+/// The token is handed on from a host to another, whose statements need so much. The values of some variables ride.
 fn hand_on(
     trace: &mut Trace,
     around: &Around<'_>,
     from: HostId,
+    riders: Option<RiderVars>,
     host: HostId,
     need: u64,
 ) -> Result<(), OutOfMemory>
     ensures { OnOk result (trace.new ≡ traced trace.old
         (entry (record { host = host; label = around.now.pc.now; need = need })
-        ∷ emitted from around.now.pc.now around.now.owner (op.Go (entry_id trace.old.counts.entries) host)
+        ∷ emitted from around.now.pc.now around.now.owner
+        (go_with (riders_of riders) (entry_id trace.old.counts.entries) host)
         ∷ stands host trace.old.counts.entries ∷ [])) }
 {
     let number = trace.entries();
     trace.entry(host, around.pc, need)?;
-    trace.instruction(&around.place_on(from), Op::Go(EntryId(number), host))?;
+    trace.instruction(&around.place_on(from), go_with(riders, EntryId(number), host))?;
     trace.stands(host, number)
 }
 
-/// The token is lent from a host to another, and given back to a third, which may be the first.
+/// The token is lent from a host to another, and given back to a third, which may be the first. The values of some
+/// variables ride.
 fn lend(
     trace: &mut Trace,
     around: &Around<'_>,
     from: HostId,
+    riders: Option<RiderVars>,
     host: HostId,
     back: HostId,
     ahead: Ahead,
 ) -> Result<(), OutOfMemory>
     ensures { OnOk result (trace.new ≡ traced trace.old
-        (lent around.now.owner around.now.pc.now trace.old.counts from host back ahead)) }
+        (lent around.now.owner around.now.pc.now trace.old.counts from (riders_of riders) host back ahead)) }
 {
     let number = trace.entries();
     trace.entry(back, around.pc, ahead.behind)?;
     let segment = trace.entries();
     trace.entry(host, around.pc, ahead.row)?;
     trace.instruction(&around.place_on(from), push_or_ask(from, back, number))?;
-    trace.instruction(&around.place_on(from), Op::Go(EntryId(segment), host))?;
+    trace.instruction(&around.place_on(from), go_with(riders, EntryId(segment), host))?;
     trace.stands(host, segment)
 }
 
-/// The token comes from a host to a spot, where statements begin that need so much.
+/// The token comes from a host to a spot, where statements begin that need so much. The values of some variables ride.
 fn enter(
     trace: &mut Trace,
     around: &Around<'_>,
     from: HostId,
+    riders: Option<RiderVars>,
     spot: Spot,
     ahead: Ahead,
 ) -> Result<(), OutOfMemory>
     ensures { (walked : Walked) (statements : List StmtId) →
         IsAhead walked.planned spot.host statements ahead →
         OnOk result (trace.new ≡ traced trace.old
-        (enter_emissions walked (around_of around.now) trace.old.counts from spot statements)) }
+        (enter_emissions walked (around_of around.now) trace.old.counts from (riders_of riders) spot statements)) }
 {
     if from.0 == spot.host.0 {
         return Ok(());
     }
     match spot.back {
-        None => hand_on(trace, around, from, spot.host, ahead.all),
-        Some(back) => lend(trace, around, from, spot.host, back, ahead),
+        None => hand_on(trace, around, from, riders, spot.host, ahead.all),
+        Some(back) => lend(trace, around, from, riders, spot.host, back, ahead),
     }
 }
 
@@ -118,6 +124,7 @@ fn enter(
 /// # Errors
 /// Memory ran out.
 pub fn move_on(
+    alloc: Global,
     trace: &mut Trace,
     around: &Around<'_>,
     lane: Lane,
@@ -134,10 +141,12 @@ pub fn move_on(
         return Ok(lane);
     }
     let return_entry = trace.entries();
+    let riders = one_rider(alloc, lane.riding)?;
     leave(trace, around, lane)?;
-    enter(trace, around, lane.spot.end(), next, ahead)?;
+    enter(trace, around, lane.spot.end(), riders, next, ahead)?;
     Ok(Lane {
         spot: next,
         return_entry,
+        riding: None,
     })
 }

@@ -3,7 +3,7 @@
 use crate::trace::Place;
 use host_decl::Hosts;
 use jif_tree::{Checked, Method};
-use js_base::{HostId, StmtId};
+use js_base::{HostId, StmtId, VarId};
 use label_lattice::Label;
 use msg_cost::{Planned, Spot};
 use need_labels::{Needs, Plan};
@@ -80,9 +80,11 @@ impl<'a> Around<'a> {
     }
 }
 
-/// A spot, and the number of the entry that gives back what was lent there, where it was.
+/// A spot, the number of the entry that gives back what was lent there, where it was, and the variable whose value rides
+/// once the spot is left.
 #[derive(Clone, Copy)]
 pub struct Lane {
     pub spot: Spot,
     pub return_entry: u32,
+    pub riding: Option<VarId>,
 }

@@ -1,29 +1,24 @@
 -- What is due where the token moves: a lent segment has its row of statements due, and the entry that gives back what
 -- was lent all that is behind them.
 use Rattle.std.proofs.Common.{◌≡◌, ◌≢◌, ◌∙◌, ℕ, ◌+◌, Bool, true, false, inl, inr, List, [], ◌∷◌, ◌++◌, map, length}
-use Rattle.std.proofs.Common.{refl, ap, sym, subst, arith, append_assoc, length-append, eq-eqb, eqb-true, ne_eqb}
-use Rattle.std.proofs.Common.{append-nil, true≢false, slice_index}
+use Rattle.std.proofs.Common.{refl, ap, sym, subst, arith, append_assoc, length-append, eq-eqb, ne_eqb}
+use Rattle.std.proofs.Common.{append-nil, true≢false}
 use Rattle.std.proofs.lemmas.Bool.Decides.{eqb_tells}
 use Rattle.std.proofs.lemmas.List.{map-append}
-use Rattle.std.specs.Prelude.{Option, Some, None, ⊤, ◌&&◌, if◌then◌else◌, ◌≤◌, ◌<◌, slice_index, bit_or}
-use Rattle.std.specs.Int.{bit_at}
-use Rattle.std.proofs.lemmas.Nat.Bits.{bit_at_or}
-use Rattle.std.specs.List.{AllByRecursion}
+use Rattle.std.specs.Prelude.{Option, Some, None, ⊤, if◌then◌else◌}
 use Rattle.js_base.specs.declared.ids.HostId.{HostId}
 use Rattle.js_base.specs.declared.ids.StmtId.{StmtId}
 use Rattle.js_base.specs.declared.ids.VarId.{VarId}
-use Rattle.label_lattice.specs.declared.label.TheConstants.{READERS}
 use Rattle.jif_tree.specs.Trees.{BlockTree}
 use Rattle.host_code.specs.declared.instruction.Op.TheVariants as op
 use Rattle.need_labels.specs.Plan.{statement_host}
 use Rattle.msg_cost.specs.declared.spot.Spot.{Spot}
-use Rattle.msg_cost.specs.Moves.{PlannedShape, is_trusted_for, is_trusted_for_all, return_host, on, end_of, entered}
-use Rattle.msg_cost.specs.Moves.{next_spot, host_behind, is_same, straight_to, carried_to}
+use Rattle.msg_cost.specs.Moves.{PlannedShape, is_trusted_for_all, return_host, on, end_of, entered}
+use Rattle.msg_cost.specs.Moves.{next_spot, is_same, straight_to, carried_to}
 use Rattle.split_rules.specs.Walk.{Walked, Around, Lane, push_or_ask, leave_emissions, enter_emissions, move_emissions}
 use Rattle.split_rules.specs.Walk.{lane_at, row_on, need_of, behind_row, entry_id, go_with}
 use Rattle.split_rules.specs.Positions.{number_of, is_on, row_of, past_row, Due, run, Level, under, Position, calm}
-use Rattle.split_rules.specs.Positions.{Forward, with_forwards, Entrance, due_numbers, statement_due}
-use Rattle.split_rules.specs.Typable.{IsTrustedThere}
+use Rattle.split_rules.specs.Positions.{Forward, with_forwards, Entrance}
 use Rattle.split_rules.specs.Typing.{EntryIs, Cuts, Place, nowhere, here, TypedOp, AreTyped, need_due, Covers, AreDueOn}
 use Rattle.split_rules.specs.Typing.{AreSourced, RidesAll}
 use Rattle.split_rules.proofs.Places.{same_host}

@@ -1,26 +1,23 @@
 -- The reads of an expression leave what it reads.
-use Rattle.std.proofs.Common.{◌≡◌, ◌∙◌, ℕ, ◌+◌, true, List, [], ◌∷◌, ◌++◌, map, length, refl, ap, sym, subst}
-use Rattle.std.proofs.Common.{append_assoc, append-nil, length-append, inl, eq-eqb}
+use Rattle.std.proofs.Common.{◌≡◌, ◌∙◌, ℕ, ◌+◌, true, List, [], ◌∷◌, ◌++◌, length, refl, ap, sym, subst}
+use Rattle.std.proofs.Common.{append_assoc, append-nil, length-append}
 use Rattle.std.proofs.lemmas.List.{map-append}
 use Rattle.std.specs.Prelude.{pos}
 use Rattle.js_base.specs.declared.ids.HostId.{HostId}
 use Rattle.js_base.specs.declared.ids.FieldId.{FieldId}
-use Rattle.js_base.specs.declared.ids.VarId.{VarId}
 use Rattle.js_base.specs.declared.ids.StmtId.{StmtId}
 use Rattle.label_lattice.specs.declared.label.Label.{Label}
 use Rattle.jif_tree.specs.Trees.{ExprTree, number, local, scalar, element, inverted, negated, binary, declassified}
-use Rattle.jif_tree.specs.Trees.{endorsed, BlockTree}
+use Rattle.jif_tree.specs.Trees.{endorsed}
 use Rattle.host_code.specs.declared.code_expr.Node.{Node}
 use Rattle.host_code.specs.declared.instruction.Op.TheVariants as op
-use Rattle.msg_cost.specs.Moves.{PlannedShape, is_trusted_for}
+use Rattle.msg_cost.specs.Moves.{PlannedShape}
 use Rattle.split_rules.specs.Emissions.{Emission}
 use Rattle.split_rules.specs.Expressions.{Reading, reads_in, nodes_of, readings_of, first_element}
-use Rattle.split_rules.specs.Walk.{emitted, read_emissions, expr_emissions, send_emissions, pass_emissions}
-use Rattle.split_rules.specs.Walk.{other_readers}
-use Rattle.split_rules.specs.Positions.{Due, statement_due, is_on, FieldRead, field_reads, Argument, reads_due, arguing}
-use Rattle.split_rules.specs.Positions.{no_call, Forward, Position, with_reads, with_forwards, forwards_of, Entrance}
-use Rattle.split_rules.specs.Positions.{number_of, IsOf, without_forward}
-use Rattle.split_rules.specs.Typing.{AreDueOn, IsTrustedAt, AreSourced, Gives, here, AreTyped}
+use Rattle.split_rules.specs.Walk.{emitted, read_emissions, expr_emissions}
+use Rattle.split_rules.specs.Positions.{Due, statement_due, is_on, FieldRead, field_reads, reads_due}
+use Rattle.split_rules.specs.Positions.{Position, with_reads, Entrance}
+use Rattle.split_rules.specs.Typing.{IsTrustedAt, here, AreTyped}
 use Rattle.split_rules.proofs.TypedStates.{known_at, typed_on}
 
 pub reads_many : (expr : ExprTree) → length (field_reads expr) ≡ reads_in expr

@@ -1,6 +1,6 @@
 -- What rides with a thread that a walk hands over fits: variables of the program, not too many, and to another host.
-use Rattle.std.proofs.Common.{◌≡◌, ◌≢◌, ◌∙◌, ℕ, ◌+◌, ◌<◌, ◌≤◌, Bool, true, false, cond, ◌&&◌, not, inl, inr}
-use Rattle.std.proofs.Common.{List, [], ◌∷◌, ◌++◌, length, refl, ap, sym, subst, arith, eq-eqb, length-append}
+use Rattle.std.proofs.Common.{◌≡◌, ℕ, ◌<◌, ◌≤◌, Bool, true, false, cond, inl, inr}
+use Rattle.std.proofs.Common.{List, [], ◌∷◌, ◌++◌, length, refl, ap, sym, subst, arith, eq-eqb}
 use Rattle.std.proofs.lemmas.Bool.Decides.{eqb_tells}
 use Rattle.std.specs.Prelude.{Option, Some, None, ⊤}
 use Rattle.std.specs.List.{AllByRecursion}
@@ -13,7 +13,7 @@ use Rattle.jif_tree.specs.Trees.{ExprTree}
 use Rattle.host_code.specs.declared.riders.TheConstants.{MOST_RIDERS}
 use Rattle.msg_cost.specs.declared.spot.Spot.{Spot}
 use Rattle.msg_cost.specs.Moves.{PlannedShape, carried_to}
-use Rattle.msg_cost.specs.Terms.{reads_on, is_other_reader}
+use Rattle.msg_cost.specs.Terms.{is_other_reader}
 use Rattle.split_rules.specs.Emissions.{Emission}
 use Rattle.split_rules.specs.Flow.{Scope, stopped, awaited, at, Pending, State, IsVariable, IsOther, IsEntryOn}
 use Rattle.split_rules.specs.Flow.{AreRiding, Goes}
