@@ -1,8 +1,9 @@
 -- Laws of items one after another.
-use Rattle.std.proofs.Common.{◌≡◌, ℕ, zero, suc, ◌^◌, ◌<◌, List, [], ◌∷◌, ◌++◌, length, take, Some, refl, sym, ap, ◌∙◌}
-use Rattle.std.proofs.Common.{append_assoc, subst}
-use Rattle.std.specs.Prelude.{⊤, slice_get, All}
+use Rattle.std.proofs.Common.{◌≡◌, ℕ, zero, suc, ◌^◌, ◌<◌, ◌≤◌, true, ◌&&◌, List, [], ◌∷◌, ◌++◌, length, take, Some}
+use Rattle.std.proofs.Common.{refl, sym, ap, ◌∙◌, append_assoc, subst, arith}
+use Rattle.std.specs.Prelude.{⊤, slice_get, All, nat_le}
 use Rattle.std.specs.List.{flat_map, AllByRecursion}
+use Rattle.std.proofs.lemmas.Bool.{and_parts, leb-true, le-leb}
 use Rattle.std.proofs.lemmas.List.{append-nil}
 use Rattle.std.proofs.lemmas.List.Elements.{All-from_recursion, recursion_from_All}
 use Rattle.byte_format.specs.Numbers.{number_bytes}
@@ -129,3 +130,17 @@ pub list_again : {E A : Type 0} (short : E) (item : List A → Reader E A) (s : 
 unfolding list_at
 list_again short item s xs few all =
     again_then (λ count. items_at item [] count) (number_again short (length xs) few) (items_again item s [] xs all)
+
+-- ---- counts that have to be within two ends
+
+pub counted_within : {A : Type 0} (low high count : ℕ) (xs : List A) → length xs ≡ count →
+    (nat_le low count && nat_le count high) ≡ true → (low ≤ length xs) × (length xs ≤ high)
+counted_within low high count xs is within =
+    let parts = and_parts (nat_le low count) (nat_le count high) within in
+    let some : low ≤ count = leb-true _ _ parts.0 in
+    let most : count ≤ high = leb-true _ _ parts.1 in
+    (omega (arith, is, some), omega (arith, is, most))
+
+pub within_again : (low high count : ℕ) → low ≤ count → count ≤ high →
+    (nat_le low count && nat_le count high) ≡ true
+within_again low high count some most = rw (le-leb low count some, le-leb count high most) refl

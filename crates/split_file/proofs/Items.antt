@@ -1,5 +1,5 @@
 -- Items that are not read, where memory may have run out.
-use Rattle.std.proofs.Common.{◌≡◌, ℕ, ◌-◌, ◌<◌, false, List, [], ◌∷◌, ◌++◌, Result, Err, refl}
+use Rattle.std.proofs.Common.{◌≡◌, ℕ, ◌-◌, ◌<◌, false, List, [], ◌∷◌, ◌++◌, Result, refl}
 use Rattle.byte_format.specs.Reader.{handed_on, items_at}
 use Rattle.byte_format.proofs.Items.{items_refused}
 use Rattle.split_file.specs.declared.fault.Fault.{Fault}

@@ -6,15 +6,16 @@ use Rattle.host_code.specs.Code.{CodeShape}
 use Rattle.host_code.specs.Sound.{temporaries_at}
 use Rattle.split_file.specs.Reading.{instruction_at, next_instruction_at, part_at, next_part_at}
 
-pub next_instruction : (code : CodeShape) (me : HostId) (places : ℕ) (before : List Instr) (temporaries number : ℕ) →
+pub next_instruction : (version : ℕ) (code : CodeShape) (me : HostId) (places : ℕ) (before : List Instr)
+    (temporaries number : ℕ) →
     length before ≡ number → temporaries ≡ temporaries_at code.entries me before number →
-    next_instruction_at code me places before ≡ instruction_at code me places temporaries number
+    next_instruction_at version code me places before ≡ instruction_at version code me places temporaries number
 unfolding next_instruction_at
-next_instruction code me places before temporaries number count is =
-    ap (λ n. instruction_at code me places (temporaries_at code.entries me before n) n) count
-    ∙ ap (λ t. instruction_at code me places t number) (sym is)
+next_instruction version code me places before temporaries number count is =
+    ap (λ n. instruction_at version code me places (temporaries_at code.entries me before n) n) count
+    ∙ ap (λ t. instruction_at version code me places t number) (sym is)
 
-pub next_part : (code : CodeShape) (before : List (List Instr)) (host : ℕ) → length before ≡ host →
-    next_part_at code before ≡ part_at code (record { 0 = host })
+pub next_part : (version : ℕ) (code : CodeShape) (before : List (List Instr)) (host : ℕ) → length before ≡ host →
+    next_part_at version code before ≡ part_at version code (record { 0 = host })
 unfolding next_part_at
-next_part code before host count = ap (λ n. part_at code (record { 0 = n })) count
+next_part version code before host count = ap (λ n. part_at version code (record { 0 = n })) count

@@ -26,72 +26,77 @@ use Rattle.split_file.proofs.Temporaries.{few_at}
 -- ---- instructions
 
 -- the instruction of this number, of so many
-pub record InstructionIs (code : CodeShape) (me : HostId) (places temporaries number : ℕ) (instruction : Instr) :
+pub record InstructionIs (version : ℕ) (code : CodeShape) (me : HostId) (places temporaries number : ℕ)
+    (instruction : Instr) :
     Type 0 where
   pub label : instruction.label < length code.labels
   pub statement : instruction.statement.0 < 2 ^ 32
-  pub operation : OperationIs code me temporaries places instruction.op
+  pub operation : OperationIs version code me temporaries places instruction.op
   pub end : (nat_lt (suc number) places || is_leaving instruction.op) ≡ true
 
-pub instruction_reads : (code : CodeShape) (me : HostId) (places temporaries number : ℕ) →
-    Reads (instruction_at code me places temporaries number)
-    (λ i text. (text ≡ instruction_bytes i) × InstructionIs code me places temporaries number i)
+pub instruction_reads : (version : ℕ) (code : CodeShape) (me : HostId) (places temporaries number : ℕ) →
+    Reads (instruction_at version code me places temporaries number)
+    (λ i text. (text ≡ instruction_bytes i) × InstructionIs version code me places temporaries number i)
 unfolding instruction_at
-instruction_reads code me places temporaries number =
+instruction_reads version code me places temporaries number =
     reads_place (λ at. reads_then (index_reads (length code.labels)) (λ label label_is.
-    reads_then (number_reads _) (λ statement short. reads_then (operation_reads code me temporaries places) (λ o o_is.
+    reads_then (number_reads _) (λ statement short.
+    reads_then (operation_reads version code me temporaries places) (λ o o_is.
     reads_require (fault.BadField at) (λ ends. reads_given _
     (refl, record { label = label_is; statement = short; operation = o_is; end = ends }))))))
 
-pub instruction_again : (code : CodeShape) (me : HostId) (places temporaries number : ℕ) (i : Instr) → IsFew code →
-    temporaries < 2 ^ 32 → places < 2 ^ 32 → InstructionIs code me places temporaries number i →
-    Again (instruction_at code me places temporaries number) i (instruction_bytes i)
+pub instruction_again : (version : ℕ) (code : CodeShape) (me : HostId) (places temporaries number : ℕ) (i : Instr) →
+    IsFew code →
+    temporaries < 2 ^ 32 → places < 2 ^ 32 → InstructionIs version code me places temporaries number i →
+    Again (instruction_at version code me places temporaries number) i (instruction_bytes i)
 unfolding instruction_at
-instruction_again code me places temporaries number i few short limit is =
+instruction_again version code me places temporaries number i few short limit is =
     again_place (λ at. again_then _ (index_again (length code.labels) i.label few.labels is.label)
     (again_then _ (number_again _ i.statement.0 is.statement)
-    (again_then _ (operation_again code me temporaries places i.op few short limit is.operation)
+    (again_then _ (operation_again version code me temporaries places i.op few short limit is.operation)
     (again_require (fault.BadField at) is.end (again_given i)))))
 
 -- ---- parts
 
-abbrev pub InstructionBehind : CodeShape → HostId → ℕ → List Instr → Instr → Type 0
-InstructionBehind code me places before i =
-    InstructionIs code me places (temporaries_at code.entries me before (length before)) (length before) i
+abbrev pub InstructionBehind : ℕ → CodeShape → HostId → ℕ → List Instr → Instr → Type 0
+InstructionBehind version code me places before i =
+    InstructionIs version code me places (temporaries_at code.entries me before (length before)) (length before) i
 
-pub next_reads : (code : CodeShape) (me : HostId) (places : ℕ) (before : List Instr) →
-    Reads (next_instruction_at code me places before)
-    (λ i text. (text ≡ instruction_bytes i) × InstructionBehind code me places before i)
+pub next_reads : (version : ℕ) (code : CodeShape) (me : HostId) (places : ℕ) (before : List Instr) →
+    Reads (next_instruction_at version code me places before)
+    (λ i text. (text ≡ instruction_bytes i) × InstructionBehind version code me places before i)
 unfolding next_instruction_at
-next_reads code me places before =
-    instruction_reads code me places (temporaries_at code.entries me before (length before)) (length before)
+next_reads version code me places before =
+    instruction_reads version code me places (temporaries_at code.entries me before (length before)) (length before)
 
-pub record PartIs (code : CodeShape) (me : HostId) (part : List Instr) : Type 0 where
+pub record PartIs (version : ℕ) (code : CodeShape) (me : HostId) (part : List Instr) : Type 0 where
   pub short : length part < 2 ^ 32
-  pub each : AllIn (InstructionBehind code me (length part)) [] part
+  pub each : AllIn (InstructionBehind version code me (length part)) [] part
 
-pub part_reads : (code : CodeShape) (me : HostId) → Reads (part_at code me)
-    (λ part text. (text ≡ part_bytes part) × PartIs code me part)
+pub part_reads : (version : ℕ) (code : CodeShape) (me : HostId) → Reads (part_at version code me)
+    (λ part text. (text ≡ part_bytes part) × PartIs version code me part)
 unfolding part_at
-part_reads code me =
+part_reads version code me =
     reads_then (number_reads _) (λ places short. reads_weaker
-    (all_read (next_instruction_at code me places) instruction_bytes (InstructionBehind code me places)
-    (next_reads code me places) places) (λ part text is. (
+    (all_read (next_instruction_at version code me places) instruction_bytes (InstructionBehind version code me places)
+    (next_reads version code me places) places) (λ part text is. (
       ap (λ t. number_bytes places ++ t) is.0
           ∙ ap (λ n. number_bytes n ++ flat_map instruction_bytes part) (sym is.1.0),
       record {
         short = subst (λ n. n < 2 ^ 32) (sym is.1.0) short;
-        each = subst (λ n. AllIn (InstructionBehind code me n) [] part) (sym is.1.0) is.1.1;
+        each = subst (λ n. AllIn (InstructionBehind version code me n) [] part) (sym is.1.0) is.1.1;
       },
     )))
 
-next_again : (code : CodeShape) (me : HostId) (places : ℕ) (before : List Instr) (i : Instr) → IsFew code →
-    length before < 2 ^ 32 → places < 2 ^ 32 → InstructionBehind code me places before i →
-    Again (next_instruction_at code me places before) i (instruction_bytes i)
+next_again : (version : ℕ) (code : CodeShape) (me : HostId) (places : ℕ) (before : List Instr) (i : Instr) →
+    IsFew code →
+    length before < 2 ^ 32 → places < 2 ^ 32 → InstructionBehind version code me places before i →
+    Again (next_instruction_at version code me places before) i (instruction_bytes i)
 unfolding next_instruction_at
-next_again code me places before i few short limit is =
+next_again version code me places before i few short limit is =
     let below = few_at code.entries me before (length before) in
-    instruction_again code me places (temporaries_at code.entries me before (length before)) (length before) i few
+    instruction_again version code me places (temporaries_at code.entries me before (length before))
+    (length before) i few
     (omega (arith, below, short)) limit is
 
 -- each of these items stands in a list that is not too long
@@ -106,41 +111,47 @@ short_fronts P limit before (x ∷ xs) short all =
           all.1,
     )
 
-pub part_again : (code : CodeShape) (me : HostId) (part : List Instr) → IsFew code → PartIs code me part →
-    Again (part_at code me) part (part_bytes part)
+pub part_again : (version : ℕ) (code : CodeShape) (me : HostId) (part : List Instr) → IsFew code →
+    PartIs version code me part →
+    Again (part_at version code me) part (part_bytes part)
 unfolding part_at
-part_again code me part few is =
+part_again version code me part few is =
     let each = all_weaker
-    (λ front i. (length front < 2 ^ 32) × InstructionBehind code me (length part) front i)
-    (λ front i. Again (next_instruction_at code me (length part) front) i (instruction_bytes i))
-    (λ front i here. next_again code me (length part) front i few here.0 is.short here.1) [] part
-    (short_fronts (InstructionBehind code me (length part)) (2 ^ 32) [] part is.short is.each) in
-    again_then (λ places. items_at (next_instruction_at code me places) [] places)
+    (λ front i. (length front < 2 ^ 32) × InstructionBehind version code me (length part) front i)
+    (λ front i. Again (next_instruction_at version code me (length part) front) i (instruction_bytes i))
+    (λ front i here. next_again version code me (length part) front i few here.0 is.short here.1) [] part
+    (short_fronts (InstructionBehind version code me (length part)) (2 ^ 32) [] part is.short is.each) in
+    again_then (λ places. items_at (next_instruction_at version code me places) [] places)
     (number_again _ (length part) is.short)
-    (items_again (next_instruction_at code me (length part)) instruction_bytes [] part each)
+    (items_again (next_instruction_at version code me (length part)) instruction_bytes [] part each)
 
 -- ---- the parts of all hosts
 
-abbrev pub PartBehind : CodeShape → List (List Instr) → List Instr → Type 0
-PartBehind code before part = PartIs code (record { 0 = length before }) part
+abbrev pub PartBehind : ℕ → CodeShape → List (List Instr) → List Instr → Type 0
+PartBehind version code before part = PartIs version code (record { 0 = length before }) part
 
-next_part_reads : (code : CodeShape) (before : List (List Instr)) → Reads (next_part_at code before)
-    (λ part text. (text ≡ part_bytes part) × PartBehind code before part)
+next_part_reads : (version : ℕ) (code : CodeShape) (before : List (List Instr)) →
+    Reads (next_part_at version code before)
+    (λ part text. (text ≡ part_bytes part) × PartBehind version code before part)
 unfolding next_part_at
-next_part_reads code before = part_reads code (record { 0 = length before })
+next_part_reads version code before = part_reads version code (record { 0 = length before })
 
-pub parts_reads : (code : CodeShape) (count : ℕ) → Reads (items_at (next_part_at code) [] count)
-    (λ parts text. (text ≡ flat_map part_bytes parts) × ((length parts ≡ count) × AllIn (PartBehind code) [] parts))
-parts_reads code count = all_read (next_part_at code) part_bytes (PartBehind code) (next_part_reads code) count
+pub parts_reads : (version : ℕ) (code : CodeShape) (count : ℕ) → Reads (items_at (next_part_at version code) [] count)
+    (λ parts text. (text ≡ flat_map part_bytes parts)
+    × ((length parts ≡ count) × AllIn (PartBehind version code) [] parts))
+parts_reads version code count =
+    all_read (next_part_at version code) part_bytes (PartBehind version code) (next_part_reads version code) count
 
-next_part_again : (code : CodeShape) (before : List (List Instr)) (part : List Instr) → IsFew code →
-    PartBehind code before part → Again (next_part_at code before) part (part_bytes part)
+next_part_again : (version : ℕ) (code : CodeShape) (before : List (List Instr)) (part : List Instr) → IsFew code →
+    PartBehind version code before part → Again (next_part_at version code before) part (part_bytes part)
 unfolding next_part_at
-next_part_again code before part few is = part_again code (record { 0 = length before }) part few is
+next_part_again version code before part few is = part_again version code (record { 0 = length before }) part few is
 
-pub parts_again : (code : CodeShape) (parts : List (List Instr)) → IsFew code → AllIn (PartBehind code) [] parts →
-    Again (items_at (next_part_at code) [] (length parts)) parts (flat_map part_bytes parts)
-parts_again code parts few all =
-    items_again (next_part_at code) part_bytes [] parts
-    (all_weaker (PartBehind code) (λ before part. Again (next_part_at code before) part (part_bytes part))
-    (λ before part is. next_part_again code before part few is) [] parts all)
+pub parts_again : (version : ℕ) (code : CodeShape) (parts : List (List Instr)) → IsFew code →
+    AllIn (PartBehind version code) [] parts →
+    Again (items_at (next_part_at version code) [] (length parts)) parts (flat_map part_bytes parts)
+parts_again version code parts few all =
+    items_again (next_part_at version code) part_bytes [] parts
+    (all_weaker (PartBehind version code)
+    (λ before part. Again (next_part_at version code before) part (part_bytes part))
+    (λ before part is. next_part_again version code before part few is) [] parts all)

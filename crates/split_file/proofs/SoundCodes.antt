@@ -3,7 +3,7 @@ use Rattle.std.proofs.Common.{◌≡◌, ℕ, zero, suc, ◌+◌, ◌-◌, ◌^�
 use Rattle.std.proofs.Common.{[], ◌∷◌, ◌++◌, length, get_or, take, drop, Option, Some, None, refl, sym, ap, subst, ◌∙◌}
 use Rattle.std.proofs.Common.{append_assoc, arith}
 use Rattle.std.specs.Prelude.{All, IsSomeAnd, slice_get, nat_lt, FitsSigned, unwrap_or}
-use Rattle.std.specs.List.{AllByRecursion}
+use Rattle.std.specs.List.{AllByRecursion, list_any}
 use Rattle.std.specs.Int.{w64}
 use Rattle.std.proofs.lemmas.Bool.{cases_lt, lt-ltb, le-ltb}
 use Rattle.std.proofs.lemmas.Option.{slice_get-get_or}
@@ -17,6 +17,7 @@ use Rattle.host_code.specs.declared.instruction.Instr.{Instr}
 use Rattle.host_code.specs.Code.{CodeShape, CodeFieldShape, part_of}
 use Rattle.host_code.specs.Sound.{IsHost, IsLeaving, OperationFits, PartFits, FieldFits, EntryFits, temporaries_at}
 use Rattle.byte_format.proofs.ItemLaws.{AllIn, all_of, in_all, all_weaker, at_place, by_place}
+use Rattle.split_file.specs.Spelling.{has_riders, any_ride}
 use Rattle.split_file.specs.Reading.{is_leaving, elements_of, is_empty, with_parts}
 use Rattle.split_file.specs.File.{IsRealInstruction, IsRealCode}
 use Rattle.split_file.proofs.TableLaws.{FieldIs}
@@ -38,6 +39,20 @@ got : {A : Type 0} (xs : List A) (at : ℕ) → at < length xs → (x : A) × (s
 got [] at lt = absurd (omega arith)
 got (x ∷ xs) zero lt = (x, refl)
 got (x ∷ xs) (suc at) lt = got xs at (omega arith)
+
+either_way : (one other : Bool) → (one ≡ true) ⊎ (other ≡ true) → (one || other) ≡ true
+either_way true other is = refl
+either_way false other (inl is) = absurd cc
+either_way false other (inr is) = is
+
+-- an item that passes the test is enough
+any_at : {A : Type 0} (p : A → Bool) (xs : List A) (at : ℕ) (x : A) → slice_get xs at ≡ Some x → p x ≡ true →
+    list_any p xs ≡ true
+any_at p [] at x is passes = absurd cc
+any_at p (y ∷ xs) zero x is passes =
+    let same : y ≡ x = cc in
+    either_way (p y) (list_any p xs) (inl (ap p same ∙ passes))
+any_at p (y ∷ xs) (suc at) x is passes = either_way (p y) (list_any p xs) (inr (any_at p xs at x is passes))
 
 -- the temporaries at a place of a part are those of what stands before it
 temporaries_here : (entries : List Entry) (me : HostId) (part : List Instr) (at : ℕ) → at ≤ length part →
@@ -75,56 +90,56 @@ last_leaves part x at found long (inr leaving') =
     let there = subst (λ n. IsSomeAnd (slice_get part n) (λ l. IsLeaving l.op)) place leaving' in
     leaves x.op (subst (λ o. IsSomeAnd o (λ l. IsLeaving l.op)) found there)
 
-either_way : (one other : Bool) → (one ≡ true) ⊎ (other ≡ true) → (one || other) ≡ true
-either_way true other is = refl
-either_way false other (inl is) = absurd cc
-either_way false other (inr is) = is
-
 -- ---- parts
 
 -- the instruction at a place of a part that was read
-here : (code : CodeShape) (me : HostId) (part : List Instr) (at : ℕ) (i : Instr) → PartIs code me part →
-    slice_get part at ≡ Some i → InstructionIs code me (length part) (temporaries_at code.entries me part at) at i
-here code me part at i is found =
+here : (version : ℕ) (code : CodeShape) (me : HostId) (part : List Instr) (at : ℕ) (i : Instr) →
+    PartIs version code me part →
+    slice_get part at ≡ Some i →
+    InstructionIs version code me (length part) (temporaries_at code.entries me part at) at i
+here version code me part at i is found =
     let within = got_within part at i found in
-    let fact = at_place (InstructionBehind code me (length part)) [] part at i is.each found in
+    let fact = at_place (InstructionBehind version code me (length part)) [] part at i is.each found in
     let len : length (take at part) ≡ at = length-take-le at part (omega (arith, within)) in
     let count = temporaries_here code.entries me part at (omega (arith, within)) in
-    subst (λ n. InstructionIs code me (length part) (temporaries_at code.entries me part at) n i) len
-    (subst (λ t. InstructionIs code me (length part) t (length (take at part)) i) count fact)
+    subst (λ n. InstructionIs version code me (length part) (temporaries_at code.entries me part at) n i) len
+    (subst (λ t. InstructionIs version code me (length part) t (length (take at part)) i) count fact)
 
-pub part_fits : (code : CodeShape) (parts : List (List Instr)) (me : HostId) →
-    PartIs code me (part_of (with_parts code parts) me) → PartFits (with_parts code parts) me
-part_fits code parts me is =
+pub part_fits : (version : ℕ) (code : CodeShape) (parts : List (List Instr)) (me : HostId) →
+    PartIs version code me (part_of (with_parts code parts) me) → PartFits (with_parts code parts) me
+part_fits version code parts me is =
     let part = part_of (with_parts code parts) me in
     record {
       few = omega (arith, is.short);
       instructions = λ at i found.
-          let fact = here code me part at i is found in
+          let fact = here version code me part at i is found in
           record {
             label = fact.label;
-            operation = operation_fits code parts me (temporaries_at code.entries me part at) (length part) i.op refl
+            operation = operation_fits version code parts me (temporaries_at code.entries me part at)
+                (length part) i.op refl
                 fact.operation;
           };
-      end = end_of part (λ at i found. (here code me part at i is found).end);
+      end = end_of part (λ at i found. (here version code me part at i is found).end);
     }
 
-real_part : (code : CodeShape) (me : HostId) (part : List Instr) → PartIs code me part → All IsRealInstruction part
-real_part code me part is at d within =
-    let fact = here code me part at (get_or part at d) is (slice_get-get_or part at d within) in (
+real_part : (version : ℕ) (code : CodeShape) (me : HostId) (part : List Instr) → PartIs version code me part →
+    All IsRealInstruction part
+real_part version code me part is at d within =
+    let fact = here version code me part at (get_or part at d) is (slice_get-get_or part at d within) in (
       fact.statement,
-      operation_words code me (temporaries_at code.entries me part at) (length part)
+      operation_words version code me (temporaries_at code.entries me part at) (length part)
           (get_or part at d).op fact.operation,
     )
 
-pub part_is : (code : CodeShape) (me : HostId) → PartFits code me → All IsRealInstruction (part_of code me) →
-    PartIs (with_parts code []) me (part_of code me)
-part_is code me fits real =
+pub part_is : (version : ℕ) (code : CodeShape) (me : HostId) → PartFits code me →
+    All IsRealInstruction (part_of code me) →
+    (any_ride (part_of code me) ≡ true → version ≡ 2) → PartIs version (with_parts code []) me (part_of code me)
+part_is version code me fits real riding =
     let part = part_of code me in
     let bare = with_parts code [] in
     record {
       short = omega (arith, fits.few);
-      each = by_place (InstructionBehind bare me (length part)) part (λ front x back whole.
+      each = by_place (InstructionBehind version bare me (length part)) part (λ front x back whole.
           let found : slice_get part (length front) ≡ Some x =
           subst (λ w. slice_get w (length front) ≡ Some x) whole (last_at front x back) in
           let within = got_within part (length front) x found in
@@ -139,7 +154,8 @@ part_is code me fits real =
           record {
             label = fact.label;
             statement = kept.0;
-            operation = operation_is code me (temporaries_at code.entries me front (length front)) x.op
+            operation = operation_is version code me (temporaries_at code.entries me front (length front)) x.op
+                (λ rides. riding (any_at (λ one. has_riders one.op) part (length front) x found rides))
                 (subst (λ t. OperationFits code me t x.op) count fact.operation) kept.1;
             end = either_way (nat_lt (suc (length front)) (length part)) (is_leaving x.op)
                 (elim (cases_lt (suc (length front)) (length part)) [
@@ -151,27 +167,28 @@ part_is code me fits real =
 
 -- ---- all parts
 
-part_there : (code : CodeShape) (parts : List (List Instr)) (me : HostId) (part : List Instr) →
-    AllIn (PartBehind code) [] parts → slice_get parts me.0 ≡ Some part → PartIs code me part
-part_there code parts me part all found =
+part_there : (version : ℕ) (code : CodeShape) (parts : List (List Instr)) (me : HostId) (part : List Instr) →
+    AllIn (PartBehind version code) [] parts → slice_get parts me.0 ≡ Some part → PartIs version code me part
+part_there version code parts me part all found =
     let within = got_within parts me.0 part found in
-    let fact = at_place (PartBehind code) [] parts me.0 part all found in
+    let fact = at_place (PartBehind version code) [] parts me.0 part all found in
     let len : length (take me.0 parts) ≡ me.0 = length-take-le me.0 parts (omega (arith, within)) in
     let same : record { 0 = length (take me.0 parts) } ≡ me = ap (λ n. record { 0 = n }) len in
-    subst (λ h. PartIs code h part) same fact
+    subst (λ h. PartIs version code h part) same fact
 
-parts_fit : (code : CodeShape) (parts : List (List Instr)) → length parts ≡ length code.hosts →
-    AllIn (PartBehind code) [] parts → (me : HostId) → IsHost code me → PartFits (with_parts code parts) me
-parts_fit code parts long all me is_host =
+parts_fit : (version : ℕ) (code : CodeShape) (parts : List (List Instr)) → length parts ≡ length code.hosts →
+    AllIn (PartBehind version code) [] parts → (me : HostId) → IsHost code me → PartFits (with_parts code parts) me
+parts_fit version code parts long all me is_host =
     let found = got parts me.0 (omega (arith, long)) in
     let same : part_of (with_parts code parts) me ≡ found.0 = ap (λ there. unwrap_or there []) found.1 in
-    part_fits code parts me (subst (λ p. PartIs code me p) (sym same) (part_there code parts me found.0 all found.1))
+    part_fits version code parts me (subst (λ p. PartIs version code me p) (sym same)
+    (part_there version code parts me found.0 all found.1))
 
-real_parts : (code : CodeShape) (parts : List (List Instr)) → AllIn (PartBehind code) [] parts →
+real_parts : (version : ℕ) (code : CodeShape) (parts : List (List Instr)) → AllIn (PartBehind version code) [] parts →
     All (All IsRealInstruction) parts
-real_parts code parts all at d within =
-    real_part code (record { 0 = at }) (get_or parts at d)
-    (part_there code parts (record { 0 = at }) (get_or parts at d) all (slice_get-get_or parts at d within))
+real_parts version code parts all at d within =
+    real_part version code (record { 0 = at }) (get_or parts at d)
+    (part_there version code parts (record { 0 = at }) (get_or parts at d) all (slice_get-get_or parts at d within))
 
 -- ---- fields
 
@@ -221,10 +238,11 @@ first_entry hosts labels entries e all found =
 abbrev pub Stand : CodeShape → List Entry → Type 0
 Stand code entries = AllByRecursion (λ e. e.at < length (part_of code e.host)) entries
 
-pub sound_code : (code : CodeShape) (parts : List (List Instr)) → FrontIs code → length parts ≡ length code.hosts →
-    AllIn (PartBehind code) [] parts → Stand (with_parts code parts) code.entries →
+pub sound_code : (version : ℕ) (code : CodeShape) (parts : List (List Instr)) → FrontIs code →
+    length parts ≡ length code.hosts →
+    AllIn (PartBehind version code) [] parts → Stand (with_parts code parts) code.entries →
     IsRealCode (with_parts code parts)
-sound_code code parts front long all stand =
+sound_code version code parts front long all stand =
     let tables = front.tables in
     let starts = front.starts in
     let hosts = length code.hosts in
@@ -263,7 +281,7 @@ sound_code code parts front long all stand =
         few_sites = omega (arith, starts.few_sites);
         sites = starts.each_site;
         a_part_each = long;
-        parts = λ me is_host. parts_fit code parts long all me is_host;
+        parts = λ me is_host. parts_fit version code parts long all me is_host;
         halt_first = halt_is (slice_get code.entries 0) code.root (entry_there code.entries 0 code.root starts.root_is)
             (λ e found. first_entry hosts labels code.entries e starts.each_entry found);
         main = entry_there code.entries code.main.0 code.root starts.main_is;
@@ -273,7 +291,7 @@ sound_code code parts front long all stand =
         labels = tables.labels;
         fields = λ k d lt. (fields k d lt).1;
         entries = λ k d lt. (each_entry k d lt).need;
-        parts = real_parts code parts all;
+        parts = real_parts version code parts all;
       },
     )
 
@@ -392,17 +410,22 @@ few_items code sound = record {
   sites = omega (arith, sound.0.few_sites);
 }
 
-pub parts_are : (code : CodeShape) → IsRealCode code → AllIn (PartBehind (with_parts code [])) [] code.parts
-parts_are code sound =
-    by_place (PartBehind (with_parts code [])) code.parts (λ front part back whole.
+-- in a file of a version in which all values may ride that do
+pub parts_are : (version : ℕ) (code : CodeShape) → IsRealCode code →
+    (list_any any_ride code.parts ≡ true → version ≡ 2) →
+    AllIn (PartBehind version (with_parts code [])) [] code.parts
+parts_are version code sound riding =
+    by_place (PartBehind version (with_parts code [])) code.parts (λ front part back whole.
     let me : HostId = record { 0 = length front } in
     let found = item_behind front part back code.parts whole in
     let same : part_of code me ≡ part = ap (λ there. unwrap_or there []) found in
     let within = got_within code.parts (length front) part found in
     let is_host : IsHost code me = omega (arith, within, sound.0.a_part_each) in
     let real = fact_behind (All IsRealInstruction) front part back code.parts whole sound.1.parts in
-    subst (λ p. PartIs (with_parts code []) me p) same
-    (part_is code me (sound.0.parts me is_host) (subst (All IsRealInstruction) (sym same) real))) [] code.parts refl
+    subst (λ p. PartIs version (with_parts code []) me p) same
+    (part_is version code me (sound.0.parts me is_host) (subst (All IsRealInstruction) (sym same) real)
+    (λ rides. riding (any_at any_ride code.parts (length front) part found (ap any_ride (sym same) ∙ rides)))))
+    [] code.parts refl
 
 pub entries_there : (code : CodeShape) → IsRealCode code → Stand code code.entries
 entries_there code sound =

@@ -109,10 +109,10 @@ pub starts_read : (hosts labels : ℕ) → Reads (starts_at hosts labels)
     × StartsAre hosts labels starts.entries starts.sites starts.root starts.main)
 unfolding starts_at
 starts_read hosts labels =
-    reads_then (list_read (λ before. entry_row_at hosts labels (is_empty before)) entry_bytes
+    reads_then (list_read _ (λ before. entry_row_at hosts labels (is_empty before)) entry_bytes
     (λ before entry. EntryIs hosts labels (is_empty before) entry)
     (λ before. entry_reads hosts labels (is_empty before))) (λ entries entries_are. reads_place (λ behind.
-    reads_then (list_read (λ _. host_id_at hosts) host_id_bytes (λ _ site. site.0 < hosts) (λ _. host_id_reads hosts))
+    reads_then (list_read _ (λ _. host_id_at hosts) host_id_bytes (λ _ site. site.0 < hosts) (λ _. host_id_reads hosts))
     (λ sites sites_are.
     reads_then (root_reads entries) (λ root root_is. reads_then (main_reads entries root) (λ main main_is.
     reads_given _ (
@@ -143,9 +143,9 @@ starts_again hosts labels entries sites root main few are =
     (λ before entry is. entry_again hosts labels (is_empty before) entry few is) [] entries are.each_entry in
     let each_site = all_weaker (λ _ site. site.0 < hosts) (λ _ site. Again (host_id_at hosts) site (host_id_bytes site))
     (λ _ site is. host_id_again hosts site is) [] sites (in_all (λ site. site.0 < hosts) [] sites are.each_site) in
-    some_then _ (list_again (λ before. entry_row_at hosts labels (is_empty before)) entry_bytes entries
+    some_then _ (list_again _ (λ before. entry_row_at hosts labels (is_empty before)) entry_bytes entries
     are.few_entries each_entry) (some_place (λ behind.
-    some_then _ (list_again (λ _. host_id_at hosts) host_id_bytes sites are.few_sites each_site)
+    some_then _ (list_again _ (λ _. host_id_at hosts) host_id_bytes sites are.few_sites each_site)
     (some_then _ (root_again entries root are.root_is)
     (some_then _ (main_again entries root main are.main_short are.main_is)
     (some_same (IsStart entries sites root main) (again_given _) (behind, refl))))))

@@ -259,12 +259,12 @@ pub tables_read : Reads tables_at (λ tables text. (text ≡ tables_bytes tables
 unfolding tables_at
 tables_read =
     reads_then hosts_reads (λ hosts hosts_are.
-    reads_then (list_read (λ _. label_at) label_bytes (λ _ label. IsLabel label) (λ _. label_reads))
+    reads_then (list_read _ (λ _. label_at) label_bytes (λ _ label. IsLabel label) (λ _. label_reads))
     (λ labels labels_are.
-    reads_then (list_read (λ before. field_row_at (length hosts) (length labels) (elements_of before)) field_bytes
+    reads_then (list_read _ (λ before. field_row_at (length hosts) (length labels) (elements_of before)) field_bytes
     (λ before field. FieldIs (length hosts) (length labels) (elements_of before) field)
     (λ before. field_reads (length hosts) (length labels) (elements_of before))) (λ fields fields_are.
-    reads_then (list_read (λ _. variable_row_at (length labels)) variable_bytes
+    reads_then (list_read _ (λ _. variable_row_at (length labels)) variable_bytes
     (λ _ variable. VariableIs (length labels) variable) (λ _. variable_reads (length labels)))
     (λ variables variables_are. reads_given _ (
       refl,
@@ -295,8 +295,8 @@ tables_again tables are =
     (λ _ variable is. variable_again labels variable are.few_labels is) [] tables.variables
     (in_all (VariableIs labels) [] tables.variables are.variables) in
     again_then _ (hosts_again tables.hosts are.hosts)
-    (again_then _ (list_again (λ _. label_at) label_bytes tables.labels are.few_labels each_label)
-    (again_then _ (list_again (λ before. field_row_at hosts labels (elements_of before)) field_bytes tables.fields
+    (again_then _ (list_again _ (λ _. label_at) label_bytes tables.labels are.few_labels each_label)
+    (again_then _ (list_again _ (λ before. field_row_at hosts labels (elements_of before)) field_bytes tables.fields
     are.few_fields each_field)
-    (again_then _ (list_again (λ _. variable_row_at labels) variable_bytes tables.variables are.few_variables
+    (again_then _ (list_again _ (λ _. variable_row_at labels) variable_bytes tables.variables are.few_variables
     each_variable) (again_given tables))))

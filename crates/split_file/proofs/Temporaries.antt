@@ -55,6 +55,8 @@ temporaries_few (op.Call entry on) count false = omega arith
 temporaries_few (op.Ret variable value) count false = omega arith
 temporaries_few op.Back count false = omega arith
 temporaries_few (op.Branch guard target) count false = omega arith
+temporaries_few (op.GoWith entry on riders) count false = omega arith
+temporaries_few (op.CallWith entry on riders) count false = omega arith
 
 few_past : (there : Option Instr) (count : ℕ) → temporaries_past there count ≤ suc count
 few_past None count = omega arith

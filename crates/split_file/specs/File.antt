@@ -1,6 +1,5 @@
 -- Which code a split file holds, and otherwise why it is refused.
-use Rattle.std.specs.Prelude.{◌≡◌, ℕ, ◌-◌, ◌<◌, ◌^◌, List, length, All, Result, Ok, Err, ⊤}
-use Rattle.std.specs.Prelude.{FitsSigned}
+use Rattle.std.specs.Prelude.{◌≡◌, ℕ, ◌-◌, ◌<◌, ◌^◌, List, length, All, Result, Ok, Err, ⊤, FitsSigned}
 use Rattle.std.specs.Int.{w64}
 use Rattle.label_lattice.specs.Label.{IsLabel}
 use Rattle.host_code.specs.declared.instruction.Instr.{Instr}

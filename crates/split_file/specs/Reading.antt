@@ -4,11 +4,11 @@
 -- Of a split file the first fault from the front is told. The place of a text is that of its length, and a text that
 -- passes the end is short, whatever it begins with. The first eight bytes are compared when all are there. An
 -- expression that does not leave one value, or has no nodes, is refused at its count, once all its nodes were read; a
--- part that ends in another way than code may, at its last instruction. Without an entry the root is out of range. All
--- words of a label are taken as they are. So each file that is none has one refusal.
-use Rattle.std.specs.Prelude.{ℕ, ◌+◌, ◌*◌, suc, Bool, true, false, not, ◌&&◌, ◌||◌, ◌==◌}
-use Rattle.std.specs.Prelude.{if◌then◌else◌, List, [], ◌∷◌, length, nat_lt, nat_le, slice_get, sum_by, codes}
-use Rattle.std.specs.Prelude.{Ok, Err, ⊤}
+-- part that ends in another way than code may, at its last instruction. Without an entry the root is out of range. The
+-- version is, where it is 2 and no values ride, and that is tested behind all parts too. All words of a label are taken
+-- as they are. So each file that is none has one refusal.
+use Rattle.std.specs.Prelude.{ℕ, ◌+◌, ◌*◌, suc, Bool, true, false, not, ◌&&◌, ◌||◌, ◌==◌, if◌then◌else◌, List, [], ◌∷◌}
+use Rattle.std.specs.Prelude.{length, nat_lt, nat_le, slice_get, sum_by, codes, Ok, Err, ⊤}
 use Rattle.std.specs.Option.{option_map_or}
 use Rattle.std.specs.List.{before_first, after_first}
 use Rattle.std.specs.Str.{bytes_eq}
@@ -30,15 +30,15 @@ use Rattle.host_code.specs.declared.instruction.Op.TheVariants as op
 use Rattle.host_code.specs.declared.code_expr.Node.{Node}
 use Rattle.host_code.specs.declared.code_expr.Node.TheVariants as node
 use Rattle.host_code.specs.declared.code_expr.TheConstants.{MOST_NODES}
-use Rattle.host_code.specs.Code.{CodeShape, CodeHostShape, CodeFieldShape, CodeVariableShape, part_of}
-use Rattle.host_code.specs.Code.{host_of_site}
+use Rattle.host_code.specs.declared.riders.TheConstants.{MOST_RIDERS}
+use Rattle.host_code.specs.Code.{CodeShape, CodeHostShape, CodeFieldShape, CodeVariableShape, part_of, host_of_site}
 use Rattle.host_code.specs.CodeExpr.{depth_after}
 use Rattle.host_code.specs.Sound.{temporaries_at}
 use Rattle.byte_format.specs.Reader.{◌>>=◌, given, refused, require, items_at}
 use Rattle.split_file.specs.declared.fault.Fault.TheVariants as fault
-use Rattle.split_file.specs.Spelling.{magic}
-use Rattle.split_file.specs.Reader.{Reader, place, in_range, byte_at, bytes_at, number_at, integer_at, text_at}
-use Rattle.split_file.specs.Reader.{list_at}
+use Rattle.split_file.specs.declared.reading.Front.{Front}
+use Rattle.split_file.specs.Spelling.{magic, version_of}
+use Rattle.split_file.specs.Reader.{Reader, place, in_range, byte_at, bytes_at, number_at, integer_at, text_at, list_at}
 
 -- ---- names
 
@@ -368,9 +368,27 @@ branch_at code temporaries places = do
   target ← index_at places
   given (op.Branch guard target)
 
--- what follows the first byte of an operation
-unfoldable pub operation_of : CodeShape → HostId → ℕ → ℕ → ℕ → ℕ → Reader Op
-operation_of code me temporaries places at byte =
+-- the variables whose values ride, 1 to 8, of so many
+unfoldable pub riders_at : ℕ → Reader (List VarId)
+riders_at variables = do
+  count ← in_range (λ count. nat_le 1 count && nat_le count MOST_RIDERS) (number_at w32)
+  items_at (λ _. variable_id_at variables) [] count
+
+unfoldable pub go_with_at : CodeShape → HostId → Reader Op
+go_with_at code me = do
+  where_to ← entered_at code me
+  riders ← riders_at (length code.variables)
+  given (op.GoWith where_to.0 where_to.1 riders)
+
+unfoldable pub call_with_at : CodeShape → HostId → Reader Op
+call_with_at code me = do
+  where_to ← entered_at code me
+  riders ← riders_at (length code.variables)
+  given (op.CallWith where_to.0 where_to.1 riders)
+
+-- what follows the first byte of an operation, in a file of this version
+unfoldable pub operation_of : ℕ → CodeShape → HostId → ℕ → ℕ → ℕ → ℕ → Reader Op
+operation_of version code me temporaries places at byte =
     if byte == 1 then read_at code temporaries
     else (if byte == 2 then let_at code temporaries
     else (if byte == 3 then put_at code temporaries
@@ -385,13 +403,15 @@ operation_of code me temporaries places at byte =
     else (if byte == 12 then ret_at code temporaries
     else (if byte == 13 then given op.Back
     else (if byte == 14 then branch_at code temporaries places
-    else refused (fault.BadField at))))))))))))))
+    else (if byte == 15 && version == 2 then go_with_at code me
+    else (if byte == 16 && version == 2 then call_with_at code me
+    else refused (fault.BadField at))))))))))))))))
 
-unfoldable pub operation_at : CodeShape → HostId → ℕ → ℕ → Reader Op
-operation_at code me temporaries places = do
+unfoldable pub operation_at : ℕ → CodeShape → HostId → ℕ → ℕ → Reader Op
+operation_at version code me temporaries places = do
   at ← place
   byte ← byte_at
-  operation_of code me temporaries places at byte
+  operation_of version code me temporaries places at byte
 
 -- ---- instructions
 
@@ -399,33 +419,34 @@ operation_at code me temporaries places = do
 abbrev pub is_leaving : Op → Bool
 is_leaving op.Back = true
 is_leaving (op.Go entry on) = true
+is_leaving (op.GoWith entry on riders) = true
 is_leaving _ = false
 
 -- The instruction of this number, of a host that has so many, where a thread has so many temporaries. The last one has
 -- to leave the host, and is out of range as a whole where it does not.
-unfoldable pub instruction_at : CodeShape → HostId → ℕ → ℕ → ℕ → Reader Instr
-instruction_at code me places temporaries number = do
+unfoldable pub instruction_at : ℕ → CodeShape → HostId → ℕ → ℕ → ℕ → Reader Instr
+instruction_at version code me places temporaries number = do
   at ← place
   label ← index_at (length code.labels)
   statement ← number_at w32
-  operation ← operation_at code me temporaries places
+  operation ← operation_at version code me temporaries places
   _ ← require (nat_lt (suc number) places || is_leaving operation) (fault.BadField at)
   given (record { label = label; statement = record { 0 = statement }; op = operation })
 
 -- an instruction behind some others
-unfoldable pub next_instruction_at : CodeShape → HostId → ℕ → List Instr → Reader Instr
-next_instruction_at code me places before =
-    instruction_at code me places (temporaries_at code.entries me before (length before)) (length before)
+unfoldable pub next_instruction_at : ℕ → CodeShape → HostId → ℕ → List Instr → Reader Instr
+next_instruction_at version code me places before =
+    instruction_at version code me places (temporaries_at code.entries me before (length before)) (length before)
 
 -- the instructions of a host
-unfoldable pub part_at : CodeShape → HostId → Reader (List Instr)
-part_at code me = do
+unfoldable pub part_at : ℕ → CodeShape → HostId → Reader (List Instr)
+part_at version code me = do
   places ← number_at w32
-  items_at (next_instruction_at code me places) [] places
+  items_at (next_instruction_at version code me places) [] places
 
 -- the parts of the hosts in order, behind those of some
-unfoldable pub next_part_at : CodeShape → List (List Instr) → Reader (List Instr)
-next_part_at code before = part_at code (record { 0 = length before })
+unfoldable pub next_part_at : ℕ → CodeShape → List (List Instr) → Reader (List Instr)
+next_part_at version code before = part_at version code (record { 0 = length before })
 
 -- ---- the file
 
@@ -434,10 +455,13 @@ magic_at = do
   bytes ← bytes_at 8
   require (bytes_eq bytes magic) fault.BadMagic
 
-unfoldable pub version_at : Reader ⊤
+-- the version, and how many bytes there are from it on
+unfoldable pub version_at : Reader (ℕ × ℕ)
 version_at = do
+  at ← place
   version ← number_at w16
-  require (version == 1) fault.BadVersion
+  _ ← require (version == 1 || version == 2) fault.BadVersion
+  given (version, at)
 
 -- what is named by instructions, and what they are labelled with
 pub record TablesShape : Type 0 where
@@ -485,18 +509,22 @@ code_with tables starts = record {
   main = starts.main;
 }
 
--- all that stands before the instructions, and how many bytes there are behind the entries
-unfoldable pub front_at : Reader (CodeShape × ℕ)
+-- all that stands before the instructions
+unfoldable pub front_at : Reader (CodeShape × Front)
 front_at = do
   _ ← magic_at
-  _ ← version_at
+  version ← version_at
   tables ← tables_at
   starts ← starts_at (length tables.hosts) (length tables.labels)
-  given (code_with tables starts, starts.behind)
+  given (code_with tables starts, record { version = version.0; from_version = version.1; behind = starts.behind })
 
 unfoldable pub ended : Reader ⊤
 ended [] = Ok (tt, [])
 ended (byte ∷ bytes) = Err fault.Trailing
+
+-- the file is of the version of its code, or this is out of range
+unfoldable pub version_stands : CodeShape → Front → Reader ⊤
+version_stands code front = require (front.version == version_of code) (fault.BadField front.from_version)
 
 -- how many bytes an entry has, and how many of them there are from its place on
 abbrev pub ENTRY_BYTES : ℕ
@@ -521,7 +549,8 @@ with_parts code parts = record code { parts = parts }
 unfoldable pub code_at : Reader CodeShape
 code_at = do
   front ← front_at
-  parts ← items_at (next_part_at front.0) [] (length front.0.hosts)
+  parts ← items_at (next_part_at front.1.version front.0) [] (length front.0.hosts)
   _ ← ended
-  _ ← entries_stand (with_parts front.0 parts) front.0.entries front.1
+  _ ← version_stands (with_parts front.0 parts) front.1
+  _ ← entries_stand (with_parts front.0 parts) front.0.entries front.1.behind
   given (with_parts front.0 parts)

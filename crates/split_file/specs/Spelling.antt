@@ -1,10 +1,11 @@
 -- The bytes of a split file: one spelling for each code.
-use Rattle.std.specs.Prelude.{ℕ, Bool, false, true, List, [], ◌∷◌, ◌++◌, length, codes}
-use Rattle.std.specs.List.{flat_map, concat}
+use Rattle.std.specs.Prelude.{ℕ, Bool, false, true, if◌then◌else◌, List, [], ◌∷◌, ◌++◌, length, codes}
+use Rattle.std.specs.List.{flat_map, concat, list_any}
 use Rattle.std.specs.Int.{w16, to_be_bytes}
 use Rattle.js_base.specs.declared.binary_operator.BinOp.{BinOp}
 use Rattle.js_base.specs.declared.binary_operator.BinOp.TheVariants as binary
 use Rattle.js_base.specs.declared.ids.HostId.{HostId}
+use Rattle.js_base.specs.declared.ids.VarId.{VarId}
 use Rattle.label_lattice.specs.declared.label.Label.{Label}
 use Rattle.host_code.specs.declared.code.Entry.{Entry}
 use Rattle.host_code.specs.declared.instruction.Instr.{Instr}
@@ -81,6 +82,10 @@ expression_bytes nodes = list_bytes node_bytes nodes
 
 -- ---- instructions
 
+-- the variables whose values ride
+abbrev pub riders_bytes : List VarId → List ℕ
+riders_bytes riders = list_bytes (λ variable. number_bytes variable.0) riders
+
 -- the number of the operation, and its operands in order
 abbrev pub operation_bytes : Op → List ℕ
 operation_bytes (op.Read field index) = 1 ∷ (number_bytes field.0 ++ expression_bytes index)
@@ -98,6 +103,10 @@ operation_bytes (op.Call entry on) = 11 ∷ (number_bytes entry.0 ++ host_id_byt
 operation_bytes (op.Ret variable value) = 12 ∷ (number_bytes variable.0 ++ expression_bytes value)
 operation_bytes op.Back = 13 ∷ []
 operation_bytes (op.Branch guard target) = 14 ∷ (expression_bytes guard ++ number_bytes target)
+operation_bytes (op.GoWith entry on riders) =
+    15 ∷ (number_bytes entry.0 ++ (host_id_bytes on ++ riders_bytes riders))
+operation_bytes (op.CallWith entry on riders) =
+    16 ∷ (number_bytes entry.0 ++ (host_id_bytes on ++ riders_bytes riders))
 
 abbrev pub instruction_bytes : Instr → List ℕ
 instruction_bytes instruction = concat
@@ -113,9 +122,18 @@ part_bytes part = list_bytes instruction_bytes part
 abbrev pub magic : List ℕ
 magic = codes "JIFSPLIT"
 
--- the version of a code's file, by the instructions that it needs
+-- values ride with the operation
+abbrev pub has_riders : Op → Bool
+has_riders (op.GoWith entry on riders) = true
+has_riders (op.CallWith entry on riders) = true
+has_riders _ = false
+
+abbrev pub any_ride : List Instr → Bool
+any_ride part = list_any (λ one. has_riders one.op) part
+
+-- the version of a code's file: 2 where values ride with some instruction, and else 1
 abbrev pub version_of : CodeShape → ℕ
-version_of code = 1
+version_of code = if list_any any_ride code.parts then 2 else 1
 
 abbrev pub table_bytes : CodeShape → List ℕ
 table_bytes code = concat
@@ -128,8 +146,11 @@ start_bytes code = concat
     (list_bytes entry_bytes code.entries ∷ list_bytes host_id_bytes code.sites ∷ host_id_bytes code.root
     ∷ number_bytes code.main.0 ∷ [])
 
--- The file of a code. The parts have no count of their own, since there is one for each host.
+-- The bytes of a code behind some version. The parts have no count of their own, since there is one for each host.
+abbrev pub file_as : ℕ → CodeShape → List ℕ
+file_as version code = concat
+    (magic ∷ to_be_bytes w16 version ∷ table_bytes code ∷ start_bytes code ∷ flat_map part_bytes code.parts ∷ [])
+
+-- the file of a code
 unfoldable pub split_file : CodeShape → List ℕ
-split_file code = concat
-    (magic ∷ to_be_bytes w16 (version_of code) ∷ table_bytes code ∷ start_bytes code
-    ∷ flat_map part_bytes code.parts ∷ [])
+split_file code = file_as (version_of code) code

@@ -1,8 +1,8 @@
 //! Readers of the instructions of hosts.
 #![tactic(auto, unfolding(byte_format::specs::Reader::sequel, byte_format::specs::Reader::given, byte_format::specs::Reader::refused, crate::specs::Reader::place, byte_format::specs::Reader::require, crate::specs::Reader::in_range, byte_format::specs::Reader::items_at, crate::specs::Reading::instruction_at, crate::specs::Reading::part_at,))]
 
-ghost use Rattle.std.specs.Prelude.{◌≡◌, ◌+◌, ◌≤◌, ◌<◌, ◌^◌, ◌||◌, ℕ, List, [], length, suc, nat_lt};
-ghost use Rattle.std.specs.Prelude.{if◌then◌else◌, IfOk};
+ghost use Rattle.std.specs.Prelude.{◌≡◌, ◌+◌, ◌≤◌, ◌<◌, ◌^◌, ◌||◌, ℕ, List, [], length, suc, nat_lt, if◌then◌else◌};
+ghost use Rattle.std.specs.Prelude.{IfOk};
 ghost use Rattle.std.specs.Ordering.{nat_cmp};
 ghost use Rattle.std.specs.BTreeSet.{contains};
 ghost use Rattle.host_code.specs.CodeParts.{shape_of};
@@ -37,7 +37,7 @@ fn entrances_of(alloc: Global, entries: &[Entry], me: HostId) -> Result<BTreeSet
 fn is_leaving(op: &Op) -> bool
     ensures { result ≡ is_leaving op.now }
 {
-    matches!(op, Op::Back | Op::Go(..))
+    matches!(op, Op::Back | Op::Go(..) | Op::GoWith(..))
 }
 
 /// How many temporaries a thread has behind an operation, where it has so many before it, and another thread may start
@@ -59,6 +59,7 @@ fn temporaries_behind(op: &Op, temporaries: usize, is_entrance: bool) -> usize
 /// The instruction of this number, of a host that has so many, where a thread has so many temporaries.
 fn instruction_of<'a>(
     alloc: Global,
+    version: u16,
     code: &CodeParts,
     me: HostId,
     places: u32,
@@ -68,11 +69,11 @@ fn instruction_of<'a>(
 ) -> Result<(Instr, &'a [u8]), ReadError>
     requires { number < places }
     ensures { Gives (λ x. (x.0, x.1.now)) result
-        (instruction_at (shape_of code.now) me places temporaries number bytes.now) }
+        (instruction_at version (shape_of code.now) me places temporaries number bytes.now) }
 {
     let (label, rest) = index_of(code.labels.len(), bytes)?;
     let (statement, rest) = u32_of(rest)?;
-    let (op, rest) = operation(alloc, code, me, temporaries, places as usize, rest)?;
+    let (op, rest) = operation(alloc, version, code, me, temporaries, places as usize, rest)?;
     if number + 1 >= places && !is_leaving(&op) {
         return Err(out_of_range(bytes));
     }
@@ -87,6 +88,7 @@ fn instruction_of<'a>(
 /// So many instructions of a host whose entries stand at these places.
 fn instructions_of<'a>(
     alloc: Global,
+    version: u16,
     code: &CodeParts,
     me: HostId,
     entrances: &BTreeSet<u32>,
@@ -95,7 +97,7 @@ fn instructions_of<'a>(
 ) -> Result<(Vec<Instr>, &'a [u8]), ReadError>
     requires { (at : ℕ) → contains nat_cmp entrances.now at ≡ is_entrance code.now.entries.items me at }
     ensures { Gives (λ x. (x.0.items, x.1.now)) result
-        (items_at (next_instruction_at (shape_of code.now) me places) [] places bytes.now) }
+        (items_at (next_instruction_at version (shape_of code.now) me places) [] places bytes.now) }
 {
     let mut instructions = Vec::new(alloc);
     let mut rest = bytes;
@@ -103,6 +105,7 @@ fn instructions_of<'a>(
     for number in 0..places {
         let (instruction, after) = instruction_of(
             alloc,
+            version,
             code,
             me,
             places,
@@ -121,32 +124,34 @@ fn instructions_of<'a>(
 /// The instructions of a host.
 fn part_of<'a>(
     alloc: Global,
+    version: u16,
     code: &CodeParts,
     me: HostId,
     bytes: &'a [u8],
 ) -> Result<(Part, &'a [u8]), ReadError>
-    ensures { Gives (λ x. (x.0, x.1.now)) result (part_at (shape_of code.now) me bytes.now) }
+    ensures { Gives (λ x. (x.0, x.1.now)) result (part_at version (shape_of code.now) me bytes.now) }
 {
     let (places, rest) = u32_of(bytes)?;
     let entrances = entrances_of(alloc, &code.entries, me)?;
-    let (instructions, rest) = instructions_of(alloc, code, me, &entrances, places, rest)?;
+    let (instructions, rest) = instructions_of(alloc, version, code, me, &entrances, places, rest)?;
     Ok((Part::new(instructions), rest))
 }
 
 /// The instructions of each of so many hosts.
 pub fn parts_of<'a>(
     alloc: Global,
+    version: u16,
     code: &CodeParts,
     count: u8,
     bytes: &'a [u8],
 ) -> Result<(Vec<Part>, &'a [u8]), ReadError>
     ensures { Gives (λ x. (x.0.items, x.1.now)) result
-        (items_at (next_part_at (shape_of code.now)) [] count bytes.now) }
+        (items_at (next_part_at version (shape_of code.now)) [] count bytes.now) }
 {
     let mut parts = Vec::new(alloc);
     let mut rest = bytes;
     for host in 0..count {
-        let (part, after) = part_of(alloc, code, HostId(host), rest)?;
+        let (part, after) = part_of(alloc, version, code, HostId(host), rest)?;
         parts.push(part)?;
         rest = after;
     }

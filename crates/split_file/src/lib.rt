@@ -18,6 +18,7 @@ mod operations;
 mod reading;
 mod starts;
 mod tables;
+mod versions;
 mod writing;
 
 pub use error::SplitError;

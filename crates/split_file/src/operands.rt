@@ -1,19 +1,23 @@
 //! Readers of what operations name.
-#![tactic(auto, unfolding(byte_format::specs::Reader::sequel, byte_format::specs::Reader::given, byte_format::specs::Reader::refused, crate::specs::Reader::place, byte_format::specs::Reader::require, crate::specs::Reader::in_range, crate::specs::Reading::field_id_at, crate::specs::Reading::other_host_at, crate::specs::Reading::own_site_at, crate::specs::Reading::own_entry_at, crate::specs::Reading::some_entry_at, crate::specs::Reading::host_of_entry_at, crate::specs::Reading::other_host_of_entry_at, crate::specs::Reading::valued_at, crate::specs::Reading::sent_at, crate::specs::Reading::entered_at,))]
+#![tactic(auto, unfolding(byte_format::specs::Reader::sequel, byte_format::specs::Reader::given, byte_format::specs::Reader::refused, crate::specs::Reader::place, byte_format::specs::Reader::require, crate::specs::Reader::in_range, crate::specs::Reading::field_id_at, crate::specs::Reading::other_host_at, crate::specs::Reading::own_site_at, crate::specs::Reading::own_entry_at, crate::specs::Reading::some_entry_at, crate::specs::Reading::host_of_entry_at, crate::specs::Reading::other_host_of_entry_at, crate::specs::Reading::valued_at, crate::specs::Reading::sent_at, crate::specs::Reading::entered_at, crate::specs::Reading::riders_at, byte_format::specs::Reader::items_at,))]
 
-ghost use Rattle.std.specs.Prelude.{◌≡◌, ◌==◌, ℕ, List, length, false};
+ghost use Rattle.std.specs.Prelude.{◌≡◌, ◌==◌, ◌≤◌, ◌&&◌, ℕ, List, [], length, false, nat_le, IfOk};
 ghost use Rattle.std.specs.Option.{option_map_or};
+ghost use Rattle.std.specs.Int.{w32};
+ghost use Rattle.host_code.specs.declared.riders.TheConstants.{MOST_RIDERS};
 ghost use Rattle.host_code.specs.Code.{host_of_site};
 ghost use Rattle.host_code.specs.CodeParts.{shape_of};
-ghost use Rattle.split_file.specs.Reader.{Gives};
+ghost use Rattle.byte_format.specs.Reader.{items_at};
+ghost use Rattle.split_file.specs.Reader.{Gives, in_range, number_at};
 ghost use Rattle.split_file.specs.Reading.{field_id_at, other_host_at, own_site_at, own_entry_at, some_entry_at};
 ghost use Rattle.split_file.specs.Reading.{host_of_entry_at, other_host_of_entry_at, valued_at, sent_at, entered_at};
+ghost use Rattle.split_file.specs.Reading.{variable_id_at, riders_at};
 
 use crate::expressions::{expression_of, variable_id_of};
 use crate::fault::ReadError;
 use crate::numbers::{byte_of, index_of, out_of_range, u32_of};
 use crate::starts::is_entry_on;
-use host_code::{CodeExpr, CodeParts};
+use host_code::{CodeExpr, CodeParts, MOST_RIDERS, RiderVars};
 use js_base::{EntryId, FieldId, HostId, SiteId, VarId};
 use std::alloc::Global;
 
@@ -170,4 +174,48 @@ pub fn entered_of<'a>(
     let (entry, rest) = some_entry_of(code, bytes)?;
     let (on, rest) = other_host_of_entry_of(code, me, entry, rest)?;
     Ok(((entry, on), rest))
+}
+
+/// How many variables ride, 1 to 8.
+fn rider_count_of(bytes: &[u8]) -> Result<(u32, &[u8]), ReadError>
+    ensures count { Gives (λ x. (x.0, x.1.now)) result
+        (in_range (λ count. nat_le 1 count && nat_le count MOST_RIDERS) (number_at w32) bytes.now) }
+    ensures some { IfOk result (λ x. 1 ≤ x.0) }
+    ensures few { IfOk result (λ x. x.0 ≤ MOST_RIDERS) }
+{
+    let (count, rest) = u32_of(bytes)?;
+    if count == 0 || count as usize > MOST_RIDERS {
+        return Err(out_of_range(bytes));
+    }
+    Ok((count, rest))
+}
+
+/// So many of so many variables.
+fn variable_ids_of(
+    alloc: Global,
+    vars: usize,
+    count: u32,
+    bytes: &[u8],
+) -> Result<(Vec<VarId>, &[u8]), ReadError>
+    ensures variables { Gives (λ x. (x.0.items, x.1.now)) result
+        (items_at (λ _. variable_id_at vars) [] count bytes.now) }
+    ensures count { IfOk result (λ x. length x.0.items ≡ count) }
+{
+    let mut found = Vec::new(alloc);
+    let mut rest = bytes;
+    for _ in 0..count {
+        let (var, after) = variable_id_of(vars, rest)?;
+        found.push(var)?;
+        rest = after;
+    }
+    Ok((found, rest))
+}
+
+/// The variables whose values ride, 1 to 8, of so many.
+pub fn riders_of(alloc: Global, vars: usize, bytes: &[u8]) -> Result<(RiderVars, &[u8]), ReadError>
+    ensures { Gives (λ x. (x.0, x.1.now)) result (riders_at vars bytes.now) }
+{
+    let (count, rest) = rider_count_of(bytes)?;
+    let (riders, rest) = variable_ids_of(alloc, vars, count, rest)?;
+    Ok((RiderVars::new(riders), rest))
 }

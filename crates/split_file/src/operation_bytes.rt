@@ -5,12 +5,12 @@ ghost use Rattle.std.specs.Prelude.{◌≡◌, ◌++◌, ◌∷◌, [], ◌≤�
 ghost use Rattle.host_code.specs.declared.code.TheConstants.{MOST_ITEMS};
 ghost use Rattle.byte_format.specs.Numbers.{number_bytes};
 ghost use Rattle.split_file.specs.File.{HasWord, IsWordExpression, HasExpressions, IsRealInstruction};
-ghost use Rattle.split_file.specs.Spelling.{host_id_bytes, operator_byte, node_bytes, expression_bytes};
+ghost use Rattle.split_file.specs.Spelling.{host_id_bytes, operator_byte, node_bytes, expression_bytes, riders_bytes};
 ghost use Rattle.split_file.specs.Spelling.{operation_bytes, instruction_bytes, part_bytes};
 
 use crate::appending::{put_count, put_host_id};
 use byte_format::{put_byte, put_integer, put_number};
-use host_code::{CodeExpr, Instr, Node, Op};
+use host_code::{CodeExpr, Instr, Node, Op, RiderVars};
 use js_base::{BinOp, HostId, OutOfMemory, VarId};
 
 /// The byte of an operator.
@@ -105,6 +105,18 @@ fn put_numbered(out: &mut Vec<u8>, byte: u8, number: u32) -> Result<(), OutOfMem
     put_number(out, number)
 }
 
+/// Adds the variables whose values ride.
+fn put_riders(out: &mut Vec<u8>, riders: &RiderVars) -> Result<(), OutOfMemory>
+    ensures { OnOk result (out.new.items ≡ out.old.items ++ riders_bytes riders.now) }
+{
+    let vars = riders.vars();
+    put_count(out, vars.len())?;
+    for var in vars {
+        put_number(out, var.0)?;
+    }
+    Ok(())
+}
+
 /// Adds an operation.
 fn put_operation(out: &mut Vec<u8>, op: &Op) -> Result<(), OutOfMemory>
     ensures bytes { OnOk result (out.new.items ≡ out.old.items ++ operation_bytes op.now) }
@@ -135,6 +147,14 @@ fn put_operation(out: &mut Vec<u8>, op: &Op) -> Result<(), OutOfMemory>
             put_byte(out, 14)?;
             put_expression(out, guard)?;
             put_number(out, *target)
+        }
+        Op::GoWith(entry, on, riders) => {
+            put_hosted(out, 15, entry.0, *on)?;
+            put_riders(out, riders)
+        }
+        Op::CallWith(entry, on, riders) => {
+            put_hosted(out, 16, entry.0, *on)?;
+            put_riders(out, riders)
         }
     }
 }

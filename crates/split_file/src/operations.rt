@@ -1,19 +1,21 @@
 //! Readers of operations.
-#![tactic(auto, unfolding(byte_format::specs::Reader::sequel, byte_format::specs::Reader::given, byte_format::specs::Reader::refused, crate::specs::Reader::place, byte_format::specs::Reader::require, crate::specs::Reader::in_range, crate::specs::Reading::read_at, crate::specs::Reading::let_at, crate::specs::Reading::put_at, crate::specs::Reading::send_at, crate::specs::Reading::frame_at, crate::specs::Reading::arg_at, crate::specs::Reading::pass_at, crate::specs::Reading::push_at, crate::specs::Reading::ask_at, crate::specs::Reading::go_at, crate::specs::Reading::call_at, crate::specs::Reading::ret_at, crate::specs::Reading::branch_at, crate::specs::Reading::operation_of, crate::specs::Reading::operation_at,))]
+#![tactic(auto, unfolding(byte_format::specs::Reader::sequel, byte_format::specs::Reader::given, byte_format::specs::Reader::refused, crate::specs::Reader::place, byte_format::specs::Reader::require, crate::specs::Reader::in_range, crate::specs::Reading::read_at, crate::specs::Reading::let_at, crate::specs::Reading::put_at, crate::specs::Reading::send_at, crate::specs::Reading::frame_at, crate::specs::Reading::arg_at, crate::specs::Reading::pass_at, crate::specs::Reading::push_at, crate::specs::Reading::ask_at, crate::specs::Reading::go_at, crate::specs::Reading::call_at, crate::specs::Reading::ret_at, crate::specs::Reading::branch_at, crate::specs::Reading::go_with_at, crate::specs::Reading::call_with_at, crate::specs::Reading::operation_of, crate::specs::Reading::operation_at,))]
 
 ghost use Rattle.std.specs.Prelude.{◌≡◌, length};
 ghost use Rattle.host_code.specs.CodeParts.{shape_of};
 ghost use Rattle.split_file.specs.Reader.{Gives};
 ghost use Rattle.split_file.specs.Reading.{read_at, let_at, put_at, send_at, frame_at, arg_at, pass_at, push_at};
-ghost use Rattle.split_file.specs.Reading.{ask_at, go_at, call_at, ret_at, branch_at, operation_of, operation_at};
+ghost use Rattle.split_file.specs.Reading.{ask_at, go_at, call_at, ret_at, branch_at, go_with_at, call_with_at};
+ghost use Rattle.split_file.specs.Reading.{operation_of, operation_at};
 
 use crate::expressions::expression_of;
 use crate::fault::ReadError;
 use crate::numbers::{byte_of, index_of, out_of_range};
 use crate::operands::{
-    entered_of, field_id_of, host_of_entry_of, own_entry_of, own_site_of, sent_of, some_entry_of,
-    valued_of,
+    entered_of, field_id_of, host_of_entry_of, own_entry_of, own_site_of, riders_of, sent_of,
+    some_entry_of, valued_of,
 };
+use crate::versions::RIDING;
 use host_code::{CodeParts, Op};
 use js_base::HostId;
 use std::alloc::Global;
@@ -158,9 +160,38 @@ fn branch_of<'a>(
     Ok((Op::Branch(guard, target), rest))
 }
 
-/// What follows the first byte of an operation, which is that of `item`.
+/// The entry to go on at, its host, and the variables whose values ride.
+fn go_with_of<'a>(
+    alloc: Global,
+    code: &CodeParts,
+    me: HostId,
+    bytes: &'a [u8],
+) -> Result<(Op, &'a [u8]), ReadError>
+    ensures { Gives (λ x. (x.0, x.1.now)) result (go_with_at (shape_of code.now) me bytes.now) }
+{
+    let ((entry, on), rest) = entered_of(code, me, bytes)?;
+    let (riders, rest) = riders_of(alloc, code.vars.len(), rest)?;
+    Ok((Op::GoWith(entry, on, riders), rest))
+}
+
+/// The entry that is called, its host, and the variables whose values ride.
+fn call_with_of<'a>(
+    alloc: Global,
+    code: &CodeParts,
+    me: HostId,
+    bytes: &'a [u8],
+) -> Result<(Op, &'a [u8]), ReadError>
+    ensures { Gives (λ x. (x.0, x.1.now)) result (call_with_at (shape_of code.now) me bytes.now) }
+{
+    let ((entry, on), rest) = entered_of(code, me, bytes)?;
+    let (riders, rest) = riders_of(alloc, code.vars.len(), rest)?;
+    Ok((Op::CallWith(entry, on, riders), rest))
+}
+
+/// What follows the first byte of an operation, which is that of `item`, in a file of this version.
 fn operation_tail_of<'a>(
     alloc: Global,
+    version: u16,
     code: &CodeParts,
     me: HostId,
     temporaries: usize,
@@ -170,7 +201,7 @@ fn operation_tail_of<'a>(
     bytes: &'a [u8],
 ) -> Result<(Op, &'a [u8]), ReadError>
     ensures { Gives (λ x. (x.0, x.1.now)) result
-        (operation_of (shape_of code.now) me temporaries places (length item.now) byte bytes.now) }
+        (operation_of version (shape_of code.now) me temporaries places (length item.now) byte bytes.now) }
 {
     match byte {
         1 => read_of(alloc, code, temporaries, bytes),
@@ -187,13 +218,17 @@ fn operation_tail_of<'a>(
         12 => ret_of(alloc, code, temporaries, bytes),
         13 => Ok((Op::Back, bytes)),
         14 => branch_of(alloc, code, temporaries, places, bytes),
+        15 if version == RIDING => go_with_of(alloc, code, me, bytes),
+        16 if version == RIDING => call_with_of(alloc, code, me, bytes),
         _ => Err(out_of_range(item)),
     }
 }
 
-/// An operation of a host that has so many instructions, where a thread has so many temporaries.
+/// An operation of a host that has so many instructions, where a thread has so many temporaries, in a file of this
+/// version.
 pub fn operation<'a>(
     alloc: Global,
+    version: u16,
     code: &CodeParts,
     me: HostId,
     temporaries: usize,
@@ -201,8 +236,18 @@ pub fn operation<'a>(
     bytes: &'a [u8],
 ) -> Result<(Op, &'a [u8]), ReadError>
     ensures { Gives (λ x. (x.0, x.1.now)) result
-        (operation_at (shape_of code.now) me temporaries places bytes.now) }
+        (operation_at version (shape_of code.now) me temporaries places bytes.now) }
 {
     let (byte, rest) = byte_of(bytes)?;
-    operation_tail_of(alloc, code, me, temporaries, places, byte, bytes, rest)
+    operation_tail_of(
+        alloc,
+        version,
+        code,
+        me,
+        temporaries,
+        places,
+        byte,
+        bytes,
+        rest,
+    )
 }

@@ -1,5 +1,5 @@
 //! Reading a split file.
-#![tactic(auto, unfolding(byte_format::specs::Reader::sequel, byte_format::specs::Reader::given, byte_format::specs::Reader::refused, crate::specs::Reader::place, byte_format::specs::Reader::require, crate::specs::Reading::magic_at, crate::specs::Reading::version_at, crate::specs::Reading::ended, crate::specs::Reading::entries_stand, crate::specs::Reading::front_at, crate::specs::Reading::code_at, crate::specs::File::file_code,))]
+#![tactic(auto, unfolding(byte_format::specs::Reader::sequel, byte_format::specs::Reader::given, byte_format::specs::Reader::refused, crate::specs::Reader::place, byte_format::specs::Reader::require, crate::specs::Reading::magic_at, crate::specs::Reading::version_at, crate::specs::Reading::ended, crate::specs::Reading::version_stands, crate::specs::Reading::entries_stand, crate::specs::Reading::front_at, crate::specs::Reading::code_at, crate::specs::File::file_code,))]
 
 ghost use Rattle.std.specs.Prelude.{◌≡◌, ℕ, ◌≤◌, ◌<◌, ◌^◌, ◌⊎◌, List, length, MatchResult, IfOk, Ok, Err};
 ghost use Rattle.host_code.specs.declared.code.TheConstants.{MOST_ITEMS};
@@ -9,7 +9,8 @@ ghost use Rattle.host_code.specs.CodeParts.{shape_of};
 ghost use Rattle.split_file.specs.declared.error.SplitError.TheVariants as refusal;
 ghost use Rattle.split_file.specs.Spelling.{split_file};
 ghost use Rattle.split_file.specs.Reader.{Gives};
-ghost use Rattle.split_file.specs.Reading.{magic_at, version_at, code_with, front_at, entries_stand, code_at};
+ghost use Rattle.split_file.specs.Reading.{magic_at, version_at, code_with, front_at, version_stands, entries_stand};
+ghost use Rattle.split_file.specs.Reading.{code_at};
 ghost use Rattle.split_file.specs.Shapes.{tables_shape, starts_shape};
 ghost use Rattle.split_file.specs.File.{IsRefusal, IsRealCode, file_code};
 
@@ -19,6 +20,7 @@ use crate::instructions::parts_of;
 use crate::numbers::{bytes_of, u16_of};
 use crate::starts::{Starts, starts_of};
 use crate::tables::{Tables, tables_of};
+use crate::versions::{PLAIN, RIDING, version_with};
 use host_code::{Code, CodeParts};
 use js_base::HostId;
 use std::alloc::Global;
@@ -26,13 +28,21 @@ use std::alloc::Global;
 /// How every split file begins.
 pub(crate) const MAGIC: &[u8; 8] = b"JIFSPLIT";
 
-/// The version of the files that are read and written.
-pub(crate) const VERSION: u16 = 1;
-
 /// How many bytes of an entry there are from the number of its instruction on, and how many it has.
 const PLACE_BYTES: usize = 16;
 
 const ENTRY_BYTES: usize = 17;
+
+/// What is kept of the bytes before the instructions, beside the code that they hold.
+#[derive(Clone, Copy)]
+pub struct Front {
+    /// The version of the file.
+    pub version: u16,
+    /// How many bytes there are from the version on.
+    pub from_version: usize,
+    /// How many bytes there are behind the entries.
+    pub behind: usize,
+}
 
 /// Reads how the file begins.
 fn magic_of(bytes: &[u8]) -> Result<&[u8], ReadError>
@@ -45,30 +55,34 @@ fn magic_of(bytes: &[u8]) -> Result<&[u8], ReadError>
     Ok(rest)
 }
 
-/// Reads the version.
-fn version_of(bytes: &[u8]) -> Result<&[u8], ReadError>
-    ensures { Gives (λ rest. (tt, rest.now)) result (version_at bytes.now) }
+/// Reads the version, and how many bytes there are from it on.
+fn version_of(bytes: &[u8]) -> Result<((u16, usize), &[u8]), ReadError>
+    ensures { Gives (λ x. (x.0, x.1.now)) result (version_at bytes.now) }
 {
     let (version, rest) = u16_of(bytes)?;
-    if version != VERSION {
+    if version != PLAIN && version != RIDING {
         return Err(ReadError::Fault(Fault::BadVersion));
     }
-    Ok(rest)
+    Ok(((version, bytes.len()), rest))
 }
 
-/// All that stands before the instructions, and how many bytes there are behind the entries.
-fn front_of(alloc: Global, bytes: &[u8]) -> Result<((CodeParts, usize), &[u8]), ReadError>
+/// All that stands before the instructions.
+fn front_of(alloc: Global, bytes: &[u8]) -> Result<((CodeParts, Front), &[u8]), ReadError>
     ensures front { Gives (λ x. ((shape_of x.0.0, x.0.1), x.1.now)) result (front_at bytes.now) }
     ensures few_hosts { IfOk result (λ x. length x.0.0.hosts.items ≤ HOSTS) }
     ensures few_entries { IfOk result (λ x. length x.0.0.entries.items ≤ MOST_ITEMS) }
-    ensures behind { IfOk result (λ x. x.0.1 < 2 ^ 63) }
+    ensures behind { IfOk result (λ x. x.0.1.behind < 2 ^ 63) }
 {
     let rest = magic_of(bytes)?;
-    let rest = version_of(rest)?;
+    let ((version, from_version), rest) = version_of(rest)?;
     let (tables, rest) = tables_of(alloc, rest)?;
     let (starts, rest) = starts_of(alloc, tables.hosts.len(), tables.labels.len(), rest)?;
-    let behind = starts.behind;
-    Ok(((code_with(alloc, tables, starts), behind), rest))
+    let front = Front {
+        version,
+        from_version,
+        behind: starts.behind,
+    };
+    Ok(((code_with(alloc, tables, starts), front), rest))
 }
 
 /// A code without its instructions.
@@ -111,6 +125,17 @@ fn part_len(code: &CodeParts, host: HostId) -> usize
     }
 }
 
+/// Sees that the file is of the version of its code.
+fn check_version(code: &CodeParts, front: Front) -> Result<(), ReadError>
+    ensures { (bytes : List ℕ) → Gives (λ _. (tt, bytes)) result
+        (version_stands (shape_of code.now) front bytes) }
+{
+    if front.version != version_with(&code.parts) {
+        return Err(ReadError::Fault(Fault::BadField(front.from_version)));
+    }
+    Ok(())
+}
+
 /// Sees that each entry stands at an instruction of its host, where there are so many bytes behind the entries.
 fn check_entries(code: &CodeParts, behind: usize) -> Result<(), ReadError>
     requires few { length code.now.entries.items ≤ MOST_ITEMS }
@@ -133,13 +158,14 @@ fn check_entries(code: &CodeParts, behind: usize) -> Result<(), ReadError>
 fn code_of(alloc: Global, bytes: &[u8]) -> Result<(CodeParts, &[u8]), ReadError>
     ensures { Gives (λ x. (shape_of x.0, x.1.now)) result (code_at bytes.now) }
 {
-    let ((mut code, behind), rest) = front_of(alloc, bytes)?;
-    let (parts, rest) = parts_of(alloc, &code, code.hosts.len() as u8, rest)?;
+    let ((mut code, front), rest) = front_of(alloc, bytes)?;
+    let (parts, rest) = parts_of(alloc, front.version, &code, code.hosts.len() as u8, rest)?;
     if !rest.is_empty() {
         return Err(ReadError::Fault(Fault::Trailing));
     }
     code.parts = parts;
-    check_entries(&code, behind)?;
+    check_version(&code, front)?;
+    check_entries(&code, front.behind)?;
     Ok((code, rest))
 }
 

@@ -10,11 +10,12 @@ ghost use Rattle.host_code.specs.Sound.{IsSoundCode};
 ghost use Rattle.byte_format.specs.Lists.{list_bytes};
 ghost use Rattle.split_file.specs.File.{IsRealInstruction, IsRealCode, file_code};
 ghost use Rattle.split_file.specs.Spelling.{host_id_bytes, host_bytes, label_bytes, field_bytes, variable_bytes};
-ghost use Rattle.split_file.specs.Spelling.{entry_bytes, part_bytes, table_bytes, start_bytes, split_file};
+ghost use Rattle.split_file.specs.Spelling.{entry_bytes, part_bytes, version_of, table_bytes, start_bytes, split_file};
 
 use crate::appending::{put_count, put_flag, put_host_id, put_label, put_text};
 use crate::operation_bytes::put_part;
-use crate::reading::{MAGIC, VERSION};
+use crate::reading::MAGIC;
+use crate::versions::{PLAIN, RIDING, any_ride};
 use byte_format::{put_integer, put_number, put_word};
 use host_code::{Code, CodeField, CodeHost, CodeVar, Entry};
 use js_base::{HostId, OutOfMemory};
@@ -181,6 +182,19 @@ fn put_parts(out: &mut Vec<u8>, code: &Code) -> Result<(), OutOfMemory>
     Ok(())
 }
 
+/// The version of the file of a code.
+fn version_of(code: &Code) -> u16
+    ensures { result ≡ version_of code.now }
+{
+    let count = code.hosts().len() as u8;
+    for host in 0..count {
+        if any_ride(code.part(HostId(host))) {
+            return RIDING;
+        }
+    }
+    PLAIN
+}
+
 /// The split file of a code.
 ///
 /// # Errors
@@ -195,7 +209,7 @@ pub fn write(alloc: Global, code: &Code) -> Result<Vec<u8>, OutOfMemory>
 {
     let mut out = Vec::new(alloc);
     out.extend_from_slice(MAGIC)?;
-    out.extend_from_slice(&VERSION.to_be_bytes())?;
+    out.extend_from_slice(&version_of(code).to_be_bytes())?;
     put_tables(&mut out, code)?;
     put_starts(&mut out, code)?;
     put_parts(&mut out, code)?;

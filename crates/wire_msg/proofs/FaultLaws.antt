@@ -1,6 +1,6 @@
 -- The first fault is what reading refuses bytes for.
-use Rattle.std.proofs.Common.{◌≡◌, ℕ, Bool, true, false, List, [], ◌∷◌, length, take, drop, Some}
-use Rattle.std.proofs.Common.{Result, Ok, Err, refl, sym, ap, ◌∙◌}
+use Rattle.std.proofs.Common.{◌≡◌, ℕ, Bool, true, false, List, [], ◌∷◌, length, take, drop, Some, Result, Ok, Err, refl}
+use Rattle.std.proofs.Common.{sym, ap, ◌∙◌}
 use Rattle.std.specs.Prelude.{if◌then◌else◌, nat_lt, nat_le}
 use Rattle.std.specs.Int.{w32, from_be_bytes}
 use Rattle.js_base.specs.declared.ids.HostId.{HostId}
@@ -11,8 +11,8 @@ use Rattle.wire_msg.specs.declared.error.WireError.TheVariants as refusal
 use Rattle.wire_msg.specs.declared.frame.Frame.{Frame}
 use Rattle.wire_msg.specs.Reader.{Reader, Gives, known, to_the_end, whole}
 use Rattle.wire_msg.specs.Reading.{fields_at, sent_at, body_at, frame_at, reading_of}
-use Rattle.wire_msg.specs.Faults.{layout_of, left_fault, fields_fault, body_fault, or_else, sized_fault}
-use Rattle.wire_msg.specs.Faults.{first_fault, fault_in}
+use Rattle.wire_msg.specs.Faults.{layout_of, left_fault, fields_fault, body_fault, or_else, sized_fault, first_fault}
+use Rattle.wire_msg.specs.Faults.{fault_in}
 use Rattle.wire_msg.proofs.Layouts.{named_by, fields_are}
 
 -- ---- a body

@@ -1,6 +1,6 @@
 -- What the fields of each kind are refused for is what their layout says.
-use Rattle.std.proofs.Common.{◌≡◌, inl, inr, ℕ, ◌*◌, Bool, true, false, List, [], ◌∷◌, length, drop}
-use Rattle.std.proofs.Common.{Option, Some, None, Result, Ok, refl, sym, ap, ap₂, ◌∙◌, arith}
+use Rattle.std.proofs.Common.{◌≡◌, inl, inr, ℕ, ◌*◌, Bool, true, false, List, [], ◌∷◌, length, drop, Option, Some, None}
+use Rattle.std.proofs.Common.{Result, Ok, refl, sym, ap, ap₂, ◌∙◌, arith}
 use Rattle.std.specs.Prelude.{if◌then◌else◌, ◌==◌, nat_lt}
 use Rattle.std.proofs.lemmas.Bool.{cases_lt, lt-ltb, le-ltb}
 use Rattle.js_base.specs.declared.ids.HostId.{HostId}
@@ -17,8 +17,8 @@ use Rattle.wire_msg.specs.declared.riding.Riding.{Riding}
 use Rattle.wire_msg.specs.Frames.{has_host, may_ride}
 use Rattle.wire_msg.specs.Reader.{Reader, to_the_end}
 use Rattle.wire_msg.specs.Reading.{rider_at, rgoto_with_at, message_at, some_message_at, fields_at}
-use Rattle.wire_msg.specs.Faults.{Layout, without_token, with_pairs, message_layout, layout_of}
-use Rattle.wire_msg.specs.Faults.{left_fault, PAIR_BYTES, pairs_fault, fields_fault, fault_in}
+use Rattle.wire_msg.specs.Faults.{Layout, without_token, with_pairs, message_layout, layout_of, left_fault, PAIR_BYTES}
+use Rattle.wire_msg.specs.Faults.{pairs_fault, fields_fault, fault_in}
 use Rattle.wire_msg.proofs.Sizes.{Sized, Named, has_message_host, get_sized, set_sized, forward_sized, sync_sized}
 use Rattle.wire_msg.proofs.Sizes.{rgoto_sized, lgoto_sized, value_sized, ack_sized, answer_sized, riding_sized}
 use Rattle.wire_msg.proofs.Sizes.{riders_sized}

@@ -18,6 +18,7 @@ use Rattle.byte_format.proofs.NumberLaws.{byte_reads, byte_again, integer_reads,
 use Rattle.byte_format.proofs.Sequels.{Reads, Again, reads_then, reads_last, reads_require, again_then, again_last}
 use Rattle.byte_format.proofs.Sequels.{again_require}
 use Rattle.byte_format.proofs.ItemLaws.{all_weaker, all_read, items_again, each_by_recursion, in_by_recursion}
+use Rattle.byte_format.proofs.ItemLaws.{counted_within, within_again}
 use Rattle.wire_msg.specs.declared.error.WireError.TheVariants as refusal
 use Rattle.wire_msg.specs.declared.riding.Riding.{Riding}
 use Rattle.wire_msg.specs.Frames.{IsFrameId, IsToken, IsRider, IsMessage, may_ride}
@@ -26,17 +27,7 @@ use Rattle.wire_msg.specs.Reading.{riding_at, rider_at, rgoto_with_at}
 use Rattle.wire_msg.proofs.FieldLaws.{variable_reads, variable_again, entry_reads, entry_again, frame_id_reads}
 use Rattle.wire_msg.proofs.FieldLaws.{frame_id_again, token_reads, token_again}
 
--- ---- how many ride
-
-few_are : (count : ℕ) (riders : List Rider) → length riders ≡ count → may_ride count ≡ true → AreFew riders
-few_are count riders is few =
-    let parts = and_parts (nat_le 1 count) (nat_le count MOST_RIDERS) few in
-    let some : 1 ≤ count = leb-true _ _ parts.0 in
-    let most : count ≤ MOST_RIDERS = leb-true _ _ parts.1 in
-    (omega (arith, is, some), omega (arith, is, most))
-
-few_may : (riders : List Rider) → AreFew riders → may_ride (length riders) ≡ true
-few_may riders few = rw (le-leb 1 (length riders) few.0, le-leb (length riders) MOST_RIDERS few.1) refl
+-- ---- how many bytes
 
 riders_length : (riders : List Rider) → length (flat_map rider_bytes riders) ≡ 12 * length riders
 unfolding number_bytes word_bytes
@@ -103,7 +94,13 @@ rgoto_with_reads =
         is.0,
         (
           is.1.0,
-          (is.1.1, (few_are riding.count riders all.0 few, each_by_recursion IsRider [] riders all.1)),
+          (
+            is.1.1,
+            (
+              counted_within 1 MOST_RIDERS riding.count riders all.0 few,
+              each_by_recursion IsRider [] riders all.1,
+            ),
+          ),
         ),
       ),
     )))))
@@ -142,6 +139,7 @@ unfolding rgoto_with_at
 rgoto_with_again id entry token riders is named =
     let each = all_weaker (λ _ rider. IsRider rider) (λ _ rider. Again rider_at rider (rider_bytes rider))
     (λ _ rider rider_is. rider_again rider rider_is) [] riders (in_by_recursion IsRider [] riders is.1.1.1.1) in
+    let may = within_again 1 MOST_RIDERS (length riders) is.1.1.1.0.0 is.1.1.1.0.1 in
     again_then _ (riding_again (riding_of id entry token riders) (is.0, (is.1.0, is.1.1.0)))
-    (again_require refusal.BadField named (again_require refusal.BadField (few_may riders is.1.1.1.0)
+    (again_require refusal.BadField named (again_require refusal.BadField may
     (again_last (message.RgotoWith id entry token) (items_again (λ _. rider_at) rider_bytes [] riders each))))

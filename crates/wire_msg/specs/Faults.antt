@@ -1,6 +1,6 @@
 -- Why bytes are no frame, by places and lengths alone: the first fault in the order of refusals.
-use Rattle.std.specs.Prelude.{ℕ, ◌*◌, Bool, true, if◌then◌else◌, ◌==◌, List, [], ◌∷◌, length, take, drop, nat_lt, nat_le}
-use Rattle.std.specs.Prelude.{slice_index, Option, Some, None, Result, Ok, Err}
+use Rattle.std.specs.Prelude.{ℕ, ◌*◌, Bool, true, if◌then◌else◌, ◌==◌, List, [], ◌∷◌, length, take, drop, nat_lt}
+use Rattle.std.specs.Prelude.{nat_le, slice_index, Option, Some, None, Result, Ok, Err}
 use Rattle.std.specs.Int.{w32, from_be_bytes}
 use Rattle.js_base.specs.declared.limits.TheConstants.{HOSTS, FRAME_BYTES}
 use Rattle.wire_msg.specs.declared.error.WireError.{WireError}

@@ -22,8 +22,7 @@ use Rattle.wire_msg.specs.declared.frame.Frame.{Frame}
 use Rattle.wire_msg.specs.declared.frame.Frame.TheVariants as frame
 use Rattle.wire_msg.specs.declared.riding.Riding.{Riding}
 use Rattle.wire_msg.specs.Frames.{has_host, may_ride}
-use Rattle.wire_msg.specs.Reader.{Reader, known, byte_at, bytes_at, number_at}
-use Rattle.wire_msg.specs.Reader.{integer_at, whole}
+use Rattle.wire_msg.specs.Reader.{Reader, known, byte_at, bytes_at, number_at, integer_at, whole}
 
 -- ---- what messages name
 

@@ -17,11 +17,13 @@ pub returns-in_err-instruction : goal.returns-in_err-instruction
 returns-in_err-instruction c =
     let code = shape_of c.args.code.now in
     let p = err_from_is_err_and c.from_residual.result c.from_residual.ensures.1 in
-    let same = next_instruction code c.args.me c.args.places c.loop-number.instructions.items c.loop-number.temporaries
+    let same = next_instruction c.args.version code c.args.me c.args.places c.loop-number.instructions.items
+    c.loop-number.temporaries
     c.loop-number.number c.loop-number.invariant.count c.loop-number.invariant.temporaries in
     let fails = subst (λ (item : Reader Instr). Fails c.in_err-instruction.field-0.0 (item c.loop-number.rest.now))
     (sym same) c.in_err-instruction.ensures in
-    rw (p.1, p.2) (items_fail (next_instruction_at code c.args.me c.args.places) c.loop-number.instructions.items
+    rw (p.1, p.2) (items_fail (next_instruction_at c.args.version code c.args.me c.args.places)
+    c.loop-number.instructions.items
     c.args.places c.loop-number.number _ c.loop-number.rest.now _ c.loop-number-test.true fails
     c.loop-number.invariant.read)
 
@@ -31,7 +33,8 @@ loop-number-preserved c =
     let before = c.loop-number.instructions.items in
     let next = c.in_ok-instruction.instruction in
     let inv = c.loop-number.invariant in
-    let same = next_instruction code c.args.me c.args.places before c.loop-number.temporaries c.loop-number.number
+    let same = next_instruction c.args.version code c.args.me c.args.places before c.loop-number.temporaries
+    c.loop-number.number
     inv.count inv.temporaries in
     let read = subst (λ (item : Reader Instr). item c.loop-number.rest.now ≡ Ok (next, c.in_ok-instruction.after.now))
     (sym same) c.in_ok-instruction.ensures in
@@ -46,7 +49,8 @@ loop-number-preserved c =
     let behind = c.temporaries_behind-temporaries.ensures
     ∙ ap (λ b. if b then 0 else temporaries_after next.op c.loop-number.temporaries) is_there in
     record {
-      read = rw c.in_ok-push.ensures.items (items_more (next_instruction_at code c.args.me c.args.places) before
+      read = rw c.in_ok-push.ensures.items (items_more
+          (next_instruction_at c.args.version code c.args.me c.args.places) before
           c.args.places c.loop-number.number _ c.loop-number.rest.now _ _ c.loop-number-test.true read inv.read);
       count = ap length c.in_ok-push.ensures.items ∙ length_push before next ∙ ap (λ n. n + 1) inv.count;
       temporaries = behind

@@ -7,9 +7,9 @@ use Rattle.split_file.proofs.instructions.instructions_of.Given as goal
 
 abbrev pub invariant-loop-number : goal.invariant-loop-number
 invariant-loop-number l = record {
-  read : items_at (next_instruction_at (shape_of l.code) l.me l.places) l.instructions.items
+  read : items_at (next_instruction_at l.version (shape_of l.code) l.me l.places) l.instructions.items
       (l.places - l.number) l.rest
-      ≡ items_at (next_instruction_at (shape_of l.code) l.me l.places) [] l.places l.bytes;
+      ≡ items_at (next_instruction_at l.version (shape_of l.code) l.me l.places) [] l.places l.bytes;
   count : length l.instructions.items ≡ l.number;
   temporaries : l.temporaries ≡ temporaries_at l.code.entries.items l.me l.instructions.items l.number;
   few : l.temporaries ≤ l.number;

@@ -14,21 +14,22 @@ pub returns-in_err-part : goal.returns-in_err-part
 returns-in_err-part c =
     let code = shape_of c.args.code.now in
     let p = err_from_is_err_and c.from_residual.result c.from_residual.ensures.1 in
-    let same = next_part code c.loop-host.parts.items c.loop-host.host c.loop-host.invariant.count in
+    let same = next_part c.args.version code c.loop-host.parts.items c.loop-host.host c.loop-host.invariant.count in
     let fails = subst (λ (item : Reader (List Instr)). Fails c.in_err-part.field-0.0 (item c.loop-host.rest.now))
     (sym same) c.in_err-part.ensures in
-    rw (p.1, p.2) (items_fail (next_part_at code) c.loop-host.parts.items c.args.count c.loop-host.host _
+    rw (p.1, p.2) (items_fail (next_part_at c.args.version code) c.loop-host.parts.items c.args.count c.loop-host.host _
     c.loop-host.rest.now _ c.loop-host-test.true fails c.loop-host.invariant.read)
 
 pub loop-host-preserved : goal.loop-host-preserved
 loop-host-preserved c =
     let code = shape_of c.args.code.now in
     let before = c.loop-host.parts.items in
-    let same = next_part code before c.loop-host.host c.loop-host.invariant.count in
+    let same = next_part c.args.version code before c.loop-host.host c.loop-host.invariant.count in
     let read = subst (λ (item : Reader (List Instr)). item c.loop-host.rest.now
     ≡ Ok (c.in_ok-part.part, c.in_ok-part.after.now)) (sym same) c.in_ok-part.ensures in
     record {
-      read = rw c.in_ok-push.ensures.items (items_more (next_part_at code) before c.args.count c.loop-host.host _
+      read = rw c.in_ok-push.ensures.items (items_more (next_part_at c.args.version code) before c.args.count
+          c.loop-host.host _
           c.loop-host.rest.now _ _ c.loop-host-test.true read c.loop-host.invariant.read);
       count = ap length c.in_ok-push.ensures.items ∙ length_push before c.in_ok-part.part
           ∙ ap (λ n. n + 1) c.loop-host.invariant.count;
