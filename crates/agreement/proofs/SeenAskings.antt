@@ -373,6 +373,10 @@ operation_asked eyes old thread there token now count (op.Go entry on) passes ru
     absurd elsewhere
 operation_asked eyes old thread there token now count (op.Call entry on) passes run elsewhere law fits checks =
     absurd elsewhere
+operation_asked eyes old thread there token now count (op.GoWith entry on riders) passes run elsewhere law fits checks =
+    absurd elsewhere
+operation_asked eyes old thread there token now count (op.CallWith entry on riders) passes run elsewhere law fits
+    checks = absurd elsewhere
 operation_asked eyes old thread there token now count op.Back passes run elsewhere law fits checks = absurd elsewhere
 operation_asked eyes old thread there token now count (op.Branch guard target) passes run elsewhere law fits checks =
     absurd elsewhere

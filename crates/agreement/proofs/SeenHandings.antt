@@ -3,6 +3,8 @@ use Rattle.std.proofs.Common.{◌≡◌, ◌∙◌, ℕ, Bool, true, false, List
 use Rattle.std.proofs.Common.{ap, sym, subst}
 use Rattle.std.specs.Prelude.{ℤ, ◌==◌, if◌then◌else◌}
 use Rattle.js_base.specs.declared.ids.HostId.{HostId}
+use Rattle.js_base.specs.declared.ids.FrameId.{FrameId}
+use Rattle.js_base.specs.declared.ids.VarId.{VarId}
 use Rattle.capability.specs.declared.token.Token.{Token}
 use Rattle.host_code.specs.declared.instruction.Instr.{Instr}
 use Rattle.host_code.specs.declared.instruction.Op.{Op}
@@ -19,10 +21,11 @@ use Rattle.net_world.specs.Secret.{IsQuiet}
 use Rattle.event_text.specs.declared.event.Event.{Event}
 use Rattle.event_text.specs.declared.event.Event.TheVariants.{Turn}
 use Rattle.host_decl.specs.Hosts as declared_hosts
+use Rattle.split_shades.specs.ShadedCode.{IsShadedOp}
 use Rattle.token_laws.specs.Reached.{IsReached}
 use Rattle.seen_world.specs.Eyes.{Eyes, AreEyes, Watches}
 use Rattle.seen_world.proofs.SeenPlaces.{some_is}
-use Rattle.agreement.specs.Handing.{handed, RunsHanding, sent_view, SeenHanding}
+use Rattle.agreement.specs.Handing.{handed, RunsHanding, shown_variables, sent_view, SeenHanding}
 use Rattle.agreement.specs.Leads.{Leads}
 use Rattle.agreement.specs.Turns.{host_idle}
 use Rattle.agreement.specs.Views.{View, with_host}
@@ -55,17 +58,17 @@ some_pair P to other said made x is holds =
 
 -- it is seen as it is
 pub handed_is : (eyes : Eyes) (bare : HostShape) (thread : ThreadShape) (token : Token) (it : Op) (passes : Bool)
-    (to : HostId) (said : Message) → bare.running ≡ None → thread.held ≡ Some token →
-    handed bare.me thread token it ≡ letter to said →
+    (to : HostId) (said : Message) → bare.running ≡ None → IsShadedOp eyes.scene eyes.shades bare.me thread.at it →
+    thread.held ≡ Some token → handed bare.variables bare.me thread token it ≡ letter to said →
     (after_operation eyes.code bare thread it passes ≡ with_message (with_running bare None) to said)
     × ((i j : HostId) → message_view eyes i j said ≡ said)
-handed_is eyes bare thread token (op.Go entry on) passes to said none held is =
+handed_is eyes bare thread token (op.Go entry on) passes to said none law held is =
     let P : HostId → Message → Eyes → Type 0 = λ h m e.
     (after_go bare thread thread.frame entry on (Some token) ≡ with_message (with_running bare None) h m)
     × ((i j : HostId) → message_view e i j m ≡ m) in
     let done = some_pair P to on said (message.Rgoto thread.frame entry token) eyes is (refl, λ i j. refl) in
     (ap (after_go bare thread thread.frame entry on) held ∙ done.0, done.1)
-handed_is eyes bare thread token (op.Call entry on) passes to said none held is = by (on.0 == bare.me.0) refl is
+handed_is eyes bare thread token (op.Call entry on) passes to said none law held is = by (on.0 == bare.me.0) refl is
   where
     P : HostId → Message → Eyes → Type 0
     P h m e = (after_go bare thread thread.new_frame entry on (Some token) ≡ with_message (with_running bare None) h m)
@@ -79,7 +82,7 @@ handed_is eyes bare thread token (op.Call entry on) passes to said none held is 
     by false apart same =
         let done = some_pair P to on said (message.Rgoto thread.new_frame entry token) eyes same (refl, λ i j. refl) in
         (rw apart (ap (after_go bare thread thread.new_frame entry on) held ∙ done.0), done.1)
-handed_is eyes bare thread token op.Back passes to said none held is = by (token.host.0 == bare.me.0) refl is
+handed_is eyes bare thread token op.Back passes to said none law held is = by (token.host.0 == bare.me.0) refl is
   where
     P : HostId → Message → Eyes → Type 0
     P h m e = (with_message (with_running bare None) token.host (message.Lgoto token)
@@ -94,17 +97,42 @@ handed_is eyes bare thread token op.Back passes to said none held is = by (token
     by false apart same =
         let done = some_pair P to token.host said (message.Lgoto token) eyes same (refl, λ i j. refl) in
         (rw (held, apart) done.0, done.1)
-handed_is eyes bare thread token (op.Read field index) passes to said none held is = absurd (cc)
-handed_is eyes bare thread token (op.Let x value) passes to said none held is = absurd (cc)
-handed_is eyes bare thread token (op.Put field index value) passes to said none held is = absurd (cc)
-handed_is eyes bare thread token (op.Send x on) passes to said none held is = absurd (cc)
-handed_is eyes bare thread token (op.Frame site) passes to said none held is = absurd (cc)
-handed_is eyes bare thread token (op.Arg x value) passes to said none held is = absurd (cc)
-handed_is eyes bare thread token (op.Pass x on) passes to said none held is = absurd (cc)
-handed_is eyes bare thread token (op.Push entry) passes to said none held is = absurd (cc)
-handed_is eyes bare thread token (op.Ask entry on) passes to said none held is = absurd (cc)
-handed_is eyes bare thread token (op.Ret x value) passes to said none held is = absurd (cc)
-handed_is eyes bare thread token (op.Branch guard target) passes to said none held is = absurd (cc)
+handed_is eyes bare thread token (op.GoWith entry on riders) passes to said none law held is = absurd law.1
+handed_is eyes bare thread token (op.CallWith entry on riders) passes to said none law held is = absurd law.1
+handed_is eyes bare thread token (op.Read field index) passes to said none law held is = absurd (cc)
+handed_is eyes bare thread token (op.Let x value) passes to said none law held is = absurd (cc)
+handed_is eyes bare thread token (op.Put field index value) passes to said none law held is = absurd (cc)
+handed_is eyes bare thread token (op.Send x on) passes to said none law held is = absurd (cc)
+handed_is eyes bare thread token (op.Frame site) passes to said none law held is = absurd (cc)
+handed_is eyes bare thread token (op.Arg x value) passes to said none law held is = absurd (cc)
+handed_is eyes bare thread token (op.Pass x on) passes to said none law held is = absurd (cc)
+handed_is eyes bare thread token (op.Push entry) passes to said none law held is = absurd (cc)
+handed_is eyes bare thread token (op.Ask entry on) passes to said none law held is = absurd (cc)
+handed_is eyes bare thread token (op.Ret x value) passes to said none law held is = absurd (cc)
+handed_is eyes bare thread token (op.Branch guard target) passes to said none law held is = absurd (cc)
+
+-- what is handed over is told by the frames of the thread, where no values ride
+pub handed_same : (eyes : Eyes) (variables others : FrameId → VarId → ℤ) (me : HostId) (thread twin : ThreadShape)
+    (token : Token) (it : Op) → IsShadedOp eyes.scene eyes.shades me thread.at it → twin.frame ≡ thread.frame →
+    twin.new_frame ≡ thread.new_frame → handed others me twin token it ≡ handed variables me thread token it
+handed_same eyes variables others me thread twin token (op.Go entry on) law frame new_frame =
+    ap (λ (f : FrameId). letter on (message.Rgoto f entry token)) frame
+handed_same eyes variables others me thread twin token (op.Call entry on) law frame new_frame =
+    ap (λ (f : FrameId). if on.0 == me.0 then None else letter on (message.Rgoto f entry token)) new_frame
+handed_same eyes variables others me thread twin token (op.GoWith entry on riders) law frame new_frame = absurd law.1
+handed_same eyes variables others me thread twin token (op.CallWith entry on riders) law frame new_frame = absurd law.1
+handed_same eyes variables others me thread twin token (op.Read field index) law frame new_frame = refl
+handed_same eyes variables others me thread twin token (op.Let x value) law frame new_frame = refl
+handed_same eyes variables others me thread twin token (op.Arg x value) law frame new_frame = refl
+handed_same eyes variables others me thread twin token (op.Put field index value) law frame new_frame = refl
+handed_same eyes variables others me thread twin token (op.Send x to) law frame new_frame = refl
+handed_same eyes variables others me thread twin token (op.Frame site) law frame new_frame = refl
+handed_same eyes variables others me thread twin token (op.Pass x to) law frame new_frame = refl
+handed_same eyes variables others me thread twin token (op.Push entry) law frame new_frame = refl
+handed_same eyes variables others me thread twin token (op.Ask entry on) law frame new_frame = refl
+handed_same eyes variables others me thread twin token (op.Ret x value) law frame new_frame = refl
+handed_same eyes variables others me thread twin token op.Back law frame new_frame = refl
+handed_same eyes variables others me thread twin token (op.Branch guard target) law frame new_frame = refl
 
 -- ---- a turn
 
@@ -131,14 +159,17 @@ reached_hands eyes rows bad store events world after host now run are watch reac
     let there = run.instruction in
     let turn = reached_turns eyes rows bad store events world after host now old thread there run.token run.there
     run.running run.is run.held are watch reach step quiet leads in
-    let hands : handed old.me thread run.token there.op ≡ Some (run.to, run.said) =
-    subst (λ (h : HostId). handed h thread run.token there.op ≡ Some (run.to, run.said)) (sym turn.me) run.hands in
-    let done = handed_is eyes (with_running old None) thread run.token there.op turn.passes run.to run.said refl
+    let shown = thread_view eyes old.me thread.at thread in
+    let law = (are.shaded.instructions old.me thread.at there turn.visible.is).law in
+    let hands : handed old.variables old.me thread run.token there.op ≡ Some (run.to, run.said) =
+    subst (λ (h : HostId). handed old.variables h thread run.token there.op ≡ Some (run.to, run.said)) (sym turn.me)
+    run.hands in
+    let done = handed_is eyes (with_running old None) thread run.token there.op turn.passes run.to run.said refl law
     run.held hands in
     let seen = sent_view (with_host now old.me (host_idle (now.hosts old.me))) old.me run.to
     (record { message = run.said; label = there.label }) (eyes.bad run.to) in
     let shows : SeenHanding eyes now old.me seen = record {
-      thread = thread_view eyes old.me thread.at thread;
+      thread = shown;
       running = turn.running;
       token = run.token;
       held = run.held;
@@ -146,7 +177,8 @@ reached_hands eyes rows bad store events world after host now run are watch reac
       is = turn.visible.is;
       to = run.to;
       said = run.said;
-      hands = hands;
+      hands = handed_same eyes old.variables (shown_variables eyes (now.hosts old.me)) old.me thread shown run.token
+          there.op law refl refl ∙ hands;
       seen = refl;
     } in (
       seen,
@@ -163,15 +195,16 @@ same_first x y is = cc
 pub handing_once : (eyes : Eyes) (now : View) (host : HostId) (first second : View) →
     SeenHanding eyes now host first → SeenHanding eyes now host second → first ≡ second
 handing_once eyes now host first second one two =
+    let seen = shown_variables eyes (now.hosts host) in
     let thread : two.thread ≡ one.thread = same_first two.thread one.thread (sym two.running ∙ one.running) in
     let token : two.token ≡ one.token =
     some_is (sym two.held ∙ ap (λ (t : ThreadShape). t.held) thread ∙ one.held) in
     let there : two.instruction ≡ one.instruction =
     some_is (sym two.is ∙ ap (λ (t : ThreadShape). instruction_at eyes.code host t.at) thread ∙ one.is) in
     let both = one_letter one.to two.to one.said two.said
-    (sym two.hands ∙ ap (λ (t : ThreadShape). handed host t two.token two.instruction.op) thread
-    ∙ ap (λ (t : Token). handed host one.thread t two.instruction.op) token
-    ∙ ap (λ (i : Instr). handed host one.thread one.token i.op) there ∙ one.hands) in
+    (sym two.hands ∙ ap (λ (t : ThreadShape). handed seen host t two.token two.instruction.op) thread
+    ∙ ap (λ (t : Token). handed seen host one.thread t two.instruction.op) token
+    ∙ ap (λ (i : Instr). handed seen host one.thread one.token i.op) there ∙ one.hands) in
     let idle_now = with_host now host (host_idle (now.hosts host)) in
     one.seen
     ∙ sym (two.seen

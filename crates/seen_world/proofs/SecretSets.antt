@@ -1,12 +1,14 @@
 -- What a secret message sets may not be seen, nor may the block that it enters.
-use Rattle.std.proofs.Common.{◌≡◌, ◌∙◌, ℕ, false, List, Option, Some, None, inl, inr, refl, ap, sym, subst}
+use Rattle.std.proofs.Common.{◌≡◌, ◌∙◌, ℕ, zero, suc, false, List, [], ◌∷◌, Option, Some, None, inl, inr, refl, ap, sym, subst}
 use Rattle.std.specs.Prelude.{◌⊎◌, IfSome, slice_get}
 use Rattle.std.proofs.lemmas.Bool.{cases_Bool, false≢true}
 use Rattle.js_base.specs.declared.ids.HostId.{HostId}
 use Rattle.js_base.specs.declared.ids.EntryId.{EntryId}
 use Rattle.js_base.specs.declared.ids.FieldId.{FieldId}
+use Rattle.js_base.specs.declared.ids.FrameId.{FrameId}
 use Rattle.js_base.specs.declared.ids.VarId.{VarId}
 use Rattle.label_lattice.specs.declared.label.Label.{Label}
+use Rattle.capability.specs.declared.token.Token.{Token}
 use Rattle.label_lattice.specs.Label.{ConfFlows}
 use Rattle.jif_tree.specs.LabelRules.{field_label}
 use Rattle.host_code.specs.declared.code_expr.Node.{Node}
@@ -14,6 +16,7 @@ use Rattle.host_code.specs.declared.instruction.Op.{Op}
 use Rattle.host_code.specs.declared.instruction.Op.TheVariants as op
 use Rattle.host_code.specs.declared.message.Message.{Message}
 use Rattle.host_code.specs.declared.message.Message.TheVariants as message
+use Rattle.host_code.specs.Riders.{Rider, names_of}
 use Rattle.host_code.specs.Code.{CodeFieldShape, CodeVariableShape, field_at, variable_at}
 use Rattle.entry_check.specs.Checks.{label_at}
 use Rattle.need_labels.specs.Needs.{label_of}
@@ -33,6 +36,15 @@ shaded_at : (eyes : Eyes) → AreEyes eyes → (host : HostId) (place : ℕ) (it
     IsShadedOp eyes.scene eyes.shades host place it
 shaded_at eyes are host place it at =
     subst (IsShadedOp eyes.scene eyes.shades host place) at.2 (are.shaded.instructions host place at.0 at.1).law
+
+-- no instruction of shaded code lets values ride
+none_rides : (eyes : Eyes) → AreEyes eyes → (from to : HostId) (place label : ℕ) (entry : EntryId)
+    (riders : List VarId) (has : HasLabelAt eyes from place label) →
+    (has.0.op ≡ op.GoWith entry to riders) ⊎ (has.0.op ≡ op.CallWith entry to riders) → ⊥
+none_rides eyes are from to place label entry riders has (inl is) =
+    (shaded_at eyes are from place (op.GoWith entry to riders) (has.0, has.1, is)).1
+none_rides eyes are from to place label entry riders has (inr is) =
+    (shaded_at eyes are from place (op.CallWith entry to riders) (has.0, has.1, is)).1
 
 variable_flows : (eyes : Eyes) → AreEyes eyes → (from to : HostId) (place : ℕ) (x : VarId) →
     IsAt eyes from place (op.Send x to)
@@ -87,6 +99,8 @@ sets_hidden eyes are from to (message.Forward request frame x value) label asked
     set_variable eyes are from to request.at label x asked has hidden (variable_at eyes.code x) refl
 sets_hidden eyes are from to (message.Sync request frame entry token) label asked has hidden = tt
 sets_hidden eyes are from to (message.Rgoto frame entry token) label asked has hidden = tt
+sets_hidden eyes are from to (message.RgotoWith frame entry token riders) label asked has hidden =
+    absurd (none_rides eyes are from to has.0 label entry (names_of riders) has.1 has.2)
 sets_hidden eyes are from to (message.Lgoto token) label asked has hidden = tt
 sets_hidden eyes are from to (message.Value request value) label asked has hidden = tt
 sets_hidden eyes are from to (message.Ack request) label asked has hidden = tt
@@ -141,10 +155,24 @@ enters_hidden eyes are from to (message.Sync request frame entry token) label as
     )
 enters_hidden eyes are from to (message.Rgoto frame entry token) label asked has hidden =
     ends_hidden eyes are from to has.0 label entry has.1 hidden has.2
+enters_hidden eyes are from to (message.RgotoWith frame entry token riders) label asked has hidden =
+    absurd (none_rides eyes are from to has.0 label entry (names_of riders) has.1 has.2)
 enters_hidden eyes are from to (message.Lgoto token) label asked has hidden = tt
 enters_hidden eyes are from to (message.Value request value) label asked has hidden = tt
 enters_hidden eyes are from to (message.Ack request) label asked has hidden = tt
 enters_hidden eyes are from to (message.Token request token) label asked has hidden = tt
+
+-- what is hidden of each variable that rides, at its place
+pub rider_hidden : (eyes : Eyes) (frame : FrameId) (entry : EntryId) (token : Token) (riders : List Rider) (place : ℕ)
+    (rider : Rider) → SetsHidden eyes (message.RgotoWith frame entry token riders) →
+    slice_get riders place ≡ Some rider →
+    IfSome (variable_at eyes.code rider.0) (λ there. sees_at eyes there.label ≡ false)
+rider_hidden eyes frame entry token [] place rider hidden there = absurd (cc)
+rider_hidden eyes frame entry token (first ∷ riders) zero rider hidden there =
+    let same : first ≡ rider = cc in
+    subst (λ (one : Rider). IfSome (variable_at eyes.code one.0) (λ it. sees_at eyes it.label ≡ false)) same hidden.0
+rider_hidden eyes frame entry token (first ∷ riders) (suc place) rider hidden there =
+    rider_hidden eyes frame entry token riders place rider hidden.1 there
 
 pub flight_enters : (eyes : Eyes) (world : WorldShape) (from to : HostId) (place : ℕ) (flight : Flight) →
     AreEyes eyes → PointsHold eyes world → slice_get (world.flying from to) place ≡ Some flight →

@@ -140,6 +140,8 @@ named_of eyes are host place (op.Go there to) law on named bad =
     told_on eyes are to on (eyes.shades.at host place).pc named law.4 bad
 named_of eyes are host place (op.Call there to) law on named bad =
     told_on eyes are to on (eyes.shades.at host place).pc named law.4 bad
+named_of eyes are host place (op.GoWith there to riders) law on named bad = absurd law.1
+named_of eyes are host place (op.CallWith there to riders) law on named bad = absurd law.1
 named_of eyes are host place (op.Let x value) law on named bad = absurd named
 named_of eyes are host place (op.Frame site) law on named bad = absurd named
 named_of eyes are host place (op.Arg x value) law on named bad = absurd named

@@ -588,6 +588,10 @@ operation_kept eyes are host thread (op.Call entry on) passes count obeys stand 
         fits.0.1 in
         own_call_kept eyes are host thread entry (entry_at eyes.code entry) refl there stand well law.0.0 law.3
     by false is = go_kept eyes host thread thread.new_frame entry on thread.held stand well
+operation_kept eyes are host thread (op.GoWith entry on riders) passes count obeys stand well below law fits at =
+    absurd law.1
+operation_kept eyes are host thread (op.CallWith entry on riders) passes count obeys stand well below law fits at =
+    absurd law.1
 operation_kept eyes are host thread (op.Ret x value) passes count obeys stand well below law fits at =
     return_kept eyes host thread x value thread.held passes stand well
     (clears eyes host.me thread false law.0 well law.2 law.1.3 (λ no. well.frames law.1.0)) at

@@ -2,6 +2,7 @@
 use Rattle.std.specs.Prelude.{ℕ, ℤ, pos, List, [], ◌∷◌, Some, None, codes, false, true}
 use Rattle.js_base.specs.declared.ids.HostId.{HostId}
 use Rattle.js_base.specs.declared.ids.FieldId.{FieldId}
+use Rattle.js_base.specs.declared.ids.VarId.{VarId}
 use Rattle.js_base.specs.declared.ids.EntryId.{EntryId}
 use Rattle.js_base.specs.declared.ids.RequestId.{RequestId}
 use Rattle.capability.specs.declared.token.Token.{Token}
@@ -13,7 +14,9 @@ use Rattle.host_code.specs.declared.code_expr.Node.TheVariants as node
 use Rattle.host_code.specs.declared.instruction.Instr.{Instr}
 use Rattle.host_code.specs.declared.instruction.Op.{Op}
 use Rattle.host_code.specs.declared.instruction.Op.TheVariants as op
+use Rattle.host_code.specs.declared.message.Message.{Message}
 use Rattle.host_code.specs.declared.message.Message.TheVariants as message
+use Rattle.host_code.specs.Riders.{Rider}
 use Rattle.host_code.specs.Thread.{ThreadShape}
 use Rattle.host_code.specs.Code.{CodeShape, halt}
 use Rattle.host_core.specs.Host.{HostShape, Outcome, new_token, thread_at, with_running}
@@ -167,3 +170,18 @@ once = kept_by given handed.state
 
 abbrev pub twice : WorldShape
 twice = kept_by once (keeping handed.state).state
+
+-- ---- values that ride
+
+abbrev a_variable : VarId
+a_variable = record { 0 = 0 }
+
+-- two values for one variable, of which the second is this one
+abbrev two_riders : ℤ → List Rider
+two_riders value = (a_variable, pos 5) ∷ (a_variable, value) ∷ []
+
+abbrev pub riding : ℤ → Message
+riding value = message.RgotoWith main_frame (entry_id 3) first_token (two_riders value)
+
+abbrev pub made_riding : ℤ → BadMessage
+made_riding value = bad.RgotoWith main_frame (entry_id 3) (Sent 0) (two_riders value)
