@@ -20,7 +20,7 @@ use Rattle.host_code.specs.Thread.{ThreadShape}
 use Rattle.host_core.specs.Host.{HostShape, Outcome, with_message, without_message}
 use Rattle.host_core.specs.Host.{value_in_thread}
 use Rattle.host_core.specs.Turn.{after_operation, after_read, after_put, after_own_push, after_ask, after_go}
-use Rattle.host_core.specs.Turn.{after_own_call, after_return, after_back}
+use Rattle.host_core.specs.Turn.{after_go_with, after_own_call, after_return, after_back}
 use Rattle.net_world.specs.Told.{token_in}
 
 -- the host that an instruction hands control over to, or asks to push an entry
@@ -28,6 +28,8 @@ abbrev pub entered_host : Op → Option HostId
 entered_host (op.Ask entry on) = Some on
 entered_host (op.Go entry on) = Some on
 entered_host (op.Call entry on) = Some on
+entered_host (op.GoWith entry on riders) = Some on
+entered_host (op.CallWith entry on riders) = Some on
 entered_host other = None
 
 -- A token goes to the host that the instruction enters, or back to its own host.
@@ -71,6 +73,12 @@ go_sends : (it : Op) (host : HostShape) (thread : ThreadShape) (frame : FrameId)
     (held : Option Token) → entered_host it ≡ Some on → Sends it (after_go host thread frame entry on held)
 go_sends it host thread frame entry on None enters = silent _ refl
 go_sends it host thread frame entry on (Some held) enters = sends _ on _ refl (λ token is. inl enters)
+
+go_with_sends : (it : Op) (host : HostShape) (thread : ThreadShape) (frame : FrameId) (entry : EntryId) (on : HostId)
+    (riders : List VarId) (held : Option Token) → entered_host it ≡ Some on →
+    Sends it (after_go_with host thread frame entry on riders held)
+go_with_sends it host thread frame entry on riders None enters = silent _ refl
+go_with_sends it host thread frame entry on riders (Some held) enters = sends _ on _ refl (λ token is. inl enters)
 
 own_call_sends : (it : Op) (host : HostShape) (thread : ThreadShape) (found : Option Entry) →
     Sends it (after_own_call host thread found)
@@ -117,3 +125,7 @@ operation_sends code bare thread op.Back passes = back_sends op.Back code bare t
 operation_sends code bare thread (op.Branch guard target) passes =
     either_sends (op.Branch guard target) (int_eq (value_in_thread bare thread guard) (pos 0)) _ _ (silent _ refl)
     (silent _ refl)
+operation_sends code bare thread (op.GoWith entry on riders) passes =
+    go_with_sends (op.GoWith entry on riders) bare thread thread.frame entry on riders thread.held refl
+operation_sends code bare thread (op.CallWith entry on riders) passes =
+    go_with_sends (op.CallWith entry on riders) bare thread thread.new_frame entry on riders thread.held refl

@@ -292,6 +292,8 @@ module _ (split : Split) (c : Configuration) (view : View) (host : HostId) (thre
       ∙ sym (ap (λ (b : Bool). if b then near else far) (ne_eqb on.0 bare.me.0 apart)) ∙ is in
       ended on (message.Rgoto thread.new_frame entry token) one
       (called split c view host thread t.stands.does.1 on entry fits.0 (place_of split host thread.at).calling refl law)
+  by_operation count (op.GoWith entry on riders) passes law fits enters is held = absurd law
+  by_operation count (op.CallWith entry on riders) passes law fits enters is held = absurd law
   by_operation count _ passes law fits enters is held = (let never : None ≡ Some to = enters in absurd (cc))
 
   -- the instruction enters the host, which is not that of the token

@@ -83,6 +83,7 @@ module _ (split : Split) (c : Configuration) (view : View) (host : HostId) (thre
   asked_stalls next awaited is (message.Sync request frame entry token) same asks =
       absurd (fresh token (ap token_in (sym same)) asks.4)
   asked_stalls next awaited is (message.Rgoto frame entry token) same asks = absurd asks
+  asked_stalls next awaited is (message.RgotoWith frame entry token riders) same asks = absurd asks
   asked_stalls next awaited is (message.Lgoto token) same asks = absurd asks
   asked_stalls next awaited is (message.Value request value) same asks = absurd asks
   asked_stalls next awaited is (message.Ack request) same asks = absurd asks

@@ -139,6 +139,7 @@ none_called split host at none = of_found (instruction_at split.code host at) re
         absurd (subst (λ calling. Enters split.planned split.table.entries (place_of split host at) calling there.0)
         none
         law)
+    of_law (op.CallWith there on riders) law = absurd law
     of_law _ law = refl
 
     of_found : (found : Option Instr) → instruction_at split.code host at ≡ found → is_call_there found ≡ false

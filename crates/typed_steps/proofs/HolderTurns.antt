@@ -116,6 +116,8 @@ module _ (split : Split) (c : Configuration) (view : View) (world : WorldShape) 
       gives_back split c view world host old thread t outcome law pace passes checked token top is
   operation outcome count (op.Branch guard target) law granted fits pace token top passes checked is =
       branches split c view world host old thread t outcome guard target law pace is
+  operation outcome count (op.GoWith entry on riders) law granted fits pace token top passes checked is = absurd law
+  operation outcome count (op.CallWith entry on riders) law granted fits pace token top passes checked is = absurd law
 
   -- ---- a turn
 
