@@ -232,8 +232,9 @@ own_letter me to on said sent own is =
     let never : None ≡ letter on sent = sym (ap (λ (b : Bool). if b then None else letter to said) here) ∙ is in
     cc
 
-alone_hands : (code : CodeShape) (variables : FrameId → VarId → ℤ) (me : HostId) (thread : ThreadShape) (token : Token) (it : Op) (to : HostId)
-    (said : Message) → ChangesAlone code me (Some token) it → handed variables me thread token it ≡ Some (to, said) → ⊥
+alone_hands : (code : CodeShape) (variables : FrameId → VarId → ℤ) (me : HostId) (thread : ThreadShape) (token : Token)
+    (it : Op) (to : HostId) (said : Message) → ChangesAlone code me (Some token) it →
+    handed variables me thread token it ≡ Some (to, said) → ⊥
 alone_hands code variables me thread token (op.Call entry on) to said alone is =
     own_letter me on to (message.Rgoto thread.new_frame entry token) said alone is
 alone_hands code variables me thread token op.Back to said alone is =
@@ -261,8 +262,9 @@ alone_asks code me token (op.Pass x to) alone asks = alone
 alone_asks code me token (op.Ask entry on) alone asks = alone
 alone_asks code me token it alone asks = asks
 
-hands_asks : (code : CodeShape) (variables : FrameId → VarId → ℤ) (me : HostId) (thread : ThreadShape) (token other : Token) (it : Op) (to : HostId)
-    (said : Message) → handed variables me thread token it ≡ Some (to, said) → AsksElsewhere code me other it → ⊥
+hands_asks : (code : CodeShape) (variables : FrameId → VarId → ℤ) (me : HostId) (thread : ThreadShape)
+    (token other : Token) (it : Op) (to : HostId) (said : Message) →
+    handed variables me thread token it ≡ Some (to, said) → AsksElsewhere code me other it → ⊥
 hands_asks code variables me thread token other (op.Go entry on) to said is asks = asks
 hands_asks code variables me thread token other (op.Call entry on) to said is asks = asks
 hands_asks code variables me thread token other (op.GoWith entry on riders) to said is asks = asks
@@ -294,7 +296,8 @@ kinds_apart code world host = (
       subst (λ held. ChangesAlone code host held hands.instruction.op)
       (ap (λ (t : ThreadShape). t.held) same.0 ∙ hands.held)
       (subst (λ (i : Instr). ChangesAlone code host alone.thread.held i.op) same.1 alone.alone) in
-      alone_hands code hands.state.variables host hands.thread hands.token hands.instruction.op hands.to hands.said it hands.hands,
+      alone_hands code hands.state.variables host hands.thread hands.token hands.instruction.op
+      hands.to hands.said it hands.hands,
   λ both.
       let alone = both.0 in
       let asking = both.1 in
@@ -310,6 +313,7 @@ kinds_apart code world host = (
       let asking = both.1 in
       let same = one_run code world host hands.state asking.state hands.thread asking.thread hands.instruction
       asking.instruction hands.there asking.there hands.running asking.running hands.is asking.is in
-      hands_asks code hands.state.variables host hands.thread hands.token asking.token hands.instruction.op hands.to hands.said hands.hands
+      hands_asks code hands.state.variables host hands.thread hands.token asking.token
+      hands.instruction.op hands.to hands.said hands.hands
       (subst (λ (i : Instr). AsksElsewhere code host asking.token i.op) (sym same.1) asking.asks),
 )

@@ -295,8 +295,8 @@ flies_ends eyes state from flight links spot owed now shown (message.Rgoto frame
     passed eyes state _ links now shown flight.label from (message.Rgoto frame entry token) passes checks holds
     (starts_ends eyes state from flight links spot owed now shown state.variables frame entry token take goes holds
     says.enters (λ other x seen. refl))
-flies_ends eyes state from flight links spot owed now shown (message.RgotoWith frame entry token riders) passes take goes
-    says checks =
+flies_ends eyes state from flight links spot owed now shown (message.RgotoWith frame entry token riders) passes take
+    goes says checks =
     let me = state.me in
     let holds = says.passes tt in
     let ends = starts_ends eyes state from flight links spot owed now shown

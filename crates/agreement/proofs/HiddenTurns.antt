@@ -135,8 +135,8 @@ operation_ends eyes old thread links token owed now shown label count there (op.
 operation_ends eyes old thread links token owed now shown label count there (op.Call entry on) passes run is law
     fits checks =
     call_ends eyes old thread links token owed now shown label there entry on run is law fits.0
-operation_ends eyes old thread links token owed now shown label count there (op.GoWith entry on riders) passes run is law
-    fits checks = absurd law.1
+operation_ends eyes old thread links token owed now shown label count there (op.GoWith entry on riders) passes run is
+    law fits checks = absurd law.1
 operation_ends eyes old thread links token owed now shown label count there (op.CallWith entry on riders) passes run is
     law fits checks = absurd law.1
 operation_ends eyes old thread links token owed now shown label count there (op.Ret x value) passes run is law

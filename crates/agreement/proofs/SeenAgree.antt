@@ -1,7 +1,6 @@
 -- Two quiet worlds that lead to one view still do after the same turn that may be seen.
-use Rattle.std.proofs.Common.{◌≡◌, ◌∙◌, ℕ, List, [], ◌∷◌, Option, Some, None, ap, sym, subst, refl}
+use Rattle.std.proofs.Common.{◌≡◌, ◌∙◌, ℕ, List, [], ◌∷◌, Option, Some, None, ap, sym, subst}
 use Rattle.std.specs.Prelude.{◌==◌, true, false, ℤ, Bool, if◌then◌else◌, IfSome}
-use Rattle.js_base.specs.declared.ids.FrameId.{FrameId}
 use Rattle.js_base.specs.declared.ids.HostId.{HostId}
 use Rattle.js_base.specs.declared.ids.VarId.{VarId}
 use Rattle.capability.specs.declared.token.Token.{Token}
@@ -10,7 +9,6 @@ use Rattle.host_code.specs.declared.code.Entry.{Entry}
 use Rattle.host_code.specs.declared.instruction.Instr.{Instr}
 use Rattle.host_code.specs.declared.instruction.Op.{Op}
 use Rattle.host_code.specs.declared.instruction.Op.TheVariants as op
-use Rattle.host_code.specs.declared.message.Message.TheVariants as message
 use Rattle.host_code.specs.Code.{instruction_at, entry_at}
 use Rattle.host_code.specs.Sound.{IsSoundCode, IsHost}
 use Rattle.host_code.specs.Thread.{ThreadShape}
@@ -26,7 +24,7 @@ use Rattle.split_shades.specs.ShadedCode.{ReleaseNothing}
 use Rattle.seen_world.specs.Eyes.{Eyes, AreEyes, Watches}
 use Rattle.seen_world.proofs.SeenPlaces.{some_is}
 use Rattle.seen_world.proofs.PointsKept.{points_kept}
-use Rattle.agreement.specs.Handing.{handed, RunsHanding}
+use Rattle.agreement.specs.Handing.{RunsHanding}
 use Rattle.agreement.specs.Leads.{Leads, Agree}
 use Rattle.agreement.specs.Turns.{ChangesAlone, RunsAlone, Carried, carried_in, ComesInto, ComesWithResult}
 use Rattle.agreement.specs.Turns.{SeenOperation}
@@ -243,8 +241,8 @@ turn_agrees eyes rows bad store start events others one other one_after other_af
 
 -- the other hands control over alike
 handing_too : (eyes : Eyes) (one other after : WorldShape) (now : View) (host : HostId) → AreEyes eyes →
-    ShapeFits eyes.code one → ShapeFits eyes.code other → Calm eyes one now → Calm eyes other now → RunsHanding eyes.code one host →
-    IsStep eyes.code other (Turn host) after → RunsHanding eyes.code other host
+    ShapeFits eyes.code one → ShapeFits eyes.code other → Calm eyes one now → Calm eyes other now →
+    RunsHanding eyes.code one host → IsStep eyes.code other (Turn host) after → RunsHanding eyes.code other host
 handing_too eyes one other after now host are fits fits_other calm calm_other run step =
     let thread = some_found step.state.running step.runs in
     let twins = twins_of eyes one other now host run.state step.state run.thread thread.0 fits fits_other calm
@@ -278,7 +276,8 @@ hands_agree eyes rows bad store start events others one other one_after other_af
     let calm = reached_calm eyes rows bad store events one now are watch reach quiet agree.first in
     let calm_other =
     reached_calm eyes rows bad start others other now are watch_other reach_other quiet_other agree.second in
-    let twin = handing_too eyes one other other_after now host are calm.0 calm_other.0 calm.1 calm_other.1 run step_other in
+    let twin = handing_too eyes one other other_after now host are calm.0 calm_other.0 calm.1 calm_other.1 run
+    step_other in
     let first = reached_hands eyes rows bad store events one one_after host now run are watch reach step quiet
     agree.first in
     let second = reached_hands eyes rows bad start others other other_after host now twin are watch_other

@@ -44,8 +44,8 @@ use Rattle.agreement.specs.Taken.{carried_taken, host_checked, host_without, see
 use Rattle.agreement.specs.Taken.{answer_view, SeenPassing, SeenMessage}
 use Rattle.agreement.specs.Turns.{variable_shown, with_riders, riders_shown, element_shown, token_shown, entry_shown}
 use Rattle.agreement.specs.Views.{View, HostView, ShowsHost, nowhere, nothing, gives, GivenBack, masked}
-use Rattle.agreement.specs.Views.{masked_all, last_seen, sees_field, sees_variable, sees_read, riders_view, message_view}
-use Rattle.agreement.specs.Views.{thread_view, waits_open, waiter_view, running_view, is_shown, with_host}
+use Rattle.agreement.specs.Views.{masked_all, last_seen, sees_field, sees_variable, sees_read, message_view}
+use Rattle.agreement.specs.Views.{riders_view, thread_view, waits_open, waiter_view, running_view, is_shown, with_host}
 use Rattle.agreement.proofs.AskedPlaces.{Woken, woken_at, awaiting_seen, acknowledged, given_token}
 use Rattle.agreement.proofs.GivesBack.{Given, given_ends, same_view, shows_ignored}
 use Rattle.agreement.proofs.Lists.{not_left, all_kept}
@@ -386,8 +386,9 @@ rgoto_seen : (eyes : Eyes) (state : HostShape) (from : HostId) (label : ℕ) (no
 rgoto_seen eyes state from label now frame entry token got passes =
     let me = state.me in
     let done = enters_seen eyes state from (message.Rgoto frame entry token) now state.variables (now.hosts me) frame
-    token (λ (there : Entry). there.host ≡ me) got got.plain (resting_shows eyes state (now.hosts me) got.shows got.rests)
-    (entry_at eyes.code entry) (on_me eyes me from entry passes) in (
+    token (λ (there : Entry). there.host ≡ me) got got.plain
+    (resting_shows eyes state (now.hosts me) got.shows got.rests) (entry_at eyes.code entry)
+    (on_me eyes me from entry passes) in (
       done.0,
       subst (λ (v : View). ComesToEntry eyes v me (entry_at eyes.code entry) frame token done.0) (same_view now me)
           done.1,

@@ -22,17 +22,17 @@ use Rattle.agreement.specs.Views.{View, HostView, masked, sees_variable, with_ho
 
 -- these variables of a frame, with their values
 abbrev riding : (FrameId → VarId → ℤ) → FrameId → List VarId → List Rider
-riding variables frame xs = map (λ x. (x, variables frame x)) xs
+riding variables frame riders = map (λ x. (x, variables frame x)) riders
 
 -- with which message a thread hands control over, and to which other host, where the variables of its host are these
 abbrev pub handed : (FrameId → VarId → ℤ) → HostId → ThreadShape → Token → Op → Option (HostId × Message)
 handed variables me thread token (op.Go entry on) = Some (on, message.Rgoto thread.frame entry token)
 handed variables me thread token (op.Call entry on) =
     if on.0 == me.0 then None else Some (on, message.Rgoto thread.new_frame entry token)
-handed variables me thread token (op.GoWith entry on xs) =
-    Some (on, message.RgotoWith thread.frame entry token (riding variables thread.frame xs))
-handed variables me thread token (op.CallWith entry on xs) =
-    Some (on, message.RgotoWith thread.new_frame entry token (riding variables thread.new_frame xs))
+handed variables me thread token (op.GoWith entry on riders) =
+    Some (on, message.RgotoWith thread.frame entry token (riding variables thread.frame riders))
+handed variables me thread token (op.CallWith entry on riders) =
+    Some (on, message.RgotoWith thread.new_frame entry token (riding variables thread.new_frame riders))
 handed variables me thread token op.Back =
     if token.host.0 == me.0 then None else Some (token.host, message.Lgoto token)
 handed variables me thread token other = None

@@ -88,7 +88,7 @@ ComesToEntry eyes view host None frame token after = ⊥
 ComesToEntry eyes view host (Some there) frame token after =
     Comes eyes view host (thread_at there frame token) token after
 
--- a host has the values that ride to it, in a frame
+-- values ride to a host, for variables of a frame
 abbrev pub view_riding : View → HostId → FrameId → List Rider → View
 view_riding view to frame riders = with_host view to (riders_shown (view.hosts to) frame riders)
 

@@ -96,12 +96,13 @@ host_idle view = record view { running = [] }
 abbrev pub variable_shown : HostView → FrameId → VarId → ℤ → HostView
 variable_shown view frame x value = record view { variables = with_variable view.variables frame x value }
 
--- variables of a frame become these values, in order
+-- variables of a frame become these values, in order; of a variable that comes twice the last one counts
 abbrev pub with_riders : (FrameId → VarId → ℤ) → FrameId → List Rider → FrameId → VarId → ℤ
 with_riders variables frame [] = variables
 with_riders variables frame (rider ∷ riders) =
     with_riders (with_variable variables frame rider.0 rider.1) frame riders
 
+-- a host has the values that ride to it
 abbrev pub riders_shown : HostView → FrameId → List Rider → HostView
 riders_shown view frame riders = record view { variables = with_riders view.variables frame riders }
 

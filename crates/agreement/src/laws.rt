@@ -40,7 +40,7 @@ ghost use Rattle.agreement.specs.Alike.{AreStartsAlike};
 ghost use Rattle.agreement.specs.Asking.{AsksElsewhere, RunsAsking, carried_index, carried_asking, asked, SeenAsking};
 ghost use Rattle.agreement.specs.AskingExamples.{other_frame, other_token, asked_for};
 ghost use Rattle.agreement.specs.Comes.{Comes, HasCome};
-ghost use Rattle.agreement.specs.Handing.{handed, RunsHanding, SeenHanding, sent_view};
+ghost use Rattle.agreement.specs.Handing.{handed, RunsHanding, shown_variables, SeenHanding, sent_view};
 ghost use Rattle.agreement.specs.Leads.{Link, links_on, hidden_waiting, Leads, Agree};
 ghost use Rattle.agreement.specs.Turns.{ChangesAlone, RunsAlone, Carried, carried_value, carried_in};
 ghost use Rattle.agreement.specs.Turns.{SeenOperation, SeenTurn};
@@ -350,6 +350,11 @@ pub fn worked_laws()
         (record (runs_at 3) { new_frame = other_frame }) second_token
         (op.CallWith (entry_id 1) (host_id 1) (a_variable ∷ []))
         ≡ Some (host_id 1, message.RgotoWith other_frame (entry_id 1) second_token ((a_variable, pos 5) ∷ [])) }
+    // Of what rides the value is not seen of a variable that may not be, and that of another is.
+    ensures unseen_rider { (view : HostView) (frame : FrameId) →
+        shown_variables riding_eyes view frame a_variable ≡ pos 0 }
+    ensures seen_rider { (view : HostView) (frame : FrameId) →
+        shown_variables riding_eyes view frame other_variable ≡ view.variables frame other_variable }
     // What is handed over is told to a misbehaving host, and in flight to another.
     ensures told { (flight : Flight) → (sent_view idle (host_id 0) (host_id 1) flight true).sent
         ≡ (host_id 0, host_id 1, flight.message) ∷ [] }

@@ -117,7 +117,8 @@ pub fn taken_examples()
         (message.RgotoWith main_frame (entry_id 2) second_token ((a_variable, pos 7) ∷ [])) (pos 0)
         (set_at 3 (pos 7)) }
     ensures rides_more { ¬ (SeenPassing small_eyes idle (host_id 1) (host_id 0) 0
-        (message.RgotoWith main_frame (entry_id 2) second_token ((a_variable, pos 7) ∷ [])) (pos 0) (set_at 3 (pos 8))) }
+        (message.RgotoWith main_frame (entry_id 2) second_token ((a_variable, pos 7) ∷ [])) (pos 0)
+        (set_at 3 (pos 8))) }
     ensures rides_first { ¬ (SeenPassing small_eyes idle (host_id 1) (host_id 0) 0
         (message.RgotoWith main_frame (entry_id 2) second_token ((a_variable, pos 7) ∷ (a_variable, pos 8) ∷ []))
         (pos 0) (set_at 3 (pos 7))) }

@@ -44,9 +44,11 @@ operation_labelled eyes Q host thread label (op.Go entry on) has is = λ token h
 operation_labelled eyes Q host thread label (op.Call entry on) has is =
     λ apart token holds. (thread.at, has, inr is)
 operation_labelled eyes Q host thread label (op.GoWith entry on riders) has is =
-    λ token holds. (thread.at, has, inl (is ∙ ap (op.GoWith entry on) (sym (names_ride host thread.frame riders))))
+    let names = sym (names_ride host thread.frame riders) in
+    λ token holds. (thread.at, has, inl (is ∙ ap (op.GoWith entry on) names))
 operation_labelled eyes Q host thread label (op.CallWith entry on riders) has is =
-    λ token holds. (thread.at, has, inr (is ∙ ap (op.CallWith entry on) (sym (names_ride host thread.new_frame riders))))
+    let names = sym (names_ride host thread.new_frame riders) in
+    λ token holds. (thread.at, has, inr (is ∙ ap (op.CallWith entry on) names))
 operation_labelled eyes Q host thread label (op.Ret x value) has is = λ token holds. has
 operation_labelled eyes Q host thread label op.Back has is = λ token holds. (thread.at, has, is)
 operation_labelled eyes Q host thread label (op.Branch guard target) has is = tt

@@ -32,7 +32,8 @@ use Rattle.host_core.specs.Host.{after_pop, after_entering, after_asking, next_r
 use Rattle.host_core.specs.Host.{with_variables_set}
 use Rattle.host_core.specs.Taking.{IsTaking, after_taking, after_answer, place_of_awaiting}
 use Rattle.host_core.specs.Turn.{IsTurn, IsTurnOf, IsRunning, after_operation, after_read, after_put, after_own_push}
-use Rattle.host_core.specs.Turn.{after_ask, after_go, after_go_with, after_own_call, after_return, after_back, with_thread}
+use Rattle.host_core.specs.Turn.{after_ask, after_go, after_go_with, after_own_call, after_return, after_back}
+use Rattle.host_core.specs.Turn.{with_thread}
 use Rattle.token_laws.proofs.Counting.{one_if}
 use Rattle.token_laws.proofs.Counting.{is_request, asks, answers, waiting_for_from}
 use Rattle.token_laws.proofs.Riding.{riding_is}

@@ -30,7 +30,8 @@ use Rattle.host_core.specs.Host.{new_token, stack_of, after_pop, after_entering,
 use Rattle.host_core.specs.Host.{without_message, with_variables_set}
 use Rattle.host_core.specs.Taking.{IsTaking, Passes, after_taking, after_answer}
 use Rattle.host_core.specs.Turn.{IsTurn, IsTurnOf, IsRunning, after_operation, after_read, after_put, after_own_push}
-use Rattle.host_core.specs.Turn.{after_ask, after_go, after_go_with, after_own_call, after_return, after_back, with_thread}
+use Rattle.host_core.specs.Turn.{after_ask, after_go, after_go_with, after_own_call, after_return, after_back}
+use Rattle.host_core.specs.Turn.{with_thread}
 use Rattle.host_core.proofs.CodeFacts.{some_within}
 use Rattle.host_core.proofs.Kept.{kept_at_rest}
 use Rattle.net_world.specs.Told.{token_in}

@@ -2,7 +2,6 @@
 use Rattle.std.specs.Prelude.{ℕ, ℤ, pos, List, [], ◌∷◌, Some, None, codes, false, true}
 use Rattle.js_base.specs.declared.ids.HostId.{HostId}
 use Rattle.js_base.specs.declared.ids.FieldId.{FieldId}
-use Rattle.js_base.specs.declared.ids.VarId.{VarId}
 use Rattle.js_base.specs.declared.ids.EntryId.{EntryId}
 use Rattle.js_base.specs.declared.ids.RequestId.{RequestId}
 use Rattle.capability.specs.declared.token.Token.{Token}
@@ -173,12 +172,9 @@ twice = kept_by once (keeping handed.state).state
 
 -- ---- values that ride
 
-abbrev a_variable : VarId
-a_variable = record { 0 = 0 }
-
 -- two values for one variable, of which the second is this one
 abbrev two_riders : ℤ → List Rider
-two_riders value = (a_variable, pos 5) ∷ (a_variable, value) ∷ []
+two_riders value = (record { 0 = 0 }, pos 5) ∷ (record { 0 = 0 }, value) ∷ []
 
 abbrev pub riding : ℤ → Message
 riding value = message.RgotoWith main_frame (entry_id 3) first_token (two_riders value)

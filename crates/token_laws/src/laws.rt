@@ -179,7 +179,7 @@ pub fn token_examples()
     // The greatest number of 64 bits, and the next one.
     ensures narrow { MessageHasNumbers (message.Value first_request (pos (2 ^ 63 - 1))) }
     ensures wide { ¬ MessageHasNumbers (message.Value first_request (pos (2 ^ 63))) }
-    // Each value that rides has to be one, the last as well as the first, and so has each that a misbehaving host sends.
+    // Each value that rides has to be one, the last as well as the first, also where a misbehaving host sends it.
     ensures rides_narrow { MessageHasNumbers (riding (pos (2 ^ 63 - 1))) }
     ensures rides_wide { ¬ MessageHasNumbers (riding (pos (2 ^ 63))) }
     ensures made_narrow { MadeHasNumbers (made_riding (pos (2 ^ 63 - 1))) }
