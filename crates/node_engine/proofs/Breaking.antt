@@ -1,5 +1,5 @@
 -- What is left of a node's world where parts are done and where one breaks.
-use Rattle.std.proofs.Common.{◌≡◌, ◌⊎◌, inl, inr, ℕ, List, [], ◌∷◌, Option, Some, None, take, drop, refl, ◌∙◌, Result}
+use Rattle.std.proofs.Common.{◌≡◌, ◌⊎◌, inl, inr, ℕ, List, [], ◌∷◌, ◌++◌, Option, Some, None, take, drop, refl, ◌∙◌, Result}
 use Rattle.std.proofs.Common.{Ok, Err, sym, subst}
 use Rattle.std.specs.Prelude.{IfErr, IsErr}
 use Rattle.std.specs.Result.{IsErrAnd}
@@ -14,7 +14,8 @@ use Rattle.host_core.specs.Host.{HostShape}
 use Rattle.node_links.specs.Links.{Gave, Took}
 use Rattle.node_engine.specs.declared.node_error.NodeError.{NodeError}
 use Rattle.node_engine.specs.declared.node_error.NodeError.TheVariants as node_error
-use Rattle.node_engine.specs.NodeWorlds.{NodeWorld, Part, Taking, Step, Line, Sending, do_part, Breaks}
+use Rattle.node_engine.specs.NodeWorlds.{Inside, NodeWorld, Part, Taking, Step, Line, Sending, do_part, do_all}
+use Rattle.node_engine.specs.NodeWorlds.{Breaks, BreaksIn}
 use Rattle.node_engine.specs.Statuses.{status_of}
 use Rattle.node_engine.specs.Told.{LinksTold, JournalTold, Outside, Seen, Told, TellsOf, Takes, Does, Stops}
 use Rattle.node_engine.specs.Told.{Faults, Leaves, Rises}
@@ -63,49 +64,49 @@ line_leaves : (answer : Status) (links : LinksTold) (old new : JournalTold) →
     Leaves answer (record { links = links; journal = old }) (record { links = links; journal = new })
 line_leaves answer links old new faults = record { faults = faults; begun = refl }
 
-pub line_done : (bytes : List ℕ) (host : HostShape) (there : LinksTold) (old new : JournalTold) →
+pub line_done : (bytes : List ℕ) (inside : Inside) (there : LinksTold) (old new : JournalTold) →
     sink.Takes bytes old.taken new.taken → new.faults ≡ old.faults →
-    Does (Line bytes ∷ []) (record { host = host; outside = record { links = there; journal = old } })
-    (record { host = host; outside = record { links = there; journal = new } })
-line_done bytes host there old new takes still = record {
+    Does (Line bytes ∷ []) (record { inside = inside; outside = record { links = there; journal = old } })
+    (record { inside = inside; outside = record { links = there; journal = new } })
+line_done bytes inside there old new takes still = record {
   after = λ world told.
       let put = rw told.journal_is at takes in
-      record { host_is = told.host_is; left_is = told.left_is; sent_is = told.sent_is; journal_is = put };
+      record { host_is = told.host_is; seals_is = told.seals_is; left_is = told.left_is; sent_is = told.sent_is; journal_is = put };
   leaves = line_leaves status.Done there old new (refl, still);
 }
 
 -- a front of a line was put
-line_front : (bytes : List ℕ) (host : HostShape) (there : LinksTold) (old new : JournalTold) →
+line_front : (bytes : List ℕ) (inside : Inside) (there : LinksTold) (old new : JournalTold) →
     TakesFront bytes old.taken new.taken → (world : NodeWorld) →
-    Told world (record { host = host; outside = record { links = there; journal = old } }) →
+    Told world (record { inside = inside; outside = record { links = there; journal = old } }) →
     TellsOf (λ after. (n : ℕ) × (after ≡ do_part (Line (take n bytes)) world))
-    (record { host = host; outside = record { links = there; journal = new } })
-line_front bytes host there old new front world told =
+    (record { inside = inside; outside = record { links = there; journal = new } })
+line_front bytes inside there old new front world told =
     let put = rw told.journal_is at front.1 in (
       do_part (Line (take front.0 bytes)) world,
-      record { host_is = told.host_is; left_is = told.left_is; sent_is = told.sent_is; journal_is = put },
+      record { host_is = told.host_is; seals_is = told.seals_is; left_is = told.left_is; sent_is = told.sent_is; journal_is = put },
       (front.0, refl),
     )
 
-pub line_breaks : (bytes : List ℕ) (host : HostShape) (there : LinksTold) (old new : JournalTold) →
+pub line_breaks : (bytes : List ℕ) (inside : Inside) (there : LinksTold) (old new : JournalTold) →
     TakesFront bytes old.taken new.taken → Rises old.faults new.faults →
     Stops node_error.OutFault (Line bytes ∷ [])
-    (record { host = host; outside = record { links = there; journal = old } })
-    (record { host = host; outside = record { links = there; journal = new } })
-line_breaks bytes host there old new front rises = record {
+    (record { inside = inside; outside = record { links = there; journal = old } })
+    (record { inside = inside; outside = record { links = there; journal = new } })
+line_breaks bytes inside there old new front rises = record {
   after = λ world told.
-      let end = line_front bytes host there old new front world told in (end.0, end.1, inl end.2);
+      let end = line_front bytes inside there old new front world told in (end.0, end.1, inl end.2);
   leaves = line_leaves status.OutFault there old new (refl, rises);
 }
 
-pub line_without_memory : (bytes : List ℕ) (host : HostShape) (there : LinksTold) (old new : JournalTold) →
+pub line_without_memory : (bytes : List ℕ) (inside : Inside) (there : LinksTold) (old new : JournalTold) →
     TakesFront bytes old.taken new.taken → new.faults ≡ old.faults →
     Stops node_error.OutOfMemory (Line bytes ∷ [])
-    (record { host = host; outside = record { links = there; journal = old } })
-    (record { host = host; outside = record { links = there; journal = new } })
-line_without_memory bytes host there old new front still = record {
+    (record { inside = inside; outside = record { links = there; journal = old } })
+    (record { inside = inside; outside = record { links = there; journal = new } })
+line_without_memory bytes inside there old new front still = record {
   after = λ world told.
-      let end = line_front bytes host there old new front world told in (end.0, end.1, inl end.2);
+      let end = line_front bytes inside there old new front world told in (end.0, end.1, inl end.2);
   leaves = line_leaves status.NoMemory there old new (refl, still);
 }
 
@@ -116,6 +117,7 @@ line_unput bytes there = record {
     do_part (Line (take 0 bytes)) world,
     record {
       host_is = told.host_is;
+      seals_is = told.seals_is;
       left_is = told.left_is;
       sent_is = told.sent_is;
       journal_is = rw (append-nil world.journal) told.journal_is;
@@ -132,69 +134,71 @@ pub record Sends (answer : Status) (old new : LinksTold) : Type 0 where
   pub begun : new.begun ≡ old.begun
   pub left : new.left ≡ old.left
 
-frame_sent : (to : HostId) (bytes : List ℕ) (old new : LinksTold) (host : HostShape) (journal : JournalTold) →
+frame_sent : (to : HostId) (bytes : List ℕ) (old new : LinksTold) (inside : Inside) (journal : JournalTold) →
     Took to bytes old.sent new.sent → new.left ≡ old.left → (world : NodeWorld) →
-    Told world (record { host = host; outside = record { links = old; journal = journal } }) →
+    Told world (record { inside = inside; outside = record { links = old; journal = journal } }) →
     Told (do_part (Sending to bytes) world)
-    (record { host = host; outside = record { links = new; journal = journal } })
-frame_sent to bytes old new host journal took stays world told =
+    (record { inside = inside; outside = record { links = new; journal = journal } })
+frame_sent to bytes old new inside journal took stays world told =
     let sent = rw told.sent_is at took in
     record {
       host_is = told.host_is;
+      seals_is = told.seals_is;
       left_is = stays ∙ told.left_is;
       sent_is = sent;
       journal_is = told.journal_is;
     }
 
-pub send_done : (to : HostId) (bytes : List ℕ) (old new : LinksTold) (host : HostShape) (journal : JournalTold) →
+pub send_done : (to : HostId) (bytes : List ℕ) (old new : LinksTold) (inside : Inside) (journal : JournalTold) →
     Took to bytes old.sent new.sent → Sends status.Done old new →
-    Does (Sending to bytes ∷ []) (record { host = host; outside = record { links = old; journal = journal } })
-    (record { host = host; outside = record { links = new; journal = journal } })
-send_done to bytes old new host journal took sends = record {
-  after = λ world told. frame_sent to bytes old new host journal took sends.left world told;
+    Does (Sending to bytes ∷ []) (record { inside = inside; outside = record { links = old; journal = journal } })
+    (record { inside = inside; outside = record { links = new; journal = journal } })
+send_done to bytes old new inside journal took sends = record {
+  after = λ world told. frame_sent to bytes old new inside journal took sends.left world told;
   leaves = record { faults = sends.faults journal; begun = sends.begun };
 }
 
 -- a frame was sent or not
-sent_or_not : (to : HostId) (bytes : List ℕ) (old new : LinksTold) (host : HostShape) (journal : JournalTold) →
+sent_or_not : (to : HostId) (bytes : List ℕ) (old new : LinksTold) (inside : Inside) (journal : JournalTold) →
     ((new.sent ≡ old.sent) ⊎ Took to bytes old.sent new.sent) → new.left ≡ old.left → (world : NodeWorld) →
-    Told world (record { host = host; outside = record { links = old; journal = journal } }) →
+    Told world (record { inside = inside; outside = record { links = old; journal = journal } }) →
     TellsOf (λ after. (after ≡ world) ⊎ (after ≡ do_part (Sending to bytes) world))
-    (record { host = host; outside = record { links = new; journal = journal } })
-sent_or_not to bytes old new host journal (inl same) stays world told = (
+    (record { inside = inside; outside = record { links = new; journal = journal } })
+sent_or_not to bytes old new inside journal (inl same) stays world told = (
   world,
   record {
     host_is = told.host_is;
+    seals_is = told.seals_is;
     left_is = stays ∙ told.left_is;
     sent_is = same ∙ told.sent_is;
     journal_is = told.journal_is;
   },
   inl refl,
 )
-sent_or_not to bytes old new host journal (inr took) stays world told =
-    (do_part (Sending to bytes) world, frame_sent to bytes old new host journal took stays world told, inr refl)
+sent_or_not to bytes old new inside journal (inr took) stays world told =
+    (do_part (Sending to bytes) world, frame_sent to bytes old new inside journal took stays world told, inr refl)
 
-pub send_breaks : (to : HostId) (bytes : List ℕ) (old new : LinksTold) (host : HostShape) (journal : JournalTold) →
+pub send_breaks : (to : HostId) (bytes : List ℕ) (old new : LinksTold) (inside : Inside) (journal : JournalTold) →
     ((new.sent ≡ old.sent) ⊎ Took to bytes old.sent new.sent) → Sends status.LinkFault old new →
     Stops node_error.LinkFault (Sending to bytes ∷ [])
-    (record { host = host; outside = record { links = old; journal = journal } })
-    (record { host = host; outside = record { links = new; journal = journal } })
-send_breaks to bytes old new host journal sent sends = record {
+    (record { inside = inside; outside = record { links = old; journal = journal } })
+    (record { inside = inside; outside = record { links = new; journal = journal } })
+send_breaks to bytes old new inside journal sent sends = record {
   after = λ world told.
-      let end = sent_or_not to bytes old new host journal sent sends.left world told in
+      let end = sent_or_not to bytes old new inside journal sent sends.left world told in
       (end.0, end.1, inl end.2);
   leaves = record { faults = sends.faults journal; begun = sends.begun };
 }
 
-pub send_without_memory : (to : HostId) (bytes : List ℕ) (old new : LinksTold) (host : HostShape)
+pub send_without_memory : (to : HostId) (bytes : List ℕ) (old new : LinksTold) (inside : Inside)
     (journal : JournalTold) → ((new.sent ≡ old.sent) ⊎ Took to bytes old.sent new.sent) →
     Sends status.NoMemory old new →
     Stops node_error.OutOfMemory (Sending to bytes ∷ [])
-    (record { host = host; outside = record { links = old; journal = journal } })
-    (record { host = host; outside = record { links = new; journal = journal } })
-send_without_memory to bytes old new host journal sent sends = record {
+    (record { inside = inside; outside = record { links = old; journal = journal } })
+    (record { inside = inside; outside = record { links = new; journal = journal } })
+send_without_memory to bytes old new inside journal sent sends = record {
   after = λ world told.
-      let end = sent_or_not to bytes old new host journal sent sends.left world told in
+      let end = sent_or_not to bytes old new inside journal sent sends.left world told in
       (end.0, end.1, inl end.2);
   leaves = record { faults = sends.faults journal; begun = sends.begun };
 }
@@ -214,15 +218,16 @@ next_frame bytes left None gave = absurd (none-some left (sym gave))
 next_frame bytes left (Some rest) gave =
     let same : left ≡ bytes ∷ rest = cc in (rw same refl, (rest, same))
 
-pub frame_taken : (bytes : List ℕ) (old new : LinksTold) (host : HostShape) (journal : JournalTold) →
+pub frame_taken : (bytes : List ℕ) (old new : LinksTold) (inside : Inside) (journal : JournalTold) →
     Gave bytes old.left new.left → new.sent ≡ old.sent → new.begun ≡ old.begun → new.faults ≡ old.faults →
-    Takes bytes (record { host = host; outside = record { links = old; journal = journal } })
-    (record { host = host; outside = record { links = new; journal = journal } })
-frame_taken bytes old new host journal gave same stays still = record {
+    Takes bytes (record { inside = inside; outside = record { links = old; journal = journal } })
+    (record { inside = inside; outside = record { links = new; journal = journal } })
+frame_taken bytes old new inside journal gave same stays still = record {
   after = λ world told.
       let next = next_frame bytes world.left new.left (rw told.left_is at gave) in (
         record {
           host_is = told.host_is;
+          seals_is = told.seals_is;
           left_is = next.0;
           sent_is = same ∙ told.sent_is;
           journal_is = told.journal_is;
@@ -234,15 +239,16 @@ frame_taken bytes old new host journal gave same stays still = record {
 
 -- nothing was taken
 taking_stops : (error : NodeError) → ((world : NodeWorld) → Breaks error Taking world world) →
-    (old new : LinksTold) (host : HostShape) (journal : JournalTold) → new.sent ≡ old.sent →
+    (old new : LinksTold) (inside : Inside) (journal : JournalTold) → new.sent ≡ old.sent →
     Sends (status_of error) old new →
-    Stops error (Taking ∷ []) (record { host = host; outside = record { links = old; journal = journal } })
-    (record { host = host; outside = record { links = new; journal = journal } })
-taking_stops error breaks old new host journal same sends = record {
+    Stops error (Taking ∷ []) (record { inside = inside; outside = record { links = old; journal = journal } })
+    (record { inside = inside; outside = record { links = new; journal = journal } })
+taking_stops error breaks old new inside journal same sends = record {
   after = λ world told. (
     world,
     record {
       host_is = told.host_is;
+      seals_is = told.seals_is;
       left_is = sends.left ∙ told.left_is;
       sent_is = same ∙ told.sent_is;
       journal_is = told.journal_is;
@@ -252,18 +258,18 @@ taking_stops error breaks old new host journal same sends = record {
   leaves = record { faults = sends.faults journal; begun = sends.begun };
 }
 
-pub taking_breaks : (old new : LinksTold) (host : HostShape) (journal : JournalTold) → new.sent ≡ old.sent →
+pub taking_breaks : (old new : LinksTold) (inside : Inside) (journal : JournalTold) → new.sent ≡ old.sent →
     Sends status.LinkFault old new →
     Stops node_error.LinkFault (Taking ∷ [])
-    (record { host = host; outside = record { links = old; journal = journal } })
-    (record { host = host; outside = record { links = new; journal = journal } })
+    (record { inside = inside; outside = record { links = old; journal = journal } })
+    (record { inside = inside; outside = record { links = new; journal = journal } })
 taking_breaks = taking_stops node_error.LinkFault (λ world. refl)
 
-pub taking_without_memory : (old new : LinksTold) (host : HostShape) (journal : JournalTold) → new.sent ≡ old.sent →
+pub taking_without_memory : (old new : LinksTold) (inside : Inside) (journal : JournalTold) → new.sent ≡ old.sent →
     Sends status.NoMemory old new →
     Stops node_error.OutOfMemory (Taking ∷ [])
-    (record { host = host; outside = record { links = old; journal = journal } })
-    (record { host = host; outside = record { links = new; journal = journal } })
+    (record { inside = inside; outside = record { links = old; journal = journal } })
+    (record { inside = inside; outside = record { links = new; journal = journal } })
 taking_without_memory = taking_stops node_error.OutOfMemory (λ world. refl)
 
 -- ---- parts in a row
@@ -297,39 +303,93 @@ done_later part parts old mid new first others = record {
   leaves = leaves_later status.Done old.outside mid.outside new.outside first.leaves others.leaves;
 }
 
+-- ---- parts behind others
+
+pub do_all_behind : (first others : List Part) (world : NodeWorld) →
+    do_all (first ++ others) world ≡ do_all others (do_all first world)
+do_all_behind [] others world = refl
+do_all_behind (part ∷ first) others world = do_all_behind first others (do_part part world)
+
+breaks_behind : (error : NodeError) (first others : List Part) (world new : NodeWorld) →
+    BreaksIn error others (do_all first world) new → BreaksIn error (first ++ others) world new
+breaks_behind error [] others world new breaks = breaks
+breaks_behind error (part ∷ first) others world new breaks =
+    inr (breaks_behind error first others (do_part part world) new breaks)
+
+breaks_before : (error : NodeError) (first others : List Part) (world new : NodeWorld) →
+    BreaksIn error first world new → BreaksIn error (first ++ others) world new
+breaks_before error [] others world new breaks = absurd breaks
+breaks_before error (part ∷ first) others world new (inl breaks) = inl breaks
+breaks_before error (part ∷ first) others world new (inr breaks) =
+    inr (breaks_before error first others (do_part part world) new breaks)
+
+pub all_done : (first others : List Part) (old mid new : Seen) → Does first old mid → Does others mid new →
+    Does (first ++ others) old new
+all_done first others old mid new does did = record {
+  after = λ world told.
+      subst (λ (there : NodeWorld). Told there new) (sym (do_all_behind first others world))
+      (did.after (do_all first world) (does.after world told));
+  leaves = leaves_later status.Done old.outside mid.outside new.outside does.leaves did.leaves;
+}
+
+pub stops_behind : (error : NodeError) (first others : List Part) (old mid new : Seen) → Does first old mid →
+    Stops error others mid new → Stops error (first ++ others) old new
+stops_behind error first others old mid new does stops = record {
+  after = λ world told.
+      let end = stops.after (do_all first world) (does.after world told) in
+      (end.0, end.1, breaks_behind error first others world end.0 end.2);
+  leaves = leaves_later (status_of error) old.outside mid.outside new.outside does.leaves stops.leaves;
+}
+
+pub stops_before : (error : NodeError) (first others : List Part) (old new : Seen) → Stops error first old new →
+    Stops error (first ++ others) old new
+stops_before error first others old new stops = record {
+  after = λ world told.
+      let end = stops.after world told in (end.0, end.1, breaks_before error first others world end.0 end.2);
+  leaves = stops.leaves;
+}
+
 -- ---- a step of the host
 
--- it is made, and leaves what is outside
-step_made : (before later : HostShape) (there : Outside) →
-    Does (Step later ∷ []) (record { host = before; outside = there }) (record { host = later; outside = there })
+-- it is made, and leaves the seals and what is outside
+step_made : (before : Inside) (later : HostShape) (there : Outside) →
+    Does (Step later ∷ []) (record { inside = before; outside = there })
+    (record { inside = record before { host = later }; outside = there })
 step_made before later there = record {
-  after = λ world told.
-      record { host_is = refl; left_is = told.left_is; sent_is = told.sent_is; journal_is = told.journal_is };
+  after = λ world told. record {
+    host_is = refl;
+    seals_is = told.seals_is;
+    left_is = told.left_is;
+    sent_is = told.sent_is;
+    journal_is = told.journal_is;
+  };
   leaves = leaves_all there;
 }
 
-pub step_does : (parts : List Part) (before later : HostShape) (there : Outside) (new : Seen) →
-    Does parts (record { host = later; outside = there }) new →
-    Does (Step later ∷ parts) (record { host = before; outside = there }) new
+pub step_does : (parts : List Part) (before : Inside) (later : HostShape) (there : Outside) (new : Seen) →
+    Does parts (record { inside = record before { host = later }; outside = there }) new →
+    Does (Step later ∷ parts) (record { inside = before; outside = there }) new
 step_does parts before later there new does =
     done_later (Step later) parts _ _ new (step_made before later there) does
 
 -- a part behind it breaks
-pub step_then_stops : (error : NodeError) (parts : List Part) (before later : HostShape) (there : Outside)
-    (new : Seen) → Stops error parts (record { host = later; outside = there }) new →
-    Stops error (Step later ∷ parts) (record { host = before; outside = there }) new
+pub step_then_stops : (error : NodeError) (parts : List Part) (before : Inside) (later : HostShape) (there : Outside)
+    (new : Seen) → Stops error parts (record { inside = record before { host = later }; outside = there }) new →
+    Stops error (Step later ∷ parts) (record { inside = before; outside = there }) new
 step_then_stops error parts before later there new stops =
     breaks_later error (Step later) parts _ _ new (step_made before later there) stops
 
 -- it is not made
-pub step_stops : (parts : List Part) (before later outcome : HostShape) (there : Outside) → later ≡ before →
-    Stops node_error.OutOfMemory (Step outcome ∷ parts) (record { host = before; outside = there })
-    (record { host = later; outside = there })
+pub step_stops : (parts : List Part) (before : Inside) (later outcome : HostShape) (there : Outside) →
+    later ≡ before.host →
+    Stops node_error.OutOfMemory (Step outcome ∷ parts) (record { inside = before; outside = there })
+    (record { inside = record before { host = later }; outside = there })
 step_stops parts before later outcome there same = record {
   after = λ world told. (
     world,
     record {
       host_is = same ∙ told.host_is;
+      seals_is = told.seals_is;
       left_is = told.left_is;
       sent_is = told.sent_is;
       journal_is = told.journal_is;

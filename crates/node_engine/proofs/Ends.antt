@@ -1,5 +1,5 @@
 -- How a node ends that goes no further than its files, or that was to begin.
-use Rattle.std.proofs.Common.{◌≡◌, ◌∙◌, inl, inr, ℕ, Some, refl, sym, subst}
+use Rattle.std.proofs.Common.{◌≡◌, ◌∙◌, inl, inr, ℕ, Some, refl, sym, ap, subst}
 use Rattle.std.specs.Prelude.{slice_get}
 use Rattle.js_base.specs.declared.status.Status.{Status}
 use Rattle.js_base.specs.declared.status.Status.TheVariants as status
@@ -11,11 +11,11 @@ use Rattle.front_end.specs.Refusals.{RefusalShape, refusal_status}
 use Rattle.front_end.specs.Refusals as refusal
 use Rattle.front_end.specs.Stages.{stopped}
 use Rattle.front_end.specs.Verdicts.{VerdictShape, Refuse, Print, verdict_shape}
-use Rattle.host_core.specs.Host.{HostShape}
-use Rattle.host_core.specs.Start.{host_at_start}
 use Rattle.host_decl.specs.Hosts.{HostShape as HostRow}
 use Rattle.node_engine.specs.Beginnings.{Beginning, BeginsNothing, EndsUnbegun, HasBegun}
 use Rattle.node_engine.specs.Nodes.{End, IsEndOf, IsNodeDue, OptionsAnswer, RunsNode, beginning_of, end_of}
+use Rattle.node_engine.specs.Nodes.{inside_at_start}
+use Rattle.node_engine.specs.NodeWorlds.{Inside}
 use Rattle.node_engine.specs.Options.{Asked}
 use Rattle.node_engine.specs.NodeSources.{NodeStart}
 use Rattle.node_engine.specs.Statuses.{IsServed}
@@ -93,19 +93,19 @@ broke_early turns node row answer change reaches is early = (row, is, inl early)
 
 -- it began, and served
 pub served_begun : (turns : ℕ) (node : NodeStart) (row : HostRow) (answer : Status) (begun : NodeChange)
-    (new : Outside) (after : Names) (reaches : Names → Type 0) (host later : HostShape) →
+    (new : Outside) (after : Names) (reaches : Names → Type 0) (inside later : Inside) →
     slice_get node.source.hosts.hosts node.me.0 ≡ Some row → HasBegun (beginning_of node row) begun →
-    reaches begun.names_after → host ≡ host_at_start node.source.code node.source.values row.key node.me →
+    reaches begun.names_after → inside ≡ inside_at_start node row →
     IsServed answer →
-    ServesFrom node.source.code node.me turns answer (record { host = host; outside = begun.new })
-    (record { host = later; outside = new }) → Leaves answer begun.new new →
+    ServesFrom node.source.code node.me turns answer (record { inside = inside; outside = begun.new })
+    (record { inside = later; outside = new }) → Leaves answer begun.new new →
     RunsNode turns node answer (record {
       old = begun.old;
       new = new;
       names_before = begun.names_before;
       names_after = after;
     }) reaches
-served_begun turns node row answer begun new after reaches host later is has reached starts served serves leaves = (
+served_begun turns node row answer begun new after reaches inside later is has reached starts served serves leaves = (
   row,
   is,
   inr (record {
@@ -118,7 +118,8 @@ served_begun turns node row answer begun new after reaches host later is has rea
       later,
       serves.after world
           (record {
-            host_is = starts ∙ told.host_is;
+            host_is = ap (λ (i : Inside). i.host) starts ∙ told.host_is;
+            seals_is = ap (λ (i : Inside). i.seals) starts ∙ told.seals_is;
             left_is = has.idle.left ∙ told.left_is;
             sent_is = has.idle.sent ∙ told.sent_is;
             journal_is = has.idle.journal ∙ told.journal_is;

@@ -12,6 +12,7 @@ pub mod OneUnit
 pub mod OnlyRefusals
 pub mod Ready
 pub mod Rows
+pub mod Sealing
 pub mod Served
 pub mod SomeNode
 pub mod UnitParts

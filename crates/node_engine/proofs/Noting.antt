@@ -15,14 +15,15 @@ use Rattle.node_engine.specs.declared.arrivals.Arrival.TheVariants as arrival
 use Rattle.node_engine.specs.declared.node_error.NodeError.{NodeError}
 use Rattle.node_engine.specs.declared.node_error.NodeError.TheVariants as node_error
 use Rattle.node_engine.specs.JournalLines.{turn_line}
-use Rattle.node_engine.specs.NodeWorlds.{NodeWorld, Part, Taking, Step, Hearing, Line, Sending, do_part, do_all}
-use Rattle.node_engine.specs.NodeWorlds.{Breaks, BreaksIn}
+use Rattle.node_engine.specs.NodeWorlds.{Inside, NodeWorld, Part, Taking, Opening, Step, Hearing, Line, Sealing}
+use Rattle.node_engine.specs.NodeWorlds.{Sending, do_part, do_all, Breaks, BreaksIn, inside_of}
 use Rattle.node_engine.specs.Notes.{HostStep, IsHostStep, IsNoted, IsPartOfLine, Makes, Note, note_line, note_lines}
 use Rattle.node_engine.specs.Notes.{done, dropped, sent, steps_told, step_told, take_from, took, turn, turned}
-use Rattle.node_engine.specs.Serving.{Closes, EndsAt, Serves, Stage, closing_from, closing_parts, stage_of}
+use Rattle.node_engine.specs.Seals.{Opened, SealsShape, as_they_are, refused, unsealed, string_for}
+use Rattle.node_engine.specs.Serving.{Closes, EndsAt, Serves, Stage, after_telling, closing_from, closing_parts, stage_of}
 use Rattle.node_engine.specs.Serving.{is_told, halts, goes_on, telling}
 use Rattle.node_engine.specs.Units.{AreArrivalParts, AreTakingParts, AreUnitPartsOf}
-use Rattle.node_engine.specs.Units.{sending_parts, step_parts}
+use Rattle.node_engine.specs.Units.{frame_parts, opening_parts, out_parts, sending_parts, step_parts}
 
 -- ---- lists of notes and of steps
 
@@ -103,11 +104,13 @@ noted_nothing code host later before after same still = record {
 abbrev IsPlain : CodeShape → List Part → List Note → Type 0
 IsPlain code [] notes = notes ≡ []
 IsPlain code (Taking ∷ parts) notes = IsPlain code parts notes
+IsPlain code (Opening from ∷ parts) notes = IsPlain code parts notes
 IsPlain code (Step host ∷ parts) notes = ⊥
 IsPlain code (Hearing ∷ parts) notes = IsPlain code parts notes
 IsPlain code (Line bytes ∷ parts) notes =
     (note : Note) × (rest : List Note) × (bytes ≡ note_line code note) × (step_told note ≡ [])
     × (notes ≡ note ∷ rest) × IsPlain code parts rest
+IsPlain code (Sealing to ∷ parts) notes = IsPlain code parts notes
 IsPlain code (Sending to bytes ∷ parts) notes = IsPlain code parts notes
 
 -- lines that tell no step, and a part of another
@@ -188,6 +191,18 @@ taking_at node_error.OutOfMemory world new at = at
 taking_at node_error.LinkFault world new at = at
 taking_at node_error.OutFault world new at = absurd at
 
+opening_at : (error : NodeError) (from : HostId) (world new : NodeWorld) → Breaks error (Opening from) world new →
+    new ≡ world
+opening_at node_error.OutOfMemory from world new at = at
+opening_at node_error.LinkFault from world new at = absurd at
+opening_at node_error.OutFault from world new at = absurd at
+
+sealing_at : (error : NodeError) (to : HostId) (world new : NodeWorld) → Breaks error (Sealing to) world new →
+    new ≡ world
+sealing_at node_error.OutOfMemory to world new at = at
+sealing_at node_error.LinkFault to world new at = absurd at
+sealing_at node_error.OutFault to world new at = absurd at
+
 hearing_at : (error : NodeError) (world new : NodeWorld) → Breaks error Hearing world new → ⊥
 hearing_at node_error.OutOfMemory world new at = at
 hearing_at node_error.LinkFault world new at = at
@@ -223,6 +238,10 @@ plain_breaks code error (Taking ∷ parts) notes plain world new (inl at) =
     same_still code world new (taking_at error world new at)
 plain_breaks code error (Taking ∷ parts) notes plain world new (inr later) =
     plain_breaks code error parts notes plain (do_part Taking world) new later
+plain_breaks code error (Opening from ∷ parts) notes plain world new (inl at) =
+    same_still code world new (opening_at error from world new at)
+plain_breaks code error (Opening from ∷ parts) notes plain world new (inr later) =
+    plain_breaks code error parts notes plain (do_part (Opening from) world) new later
 plain_breaks code error (Step host ∷ parts) notes plain world new breaks = absurd plain
 plain_breaks code error (Hearing ∷ parts) notes plain world new (inl at) = absurd (hearing_at error world new at)
 plain_breaks code error (Hearing ∷ parts) notes plain world new (inr later) =
@@ -237,6 +256,10 @@ plain_breaks code error (Line bytes ∷ parts) notes plain world new (inl at) =
 plain_breaks code error (Line bytes ∷ parts) notes plain world new (inr later) =
     let still = plain_breaks code error parts plain.1 plain.5 (do_part (Line bytes) world) new later in
     (still.0, adds_line code plain.0 world.journal bytes new.journal plain.2 plain.3 still.1)
+plain_breaks code error (Sealing to ∷ parts) notes plain world new (inl at) =
+    same_still code world new (sealing_at error to world new at)
+plain_breaks code error (Sealing to ∷ parts) notes plain world new (inr later) =
+    plain_breaks code error parts notes plain (do_part (Sealing to) world) new later
 plain_breaks code error (Sending to bytes ∷ parts) notes plain world new (inl at) =
     sent_still code to bytes world new (sending_at error to bytes world new at)
 plain_breaks code error (Sending to bytes ∷ parts) notes plain world new (inr later) =
@@ -254,6 +277,8 @@ plain_done code [] notes plain world =
       ap steps_told plain,
     )
 plain_done code (Taking ∷ parts) notes plain world = plain_done code parts notes plain (do_part Taking world)
+plain_done code (Opening from ∷ parts) notes plain world =
+    plain_done code parts notes plain (do_part (Opening from) world)
 plain_done code (Step host ∷ parts) notes plain world = absurd plain
 plain_done code (Hearing ∷ parts) notes plain world = plain_done code parts notes plain (do_part Hearing world)
 plain_done code (Line bytes ∷ parts) notes plain world =
@@ -267,6 +292,8 @@ plain_done code (Line bytes ∷ parts) notes plain world =
           ∙ ap (λ (steps : List HostStep). steps ++ steps_told plain.1) plain.3
           ∙ rest.2,
     )
+plain_done code (Sealing to ∷ parts) notes plain world =
+    plain_done code parts notes plain (do_part (Sealing to) world)
 plain_done code (Sending to bytes ∷ parts) notes plain world =
     plain_done code parts notes plain (do_part (Sending to bytes) world)
 
@@ -413,21 +440,33 @@ known_breaks code error parts world new (inr known) breaks =
 
 -- ---- the parts of a unit
 
-sending_plain : (code : CodeShape) (me : HostId) (message : Option (HostId × Message)) →
-    (notes : List Note) × IsPlain code (sending_parts code me message) notes
-sending_plain code me None = ([], refl)
-sending_plain code me (Some it) = (sent it.0 it.1 ∷ [], (sent it.0 it.1, [], refl, refl, refl, refl))
+-- a frame that goes out, with a line behind it
+out_plain : (code : CodeShape) (to : HostId) (out : Option (List ℕ)) (note : Note) → step_told note ≡ [] →
+    IsPlain code (out_parts to out ++ Line (note_line code note) ∷ []) (note ∷ [])
+out_plain code to None note silent = (note, [], refl, silent, refl, refl)
+out_plain code to (Some bytes) note silent = (note, [], refl, silent, refl, refl)
 
-step_known : (code : CodeShape) (me : HostId) (host : HostShape) (note : Note) (step : HostStep) (outcome : Outcome)
-    (parts : List Part) → step_told note ≡ step ∷ [] → IsHostStep code host step outcome →
-    parts ≡ step_parts code me (note_line code note) outcome → IsStepped code host parts
-step_known code me host note step outcome parts tells made is =
-    let plain = sending_plain code me outcome.sent in
+frame_plain : (code : CodeShape) (seals : SealsShape) (to : HostId) (frame : List ℕ) (note : Note) →
+    step_told note ≡ [] → IsPlain code (frame_parts seals to frame ++ Line (note_line code note) ∷ []) (note ∷ [])
+frame_plain code None to frame note silent = (note, [], refl, silent, refl, refl)
+frame_plain code (Some links) to frame note silent = out_plain code to (string_for (Some links) to frame) note silent
+
+sending_plain : (code : CodeShape) (me : HostId) (seals : SealsShape) (message : Option (HostId × Message)) →
+    (notes : List Note) × IsPlain code (sending_parts code me seals message) notes
+sending_plain code me seals None = ([], refl)
+sending_plain code me seals (Some it) =
+    (sent it.0 it.1 ∷ [], frame_plain code seals it.0 _ (sent it.0 it.1) refl)
+
+step_known : (code : CodeShape) (me : HostId) (inside : Inside) (note : Note) (step : HostStep) (outcome : Outcome)
+    (parts : List Part) → step_told note ≡ step ∷ [] → IsHostStep code inside.host step outcome →
+    parts ≡ step_parts code me inside.seals (note_line code note) outcome → IsStepped code inside.host parts
+step_known code me inside note step outcome parts tells made is =
+    let plain = sending_plain code me inside.seals outcome.sent in
     record {
       note = note;
       step = step;
       outcome = outcome;
-      others = sending_parts code me outcome.sent;
+      others = sending_parts code me inside.seals outcome.sent;
       notes = plain.0;
       parts_are = is;
       tells = tells;
@@ -440,75 +479,100 @@ hearing_plain : (code : CodeShape) (from : HostId) (is_root : Bool) →
 hearing_plain code from true = (done from, [], refl, refl, refl, refl)
 hearing_plain code from false = (done from, [], refl, refl, refl, refl)
 
-arrival_known : (code : CodeShape) (me : HostId) (host : HostShape) (it : Arrival) (parts : List Part) →
-    AreArrivalParts code me host it parts → IsKnown code host parts
-arrival_known code me host (arrival.Dropped why) parts are =
+arrival_known : (code : CodeShape) (me : HostId) (inside : Inside) (it : Arrival) (parts : List Part) →
+    AreArrivalParts code me inside it parts → IsKnown code inside.host parts
+arrival_known code me inside (arrival.Dropped why) parts are =
     inl (
       dropped why ∷ [],
       subst (λ (them : List Part). IsPlain code them (dropped why ∷ [])) (sym are)
           (dropped why, [], refl, refl, refl, refl),
     )
-arrival_known code me host (arrival.Done from) parts are =
+arrival_known code me inside (arrival.Done from) parts are =
     inl (
       done from ∷ [],
       subst (λ (them : List Part). IsPlain code them (done from ∷ [])) (sym are)
           (hearing_plain code from (from.0 == code.root.0)),
     )
-arrival_known code me host (arrival.Taken from message) parts are =
-    inr (step_known code me host (took from message) (take_from from message) are.0 parts refl are.1 are.2)
+arrival_known code me inside (arrival.Taken from message) parts are =
+    inr (step_known code me inside (took from message) (take_from from message) are.0 parts refl are.1 are.2)
 
--- a frame is taken first
-taking_exact : (code : CodeShape) (parts others : List Part) (world : NodeWorld) → IsKnown code world.host others →
-    parts ≡ Taking ∷ others →
+-- what was taken is opened first
+opened_exact : (code : CodeShape) (opened : Opened) (others : List Part) (world : NodeWorld) →
+    IsKnown code world.host others →
+    let after = do_all (opening_parts opened ++ others) world in
+    IsExact code world.host after.host world.journal after.journal
+opened_exact code as_they_are others world known = known_exact code others world known
+opened_exact code refused others world known = known_exact code others world known
+opened_exact code (unsealed from frame) others world known =
+    known_exact code others (do_part (Opening from) world) known
+
+opened_breaks : (code : CodeShape) (error : NodeError) (opened : Opened) (others : List Part)
+    (world new : NodeWorld) → IsKnown code world.host others →
+    BreaksIn error (opening_parts opened ++ others) world new →
+    IsNoted code world.host new.host world.journal new.journal
+opened_breaks code error as_they_are others world new known breaks = known_breaks code error others world new known breaks
+opened_breaks code error refused others world new known breaks = known_breaks code error others world new known breaks
+opened_breaks code error (unsealed from frame) others world new known (inl at) =
+    still_noted code world new (same_still code world new (opening_at error from world new at))
+opened_breaks code error (unsealed from frame) others world new known (inr later) =
+    known_breaks code error others (do_part (Opening from) world) new known later
+
+-- the parts are a taking, and behind it an opening and parts that are known
+abbrev IsTaken : CodeShape → HostShape → List Part → Type 0
+IsTaken code host parts =
+    (opened : Opened) × (others : List Part) × IsKnown code host others
+    × (parts ≡ Taking ∷ (opening_parts opened ++ others))
+
+taking_exact : (code : CodeShape) (parts : List Part) (world : NodeWorld) → IsTaken code world.host parts →
     IsExact code world.host (do_all parts world).host world.journal (do_all parts world).journal
-taking_exact code parts others world known is =
+taking_exact code parts world (opened, others, known, is) =
     subst (λ (them : List Part).
     IsExact code world.host (do_all them world).host world.journal (do_all them world).journal) (sym is)
-    (known_exact code others (do_part Taking world) known)
+    (opened_exact code opened others (do_part Taking world) known)
 
-after_taking : (code : CodeShape) (error : NodeError) (others : List Part) (world new : NodeWorld) →
-    IsKnown code world.host others → BreaksIn error (Taking ∷ others) world new →
+after_taking : (code : CodeShape) (error : NodeError) (opened : Opened) (others : List Part) (world new : NodeWorld) →
+    IsKnown code world.host others → BreaksIn error (Taking ∷ (opening_parts opened ++ others)) world new →
     IsNoted code world.host new.host world.journal new.journal
-after_taking code error others world new known (inl at) =
+after_taking code error opened others world new known (inl at) =
     still_noted code world new (same_still code world new (taking_at error world new at))
-after_taking code error others world new known (inr later) =
-    known_breaks code error others (do_part Taking world) new known later
+after_taking code error opened others world new known (inr later) =
+    opened_breaks code error opened others (do_part Taking world) new known later
 
-taking_breaks : (code : CodeShape) (error : NodeError) (parts others : List Part) (world new : NodeWorld) →
-    IsKnown code world.host others → parts ≡ Taking ∷ others → BreaksIn error parts world new →
+taking_breaks : (code : CodeShape) (error : NodeError) (parts : List Part) (world new : NodeWorld) →
+    IsTaken code world.host parts → BreaksIn error parts world new →
     IsNoted code world.host new.host world.journal new.journal
-taking_breaks code error parts others world new known is breaks =
-    after_taking code error others world new known
+taking_breaks code error parts world new (opened, others, known, is) breaks =
+    after_taking code error opened others world new known
     (subst (λ (them : List Part). BreaksIn error them world new) is breaks)
 
--- what stands behind the taking, where no thread runs
-behind_taking : (code : CodeShape) (me : HostId) (host : HostShape) (left : List (List ℕ)) (parts : List Part) →
-    AreTakingParts code me host left parts → (others : List Part) × IsKnown code host others × (parts ≡ Taking ∷ others)
-behind_taking code me host [] parts are = ([], inl ([], refl), are)
-behind_taking code me host (bytes ∷ left) parts are =
-    (are.1, arrival_known code me host are.0 are.1 are.3, are.4)
+-- the parts where no thread runs
+are_taken : (code : CodeShape) (me : HostId) (inside : Inside) (left : List (List ℕ)) (parts : List Part) →
+    AreTakingParts code me inside left parts → IsTaken code inside.host parts
+are_taken code me inside [] parts are = (as_they_are, [], inl ([], refl), are)
+are_taken code me inside (bytes ∷ left) parts are =
+    (_, are.1, arrival_known code me _ are.0 are.1 are.3, are.4)
 
-turn_known : (code : CodeShape) (me : HostId) (host : HostShape) (parts : List Part) (outcome : Outcome) →
-    IsHostStep code host turn outcome → parts ≡ step_parts code me turn_line outcome → IsKnown code host parts
-turn_known code me host parts outcome made is = inr (step_known code me host turned turn outcome parts refl made is)
+turn_known : (code : CodeShape) (me : HostId) (inside : Inside) (parts : List Part) (outcome : Outcome) →
+    IsHostStep code inside.host turn outcome → parts ≡ step_parts code me inside.seals turn_line outcome →
+    IsKnown code inside.host parts
+turn_known code me inside parts outcome made is =
+    inr (step_known code me inside turned turn outcome parts refl made is)
 
 unit_exact : (code : CodeShape) (me : HostId) (world : NodeWorld) (running : Option ThreadShape) (parts : List Part) →
     AreUnitPartsOf code me world running parts →
     IsExact code world.host (do_all parts world).host world.journal (do_all parts world).journal
 unit_exact code me world None parts are =
-    let some = behind_taking code me world.host world.left parts are in
-    taking_exact code parts some.0 world some.1 some.2
+    taking_exact code parts world (are_taken code me (inside_of world) world.left parts are)
 unit_exact code me world (Some thread) parts are =
-    known_exact code parts world (turn_known code me world.host parts are.0 are.1 are.2)
+    known_exact code parts world (turn_known code me (inside_of world) parts are.0 are.1 are.2)
 
 unit_breaks : (code : CodeShape) (me : HostId) (error : NodeError) (world new : NodeWorld)
     (running : Option ThreadShape) (parts : List Part) → AreUnitPartsOf code me world running parts →
     BreaksIn error parts world new → IsNoted code world.host new.host world.journal new.journal
 unit_breaks code me error world new None parts are breaks =
-    let some = behind_taking code me world.host world.left parts are in
-    taking_breaks code error parts some.0 world new some.1 some.2 breaks
+    taking_breaks code error parts world new (are_taken code me (inside_of world) world.left parts are) breaks
 unit_breaks code me error world new (Some thread) parts are breaks =
-    known_breaks code error parts world new (turn_known code me world.host parts are.0 are.1 are.2) breaks
+    known_breaks code error parts world new (turn_known code me (inside_of world) parts are.0 are.1 are.2) breaks
 
 -- ---- the closing frames
 
@@ -516,33 +580,47 @@ plain_append : (code : CodeShape) (first others : List Part) → IsPlain code fi
     IsPlain code (first ++ others) []
 plain_append code [] others one two = two
 plain_append code (Taking ∷ first) others one two = plain_append code first others one two
+plain_append code (Opening from ∷ first) others one two = plain_append code first others one two
 plain_append code (Step host ∷ first) others one two = absurd one
 plain_append code (Hearing ∷ first) others one two = plain_append code first others one two
 plain_append code (Line bytes ∷ first) others one two = absurd (let never = one.4 in let no : ⊥ = cc in no)
+plain_append code (Sealing to ∷ first) others one two = plain_append code first others one two
 plain_append code (Sending to bytes ∷ first) others one two = plain_append code first others one two
 
-telling_plain : (code : CodeShape) (to : HostId) (bytes : List ℕ) (is_own : Bool) →
-    IsPlain code (if is_own then [] else Sending to bytes ∷ []) []
-telling_plain code to bytes true = refl
-telling_plain code to bytes false = refl
+out_silent : (code : CodeShape) (to : HostId) (out : Option (List ℕ)) → IsPlain code (out_parts to out) []
+out_silent code to None = refl
+out_silent code to (Some bytes) = refl
 
-closing_plain : (code : CodeShape) (me : HostId) (number count : ℕ) → IsPlain code (closing_from me number count) []
-closing_plain code me number zero = refl
-closing_plain code me number (suc count) =
-    plain_append code (telling me number) (closing_from me (number + 1) count)
-    (telling_plain code (record { 0 = number }) _ (number == me.0)) (closing_plain code me (number + 1) count)
+frame_silent : (code : CodeShape) (seals : SealsShape) (to : HostId) (frame : List ℕ) →
+    IsPlain code (frame_parts seals to frame) []
+frame_silent code None to frame = refl
+frame_silent code (Some links) to frame = out_silent code to (string_for (Some links) to frame)
+
+telling_plain : (code : CodeShape) (seals : SealsShape) (to : HostId) (frame : List ℕ) (is_own : Bool) →
+    IsPlain code (if is_own then [] else frame_parts seals to frame) []
+telling_plain code seals to frame true = refl
+telling_plain code seals to frame false = frame_silent code seals to frame
+
+closing_plain : (code : CodeShape) (me : HostId) (seals : SealsShape) (number count : ℕ) →
+    IsPlain code (closing_from me seals number count) []
+closing_plain code me seals number zero = refl
+closing_plain code me seals number (suc count) =
+    plain_append code (telling me seals number) (closing_from me (after_telling me seals number) (number + 1) count)
+    (telling_plain code seals (record { 0 = number }) _ (number == me.0))
+    (closing_plain code me (after_telling me seals number) (number + 1) count)
 
 closes_noted : (code : CodeShape) (me : HostId) (answer : Status) (world new : NodeWorld) →
     Closes code me answer world new → IsNoted code world.host new.host world.journal new.journal
 closes_noted code me answer world new (inl told) =
-    let all = plain_done code (closing_parts code me) [] (closing_plain code me 0 (length code.hosts)) world in
+    let plain = closing_plain code me world.seals 0 (length code.hosts) in
+    let all = plain_done code (closing_parts code me world.seals) [] plain world in
     noted_nothing code world.host new.host world.journal new.journal
     (ap (λ (it : NodeWorld). it.host) told.1 ∙ all.0)
     (ap (λ (it : NodeWorld). it.journal) told.1 ∙ all.1 ∙ append-nil world.journal)
 closes_noted code me answer world new (inr stops) =
     still_noted code world new
-    (plain_breaks code stops.0 (closing_parts code me) [] (closing_plain code me 0 (length code.hosts)) world new
-    stops.2)
+    (plain_breaks code stops.0 (closing_parts code me world.seals) []
+    (closing_plain code me world.seals 0 (length code.hosts)) world new stops.2)
 
 -- ---- all units
 

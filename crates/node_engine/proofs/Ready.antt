@@ -12,6 +12,7 @@ same_later old mid new one two = record {
   code = two.code ∙ one.code;
   me = two.me ∙ one.me;
   host = two.host ∙ one.host;
+  seals = two.seals ∙ one.seals;
   links = two.links ∙ one.links;
   journal = two.journal ∙ one.journal;
 }

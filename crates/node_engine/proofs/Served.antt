@@ -66,7 +66,7 @@ serves_more code me units answer world new parts stage are unit serves =
 -- ---- the stage of a world that is told
 
 stage_is : (code : CodeShape) (me : HostId) (world : NodeWorld) (there : Seen) (ended : Bool) →
-    Told world there → world.ended ≡ false → ended ≡ has_ended code me there.host →
+    Told world there → world.ended ≡ false → ended ≡ has_ended code me there.inside.host →
     stage_of code me world ≡ stage_by false ended
 stage_is code me world there ended told not_yet is =
     ap₂ stage_by not_yet (ap (has_ended code me) (sym told.host_is) ∙ sym is)
@@ -111,7 +111,7 @@ same_break code own me my here there error codes numbers unit =
     (subst (λ (k : CodeShape). UnitBroken k my here there error) codes unit)
 
 pub serves_on : (code : CodeShape) (me : HostId) (units done : ℕ) (old here there : Seen) → done < units →
-    ServesOn code me units done old here → false ≡ has_ended code me here.host →
+    ServesOn code me units done old here → false ≡ has_ended code me here.inside.host →
     UnitDone code me here there false → ServesOn code me units (done + 1) old there
 serves_on code me units done old here there lt on goes unit world told not_yet =
     let at = on world told not_yet in
@@ -128,7 +128,7 @@ serves_on code me units done old here there lt on goes unit world told not_yet =
     )
 
 pub ends_told : (code : CodeShape) (me : HostId) (units done : ℕ) (old here there : Seen) → done < units →
-    ServesOn code me units done old here → false ≡ has_ended code me here.host →
+    ServesOn code me units done old here → false ≡ has_ended code me here.inside.host →
     UnitDone code me here there true → Ends code me units status.Done old there
 ends_told code me units done old here there lt on goes unit world told not_yet =
     let at = on world told not_yet in
@@ -147,7 +147,7 @@ ends_told code me units done old here there lt on goes unit world told not_yet =
 
 pub ends_broken : (code : CodeShape) (me : HostId) (units done : ℕ) (old here there : Seen) (error : NodeError)
     (answer : Status) → done < units → ServesOn code me units done old here →
-    false ≡ has_ended code me here.host → answer ≡ status_of error →
+    false ≡ has_ended code me here.inside.host → answer ≡ status_of error →
     UnitBroken code me here there error → Ends code me units answer old there
 ends_broken code me units done old here there error answer lt on goes is unit world told not_yet =
     let at = on world told not_yet in
@@ -174,7 +174,7 @@ same_closing code own me my answer here there codes numbers closing =
     (subst (λ (k : CodeShape). Closing k my answer here there) codes closing)
 
 pub ends_closed : (code : CodeShape) (me : HostId) (units done : ℕ) (old here there : Seen) (answer : Status) →
-    ServesOn code me units done old here → true ≡ has_ended code me here.host →
+    ServesOn code me units done old here → true ≡ has_ended code me here.inside.host →
     Closing code me answer here there → Ends code me units answer old there
 ends_closed code me units done old here there answer on halted closes world told not_yet =
     let at = on world told not_yet in
@@ -187,7 +187,7 @@ ends_closed code me units done old here there answer on halted closes world told
     )
 
 pub ends_spent : (code : CodeShape) (me : HostId) (units done : ℕ) (old here : Seen) → units - done ≡ 0 →
-    ServesOn code me units done old here → false ≡ has_ended code me here.host →
+    ServesOn code me units done old here → false ≡ has_ended code me here.inside.host →
     Ends code me units status.Spent old here
 ends_spent code me units done old here none on goes world told not_yet =
     let at = on world told not_yet in (

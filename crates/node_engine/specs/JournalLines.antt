@@ -5,8 +5,9 @@ use Rattle.js_base.specs.declared.text.TheConstants.{LINE_FEED}
 use Rattle.host_code.specs.declared.message.Message.{Message}
 use Rattle.host_code.specs.Code.{CodeShape}
 use Rattle.host_code.specs.MessageText.{host_text, message_text}
-use Rattle.wire_msg.specs.declared.error.WireError.{WireError}
 use Rattle.wire_msg.specs.declared.error.WireError.TheVariants.{Short, BadKind, BadField, TooLong, Trailing}
+use Rattle.node_engine.specs.declared.arrivals.DropReason.{DropReason}
+use Rattle.node_engine.specs.declared.arrivals.DropReason.TheVariants.{Frame, Seal}
 
 abbrev pub line : List ℕ → List ℕ
 line text = text ++ LINE_FEED ∷ []
@@ -27,13 +28,14 @@ send_line code to message = line (codes "send " ++ host_text code to ++ codes " 
 abbrev pub done_line : CodeShape → HostId → List ℕ
 done_line code from = line (codes "done " ++ host_text code from)
 
-abbrev pub reason : WireError → List ℕ
-reason Short = codes "short"
-reason BadKind = codes "kind"
-reason BadField = codes "field"
-reason TooLong = codes "long"
-reason Trailing = codes "trailing"
+abbrev pub reason : DropReason → List ℕ
+reason (Frame Short) = codes "short"
+reason (Frame BadKind) = codes "kind"
+reason (Frame BadField) = codes "field"
+reason (Frame TooLong) = codes "long"
+reason (Frame Trailing) = codes "trailing"
+reason Seal = codes "seal"
 
 -- what arrived was dropped
-abbrev pub drop_line : WireError → List ℕ
+abbrev pub drop_line : DropReason → List ℕ
 drop_line why = line (codes "bad " ++ reason why)

@@ -7,6 +7,7 @@ pub mod Nodes
 pub mod Notes
 pub mod Options
 pub mod Said
+pub mod Seals
 pub mod Serving
 pub mod Statuses
 pub mod Told

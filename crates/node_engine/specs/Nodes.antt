@@ -5,7 +5,6 @@ use Rattle.js_base.specs.Counts.{last_count}
 use Rattle.js_base.specs.declared.limits.TheConstants.{PROGRAM_BYTES, SPLIT_FILE_BYTES}
 use Rattle.js_base.specs.declared.status.Status.{Status}
 use Rattle.js_base.specs.declared.status.Status.TheVariants as status
-use Rattle.host_core.specs.Host.{HostShape}
 use Rattle.host_core.specs.Start.{host_at_start}
 use Rattle.host_decl.specs.Hosts as declared_hosts
 use Rattle.front_end.specs.declared.stop.Stop.{Stop}
@@ -19,7 +18,7 @@ use Rattle.node_links.specs.Journals.{Named}
 use Rattle.node_engine.specs.declared.node_end.NodeEnd as native
 use Rattle.node_engine.specs.Beginnings.{Beginning, BeginsNothing, EndsUnbegun, LinksBegan}
 use Rattle.node_engine.specs.NodeSources.{NodeStart, NodeStarts}
-use Rattle.node_engine.specs.NodeWorlds.{NodeWorld}
+use Rattle.node_engine.specs.NodeWorlds.{Inside, NodeWorld}
 use Rattle.node_engine.specs.Options.{Asked, IsAsked, SourceName, Program, Code, name_of}
 use Rattle.node_engine.specs.Serving.{Serves}
 use Rattle.node_engine.specs.Statuses.{IsEnded, IsServed}
@@ -88,9 +87,16 @@ beginning_of node row = record {
   name = row.name;
 }
 
--- It began, and then served; and where links and journal tell what they gave and took, it did so from the host as it
--- starts, with the key of its row. A journal says nothing of its names when something is put: so they are said of the
--- moment before the first put. Links keep as whom they began.
+-- what is inside of the node of a row as it starts: its host, with the key of the row, and nothing is sealed
+abbrev pub inside_at_start : NodeStart → declared_hosts.HostShape → Inside
+inside_at_start node row = record {
+  host = host_at_start node.source.code node.source.values row.key node.me;
+  seals = None;
+}
+
+-- It began, and then served; and where links and journal tell what they gave and took, it did so from what is
+-- inside of it as it starts. A journal says nothing of its names when something is put: so they are said of the moment
+-- before the first put. Links keep as whom they began.
 pub record ServesNode
     (turns : ℕ) (node : NodeStart) (row : declared_hosts.HostShape) (answer : Status) (change : NodeChange)
     (reaches : Names → Type 0) : Type 0 where
@@ -101,10 +107,10 @@ pub record ServesNode
   pub served : IsServed answer
   pub runs : (world : NodeWorld) →
       Told world
-      (record { host = host_at_start node.source.code node.source.values row.key node.me; outside = change.old }) →
+      (record { inside = inside_at_start node row; outside = change.old }) →
       world.ended ≡ false →
-      (later : HostShape) × TellsOf (Serves node.source.code node.me turns answer world)
-      (record { host = later; outside = change.new })
+      (later : Inside) × TellsOf (Serves node.source.code node.me turns answer world)
+      (record { inside = later; outside = change.new })
 
 -- a node of a row of the host file does not come to its first unit, or serves
 abbrev pub RunsNode : ℕ → NodeStart → Status → NodeChange → (Names → Type 0) → Type 0

@@ -6,7 +6,7 @@ use Rattle.host_code.specs.Code.{CodeShape}
 use Rattle.host_core.specs.Host.{HostShape, Outcome}
 use Rattle.host_core.specs.Taking.{IsTaking}
 use Rattle.host_core.specs.Turn.{IsTurn}
-use Rattle.wire_msg.specs.declared.error.WireError.{WireError}
+use Rattle.node_engine.specs.declared.arrivals.DropReason.{DropReason}
 use Rattle.node_engine.specs.JournalLines.{turn_line, take_line, send_line, done_line, drop_line}
 
 -- ---- lines
@@ -17,7 +17,7 @@ pub data Note : Type 0 where
   took : HostId → Message → Note
   sent : HostId → Message → Note
   done : HostId → Note
-  dropped : WireError → Note
+  dropped : DropReason → Note
 
 abbrev pub note_line : CodeShape → Note → List ℕ
 note_line code turned = turn_line

@@ -9,9 +9,10 @@ use Rattle.host_core.specs.Host.{HostShape}
 use Rattle.wire_msg.specs.declared.frame.Frame.TheVariants as frame
 use Rattle.wire_msg.specs.Spelling.{frame_bytes}
 use Rattle.node_engine.specs.declared.node_error.NodeError.{NodeError}
-use Rattle.node_engine.specs.NodeWorlds.{NodeWorld, Part, Sending, do_all, BreaksIn}
+use Rattle.node_engine.specs.NodeWorlds.{NodeWorld, Part, do_all, BreaksIn}
+use Rattle.node_engine.specs.Seals.{SealsShape, after_sealing}
 use Rattle.node_engine.specs.Statuses.{status_of}
-use Rattle.node_engine.specs.Units.{AreUnitParts, IsUnit}
+use Rattle.node_engine.specs.Units.{AreUnitParts, IsUnit, frame_parts}
 
 -- parts break, by an error of this status
 abbrev pub StopsIn : Status → List Part → NodeWorld → NodeWorld → Type 0
@@ -20,23 +21,29 @@ StopsIn answer parts world new = (error : NodeError) × (answer ≡ status_of er
 -- ---- the end of the program
 
 -- a host is told that the program is done, unless it is the node's own
-abbrev pub telling : HostId → ℕ → List Part
-telling me number = if number == me.0 then [] else Sending (record { 0 = number }) (frame_bytes me frame.Done) ∷ []
+abbrev pub telling : HostId → SealsShape → ℕ → List Part
+telling me seals number =
+    if number == me.0 then [] else frame_parts seals (record { 0 = number }) (frame_bytes me frame.Done)
+
+-- the seals behind it
+abbrev pub after_telling : HostId → SealsShape → ℕ → SealsShape
+after_telling me seals number = if number == me.0 then seals else after_sealing (record { 0 = number }) seals
 
 -- so many hosts are told, from some number on
-abbrev pub closing_from : HostId → ℕ → ℕ → List Part
-closing_from me number zero = []
-closing_from me number (suc left) = telling me number ++ closing_from me (number + 1) left
+abbrev pub closing_from : HostId → SealsShape → ℕ → ℕ → List Part
+closing_from me seals number zero = []
+closing_from me seals number (suc left) =
+    telling me seals number ++ closing_from me (after_telling me seals number) (number + 1) left
 
 -- the closing frames: each other host is told
-abbrev pub closing_parts : CodeShape → HostId → List Part
-closing_parts code me = closing_from me 0 (length code.hosts)
+abbrev pub closing_parts : CodeShape → HostId → SealsShape → List Part
+closing_parts code me seals = closing_from me seals 0 (length code.hosts)
 
 -- the closing frames are sent, or some of them are and one breaks
 abbrev pub Closes : CodeShape → HostId → Status → NodeWorld → NodeWorld → Type 0
 Closes code me answer world new =
-    ((answer ≡ status.Done) × (new ≡ do_all (closing_parts code me) world))
-    ⊎ StopsIn answer (closing_parts code me) world new
+    ((answer ≡ status.Done) × (new ≡ do_all (closing_parts code me world.seals) world))
+    ⊎ StopsIn answer (closing_parts code me world.seals) world new
 
 -- the node is the root's, and its host has halted
 abbrev pub has_ended : CodeShape → HostId → HostShape → Bool

@@ -1,4 +1,5 @@
--- What links and journal tell, the world of a node that they make with its host, and what goes on between two moments.
+-- What links and journal tell, the world of a node that they make with what is inside of it, and what goes on between
+-- two moments.
 use Rattle.std.specs.Prelude.{◌≡◌, ◌≤◌, ℕ, Bool, false, List, ◌∷◌, Option, Some}
 use Rattle.js_base.specs.Counts.{Rose}
 use Rattle.js_base.specs.declared.ids.HostId.{HostId}
@@ -7,11 +8,11 @@ use Rattle.js_base.specs.declared.status.Status.{Status}
 use Rattle.js_base.specs.declared.status.Status.TheVariants as status
 use Rattle.host_code.specs.Code.{CodeShape}
 use Rattle.host_core.specs.Fits.{HostFits}
-use Rattle.host_core.specs.Host.{HostShape, state_of}
+use Rattle.host_core.specs.Host.{state_of}
 use Rattle.node_links.specs.declared.links.Links as links
 use Rattle.node_engine.specs.declared.node.Node.{Node}
 use Rattle.node_engine.specs.declared.node_error.NodeError.{NodeError}
-use Rattle.node_engine.specs.NodeWorlds.{NodeWorld, Part, Taking, do_part, do_all, BreaksIn}
+use Rattle.node_engine.specs.NodeWorlds.{Inside, NodeWorld, Part, Taking, do_part, do_all, BreaksIn}
 use Rattle.node_engine.specs.Serving.{Serves}
 use Rattle.node_engine.specs.Statuses.{status_of}
 use Rattle.node_engine.specs.Units.{AreUnitParts, IsUnit}
@@ -69,21 +70,26 @@ node_change of to named before after journal later = record {
   names_after = named later;
 }
 
--- a host, and what is told outside of it
+-- what is inside of a node, and what is told outside of it
 pub record Seen : Type 0 where
-  pub host : HostShape
+  pub inside : Inside
   pub outside : Outside
 
--- what is seen of a node
+-- what is inside of a node
+abbrev pub inside : {L R : Type 0} → Node L R → Inside
+inside node = record { host = state_of node.host.now; seals = node.seals.now }
+
+-- what is seen of it
 abbrev pub seen : {L R : Type 0} → links.Ghosts L → sink.Ghosts R → Node L R → Seen
 seen of to node = record {
-  host = state_of node.host.now;
+  inside = inside node;
   outside = outside of to node.links.now node.journal.now;
 }
 
 -- all is told, and makes this world
 pub record Told (world : NodeWorld) (there : Seen) : Type 0 where
-  pub host_is : there.host ≡ world.host
+  pub host_is : there.inside.host ≡ world.host
+  pub seals_is : there.inside.seals ≡ world.seals
   pub left_is : there.outside.links.left ≡ Some world.left
   pub sent_is : there.outside.links.sent ≡ Some world.sent
   pub journal_is : there.outside.journal.taken ≡ Some world.journal
@@ -150,11 +156,12 @@ pub record ServesFrom (code : CodeShape) (me : HostId) (units : ℕ) (answer : S
 
 -- ---- a node and what it is lent
 
--- it has the same host, links and journal yet, which may have changed
+-- it has the same host, seals, links and journal yet, which may have changed
 pub record IsSameNode {L R : Type 0} (old new : Node L R) : Type 0 where
   pub code : new.code.now ≡ old.code.now
   pub me : new.me ≡ old.me
   pub host : new.host.ghost_name ≡ old.host.ghost_name
+  pub seals : new.seals.ghost_name ≡ old.seals.ghost_name
   pub links : new.links.ghost_name ≡ old.links.ghost_name
   pub journal : new.journal.ghost_name ≡ old.journal.ghost_name
 
@@ -162,6 +169,11 @@ pub record IsSameNode {L R : Type 0} (old new : Node L R) : Type 0 where
 pub record HasSameHost {L R : Type 0} (old new : Node L R) : Type 0 where
   pub node : IsSameNode old new
   pub host_is : new.host.now ≡ old.host.now
+
+-- and its seals did not change
+pub record HasSameInside {L R : Type 0} (old new : Node L R) : Type 0 where
+  pub same : HasSameHost old new
+  pub seals_is : new.seals.now ≡ old.seals.now
 
 -- its host fits the code and has the node's number
 pub record IsReady {L R : Type 0} (node : Node L R) : Type 0 where

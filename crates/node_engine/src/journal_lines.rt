@@ -5,6 +5,7 @@ ghost use Rattle.std.specs.String.{string_bytes};
 ghost use Rattle.host_code.specs.Messages.{MessageFits};
 ghost use Rattle.node_engine.specs.JournalLines as lines;
 
+use crate::arrivals::DropReason;
 use host_code::{Code, Message, host_name, message_text};
 use js_base::{HostId, OutOfMemory};
 use std::alloc::Global;
@@ -52,14 +53,15 @@ pub fn done_line(alloc: Global, code: &Code, from: HostId) -> Result<String, Out
 }
 
 /// The line of what arrived and was dropped.
-pub fn drop_line(why: WireError) -> &'static str
+pub fn drop_line(why: DropReason) -> &'static str
     ensures { result.now ≡ lines.drop_line why }
 {
     match why {
-        WireError::Short => "bad short\n",
-        WireError::BadKind => "bad kind\n",
-        WireError::BadField => "bad field\n",
-        WireError::TooLong => "bad long\n",
-        WireError::Trailing => "bad trailing\n",
+        DropReason::Frame(WireError::Short) => "bad short\n",
+        DropReason::Frame(WireError::BadKind) => "bad kind\n",
+        DropReason::Frame(WireError::BadField) => "bad field\n",
+        DropReason::Frame(WireError::TooLong) => "bad long\n",
+        DropReason::Frame(WireError::Trailing) => "bad trailing\n",
+        DropReason::Seal => "bad seal\n",
     }
 }

@@ -1,4 +1,4 @@
-//! A node: one host of a program with its links and its journal.
+//! A node: one host of a program with its links, its seals and its journal.
 #![tactic(auto)]
 
 mod arrivals;
@@ -14,17 +14,19 @@ mod options;
 mod outside;
 mod running;
 mod saying;
+mod seals;
 mod serving;
 mod start_laws;
 mod top;
 mod units;
 
-pub use arrivals::Arrival;
+pub use arrivals::{Arrival, DropReason};
 pub use laws::unit_laws;
 pub use node_end::NodeEnd;
 pub use node_error::NodeError;
 pub use options::{OptionError, Options, SourceWord, option_laws, read_options};
 pub use saying::say_end;
+pub use seals::Seals;
 pub use serving::serve;
 pub use start_laws::node_laws;
 pub use top::{jifhost, run_jifhost};

@@ -4,7 +4,9 @@ ghost use Rattle.std.specs.Prelude.{◌≡◌, ◌∷◌, [], IfOk, OnOk, IfErr}
 ghost use Rattle.wire_msg.specs.Frames.{NamesHosts};
 ghost use Rattle.wire_msg.specs.Spelling.{frame_bytes};
 ghost use Rattle.node_engine.specs.NodeWorlds.{Taking, Line, Sending};
-ghost use Rattle.node_engine.specs.Told.{Does, HasSameHost, Stops, Takes, seen};
+ghost use Rattle.node_engine.specs.Seals.{after_sealing};
+ghost use Rattle.node_engine.specs.Told.{Does, HasSameHost, HasSameInside, Stops, Takes, seen};
+ghost use Rattle.node_engine.specs.Units.{frame_parts};
 
 use crate::node::Node;
 use crate::node_error::NodeError;
@@ -19,7 +21,7 @@ impl<L: Links, R: Sink> Node<'_, '_, L, R> {
             Takes arrived.bytes.items (seen L.Links R.Sink self.old) (seen L.Links R.Sink self.new)) }
         ensures err { IfErr result (λ error.
             Stops error (Taking ∷ []) (seen L.Links R.Sink self.old) (seen L.Links R.Sink self.new)) }
-        ensures same { HasSameHost self.old self.new }
+        ensures same { HasSameInside self.old self.new }
     {
         match self.links.next(self.alloc) {
             Ok(arrived) => Ok(arrived),
@@ -34,7 +36,7 @@ impl<L: Links, R: Sink> Node<'_, '_, L, R> {
             (Does (Line line.now ∷ []) (seen L.Links R.Sink self.old) (seen L.Links R.Sink self.new)) }
         ensures err { IfErr result (λ error.
             Stops error (Line line.now ∷ []) (seen L.Links R.Sink self.old) (seen L.Links R.Sink self.new)) }
-        ensures same { HasSameHost self.old self.new }
+        ensures same { HasSameInside self.old self.new }
     {
         match self.journal.put(self.alloc, line.as_bytes()) {
             Ok(()) => Ok(()),
@@ -43,20 +45,36 @@ impl<L: Links, R: Sink> Node<'_, '_, L, R> {
         }
     }
 
-    /// A frame is sent to a host.
+    /// A string is sent to a host.
+    fn put_out(&mut self, to: HostId, bytes: &[u8]) -> Result<(), NodeError>
+        ensures ok { OnOk result
+            (Does (Sending to bytes.now ∷ []) (seen L.Links R.Sink self.old) (seen L.Links R.Sink self.new)) }
+        ensures err { IfErr result (λ error.
+            Stops error (Sending to bytes.now ∷ []) (seen L.Links R.Sink self.old) (seen L.Links R.Sink self.new)) }
+        ensures same { HasSameInside self.old self.new }
+    {
+        match self.links.send(self.alloc, to, bytes) {
+            Ok(()) => Ok(()),
+            Err(LinkError::OutOfMemory) => Err(NodeError::OutOfMemory),
+            Err(LinkError::Failed) => Err(NodeError::LinkFault),
+        }
+    }
+
+    /// A frame is sent to a host, under the node's seals.
     pub(crate) fn sent(&mut self, to: HostId, frame: &Frame) -> Result<(), NodeError>
         requires { NamesHosts self.old.me frame.now }
-        ensures ok { OnOk result (Does (Sending to (frame_bytes self.old.me frame.now) ∷ [])
+        ensures ok { OnOk result (Does (frame_parts self.old.seals.now to (frame_bytes self.old.me frame.now))
             (seen L.Links R.Sink self.old) (seen L.Links R.Sink self.new)) }
-        ensures err { IfErr result (λ error. Stops error (Sending to (frame_bytes self.old.me frame.now) ∷ [])
+        ensures raised { OnOk result (self.new.seals.now ≡ after_sealing to self.old.seals.now) }
+        ensures err { IfErr result (λ error. Stops error
+            (frame_parts self.old.seals.now to (frame_bytes self.old.me frame.now))
             (seen L.Links R.Sink self.old) (seen L.Links R.Sink self.new)) }
         ensures same { HasSameHost self.old self.new }
     {
         let bytes = write(self.alloc, self.me, frame)?;
-        match self.links.send(self.alloc, to, &bytes) {
-            Ok(()) => Ok(()),
-            Err(LinkError::OutOfMemory) => Err(NodeError::OutOfMemory),
-            Err(LinkError::Failed) => Err(NodeError::LinkFault),
+        match self.seals.sealed(self.alloc, to, bytes)? {
+            Some(bytes) => self.put_out(to, &bytes),
+            None => Ok(()),
         }
     }
 }

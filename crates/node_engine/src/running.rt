@@ -9,6 +9,7 @@ ghost use Rattle.node_engine.specs.Told.{Faults, Reaches, node_change, outside};
 
 use crate::node_error::NodeError;
 use crate::node_start::NodeStart;
+use crate::seals::Seals;
 use crate::serving::serve;
 use host_core::Host;
 use host_decl::HostRow;
@@ -44,6 +45,7 @@ pub fn run_node<L: Links, R: Journal>(
             node.me,
             links,
             journal,
+            &mut Seals::none(),
             turns,
         ),
         Err(error) => error.status(),

@@ -6,7 +6,7 @@ ghost use Rattle.host_code.specs.Sound.{IsHost};
 ghost use Rattle.host_core.specs.Fits.{HostFits};
 ghost use Rattle.host_core.specs.Host.{state_of};
 ghost use Rattle.node_engine.specs.NodeWorlds.{NodeWorld};
-ghost use Rattle.node_engine.specs.Serving.{Closes, closing_parts, has_ended, telling};
+ghost use Rattle.node_engine.specs.Serving.{Closes, after_telling, closing_parts, has_ended, telling};
 ghost use Rattle.node_engine.specs.Statuses.{IsServed};
 ghost use Rattle.node_engine.specs.Told.{Does, HasSameHost, IsReady, IsSameNode, Leaves, ServesFrom, Stops, Told};
 ghost use Rattle.node_engine.specs.Told.{TellsOf, outside, seen};
@@ -14,6 +14,7 @@ ghost use Rattle.node_engine.specs.Told.{TellsOf, outside, seen};
 use crate::laws::unit_laws;
 use crate::node::Node;
 use crate::node_error::NodeError;
+use crate::seals::Seals;
 use host_code::Code;
 use host_core::Host;
 use js_base::limits::HOSTS;
@@ -35,15 +36,22 @@ pub fn serve<L: Links, R: Sink>(
     me: HostId,
     links: &mut L,
     journal: &mut R,
+    seals: &mut Seals,
     units: u64,
 ) -> Status
     requires fits { HostFits code.now host.old }
     requires me { host.old.me ≡ me }
-    // Where links and journal tell what they gave and took, what they and the host are at the end is what so many units
-    // leave, and the part that failed.
+    // Where links and journal tell what they gave and took, what they, the host and its seals are at the end is what so
+    // many units leave, and the part that failed.
     ensures serves { ServesFrom code.now me units result
-        (record { host = state_of host.old; outside = outside L.Links R.Sink links.old journal.old })
-        (record { host = state_of host.new; outside = outside L.Links R.Sink links.new journal.new }) }
+        (record {
+          inside = record { host = state_of host.old; seals = seals.old };
+          outside = outside L.Links R.Sink links.old journal.old;
+        })
+        (record {
+          inside = record { host = state_of host.new; seals = seals.new };
+          outside = outside L.Links R.Sink links.new journal.new;
+        }) }
     // Whether they tell or not, it answers one of these. A fault was counted where it is answered, and no other.
     ensures answers { IsServed result }
     ensures leaves { Leaves result (outside L.Links R.Sink links.old journal.old)
@@ -56,6 +64,7 @@ pub fn serve<L: Links, R: Sink>(
         code,
         me,
         host,
+        seals,
         links,
         journal,
     };
@@ -117,9 +126,9 @@ impl<L: Links, R: Sink> Node<'_, '_, L, R> {
     /// Sends each other host the frame of one that is done.
     fn close(&mut self) -> Result<(), NodeError>
         requires { IsHost self.old.code.now self.old.me }
-        ensures ok { OnOk result (Does (closing_parts self.old.code.now self.old.me)
+        ensures ok { OnOk result (Does (closing_parts self.old.code.now self.old.me self.old.seals.now)
             (seen L.Links R.Sink self.old) (seen L.Links R.Sink self.new)) }
-        ensures err { IfErr result (λ error. Stops error (closing_parts self.old.code.now self.old.me)
+        ensures err { IfErr result (λ error. Stops error (closing_parts self.old.code.now self.old.me self.old.seals.now)
             (seen L.Links R.Sink self.old) (seen L.Links R.Sink self.new)) }
         ensures same { HasSameHost self.old self.new }
     {
@@ -134,9 +143,11 @@ impl<L: Links, R: Sink> Node<'_, '_, L, R> {
     /// Sends a host the frame of one that is done, unless it is the node's own.
     fn tell(&mut self, to: HostId) -> Result<(), NodeError>
         requires { self.old.me.0 < HOSTS }
-        ensures ok { OnOk result (Does (telling self.old.me to.0)
+        ensures ok { OnOk result (Does (telling self.old.me self.old.seals.now to.0)
             (seen L.Links R.Sink self.old) (seen L.Links R.Sink self.new)) }
-        ensures err { IfErr result (λ error. Stops error (telling self.old.me to.0)
+        ensures raised { OnOk result (self.new.seals.now
+            ≡ after_telling self.old.me self.old.seals.now to.0) }
+        ensures err { IfErr result (λ error. Stops error (telling self.old.me self.old.seals.now to.0)
             (seen L.Links R.Sink self.old) (seen L.Links R.Sink self.new)) }
         ensures same { HasSameHost self.old self.new }
     {

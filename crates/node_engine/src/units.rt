@@ -4,14 +4,16 @@ ghost use Rattle.std.specs.Prelude.{◌≡◌, ◌∷◌, [], false, List, None,
 ghost use Rattle.host_code.specs.Sound.{IsHost, IsOther};
 ghost use Rattle.host_code.specs.Messages.{MessageFits};
 ghost use Rattle.host_core.specs.Fits.{SentFits};
-ghost use Rattle.host_core.specs.Host.{state_of};
-ghost use Rattle.node_engine.specs.Arrivals.{ArrivalFits};
+ghost use Rattle.node_engine.specs.Arrivals.{ArrivalFits, Arrives};
 ghost use Rattle.node_engine.specs.JournalLines as lines;
 ghost use Rattle.node_engine.specs.NodeWorlds.{NodeWorld, Part, Line, do_all};
-ghost use Rattle.node_engine.specs.Told.{Does, DoesUnit, HasSameHost, IsReady, IsSameNode, Stops, StopsUnit, seen};
-ghost use Rattle.node_engine.specs.Units.{AreArrivalParts, AreDeliveryParts, posting_parts, sending_parts};
+ghost use Rattle.node_engine.specs.Seals.{after_opened, opened_of};
+ghost use Rattle.node_engine.specs.Told.{Does, DoesUnit, HasSameHost, HasSameInside, IsReady, IsSameNode, Stops};
+ghost use Rattle.node_engine.specs.Told.{StopsUnit, inside, seen};
+ghost use Rattle.node_engine.specs.Units.{AreArrivalParts, AreDeliveryParts, opening_parts, posting_parts};
+ghost use Rattle.node_engine.specs.Units.{sending_parts};
 
-use crate::arrivals::{Arrival, read_arrival};
+use crate::arrivals::{Arrival, opened_arrival};
 use crate::journal_lines::{TURN_LINE, done_line, drop_line, send_line, take_line};
 use crate::laws::unit_laws;
 use crate::node::Node;
@@ -74,10 +76,28 @@ impl<L: Links, R: Sink> Node<'_, '_, L, R> {
         ensures ready { IsReady self.new }
         ensures same { IsSameNode self.old self.new }
     {
+        step_laws();
         unit_laws();
         let arrived = self.taken()?;
-        let arrival = read_arrival(self.code, self.me, &arrived.bytes);
+        let arrival = self.arrival(&arrived.bytes)?;
         self.handled(&arrival)
+    }
+
+    /// What bytes come to that were taken. The opener of their link goes on where they were opened.
+    fn arrival(&mut self, bytes: &[u8]) -> Result<Arrival, NodeError>
+        ensures arrives { IfOk result (λ arrival.
+            Arrives self.old.code.now self.old.me self.old.seals.now bytes.now arrival) }
+        ensures fits { IfOk result (λ arrival. ArrivalFits self.old.code.now self.old.me arrival) }
+        ensures ok { OnOk result (Does (opening_parts (opened_of self.old.seals.now bytes.now))
+            (seen L.Links R.Sink self.old) (seen L.Links R.Sink self.new)) }
+        ensures opened { OnOk result (self.new.seals.now
+            ≡ after_opened (opened_of self.old.seals.now bytes.now) self.old.seals.now) }
+        ensures err { IfErr result (λ error. Stops error (opening_parts (opened_of self.old.seals.now bytes.now))
+            (seen L.Links R.Sink self.old) (seen L.Links R.Sink self.new)) }
+        ensures same { HasSameHost self.old self.new }
+    {
+        let opened = self.seals.opened(self.alloc, bytes)?;
+        Ok(opened_arrival(self.code, self.me, bytes, &opened))
     }
 
     /// What is done with a frame that was taken. It answers whether the root said that the program is done.
@@ -86,11 +106,11 @@ impl<L: Links, R: Sink> Node<'_, '_, L, R> {
         requires ready { IsReady self.old }
         requires arrival { ArrivalFits self.old.code.now self.old.me arrival.now }
         ensures ok { IfOk result (λ ended. (parts : List Part) ×
-            AreArrivalParts self.old.code.now self.old.me (state_of self.old.host.now) arrival.now parts
+            AreArrivalParts self.old.code.now self.old.me (inside self.old) arrival.now parts
             × Does parts (seen L.Links R.Sink self.old) (seen L.Links R.Sink self.new)
             × ((world : NodeWorld) → world.ended ≡ false → (do_all parts world).ended ≡ ended)) }
         ensures err { IfErr result (λ error. (parts : List Part) ×
-            AreArrivalParts self.old.code.now self.old.me (state_of self.old.host.now) arrival.now parts
+            AreArrivalParts self.old.code.now self.old.me (inside self.old) arrival.now parts
             × Stops error parts (seen L.Links R.Sink self.old) (seen L.Links R.Sink self.new)) }
         ensures ready { IsReady self.new }
         ensures same { IsSameNode self.old self.new }
@@ -117,7 +137,7 @@ impl<L: Links, R: Sink> Node<'_, '_, L, R> {
             (seen L.Links R.Sink self.old) (seen L.Links R.Sink self.new)) }
         ensures err { IfErr result (λ error. Stops error (Line (lines.done_line self.old.code.now from) ∷ [])
             (seen L.Links R.Sink self.old) (seen L.Links R.Sink self.new)) }
-        ensures same { HasSameHost self.old self.new }
+        ensures same { HasSameInside self.old self.new }
     {
         let line = done_line(self.alloc, self.code, from)?;
         self.noted(&line)
@@ -130,10 +150,10 @@ impl<L: Links, R: Sink> Node<'_, '_, L, R> {
         requires from { IsOther self.old.code.now self.old.me from }
         requires message { MessageFits self.old.code.now message.now }
         ensures ok { OnOk result ((parts : List Part) × AreDeliveryParts self.old.code.now self.old.me
-            (state_of self.old.host.now) from message.now parts
+            (inside self.old) from message.now parts
             × Does parts (seen L.Links R.Sink self.old) (seen L.Links R.Sink self.new)) }
         ensures err { IfErr result (λ error. (parts : List Part) × AreDeliveryParts self.old.code.now self.old.me
-            (state_of self.old.host.now) from message.now parts
+            (inside self.old) from message.now parts
             × Stops error parts (seen L.Links R.Sink self.old) (seen L.Links R.Sink self.new)) }
         ensures ready { IsReady self.new }
         ensures same { IsSameNode self.old self.new }
@@ -151,10 +171,10 @@ impl<L: Links, R: Sink> Node<'_, '_, L, R> {
     fn stepped(&mut self, line: &str, sent: &Sent) -> Result<(), NodeError>
         requires me { IsHost self.old.code.now self.old.me }
         requires sent { SentFits self.old.code.now self.old.me sent.now }
-        ensures ok { OnOk result (Does (Line line.now ∷ sending_parts self.old.code.now self.old.me sent.now)
+        ensures ok { OnOk result (Does (Line line.now ∷ sending_parts self.old.code.now self.old.me self.old.seals.now sent.now)
             (seen L.Links R.Sink self.old) (seen L.Links R.Sink self.new)) }
         ensures err { IfErr result (λ error.
-            Stops error (Line line.now ∷ sending_parts self.old.code.now self.old.me sent.now)
+            Stops error (Line line.now ∷ sending_parts self.old.code.now self.old.me self.old.seals.now sent.now)
             (seen L.Links R.Sink self.old) (seen L.Links R.Sink self.new)) }
         ensures same { HasSameHost self.old self.new }
     {
@@ -169,10 +189,10 @@ impl<L: Links, R: Sink> Node<'_, '_, L, R> {
     fn posted(&mut self, to: HostId, message: &Message) -> Result<(), NodeError>
         requires me { IsHost self.old.code.now self.old.me }
         requires message { MessageFits self.old.code.now message.now }
-        ensures ok { OnOk result (Does (posting_parts self.old.code.now self.old.me to message.now)
+        ensures ok { OnOk result (Does (posting_parts self.old.code.now self.old.me self.old.seals.now to message.now)
             (seen L.Links R.Sink self.old) (seen L.Links R.Sink self.new)) }
         ensures err { IfErr result (λ error.
-            Stops error (posting_parts self.old.code.now self.old.me to message.now)
+            Stops error (posting_parts self.old.code.now self.old.me self.old.seals.now to message.now)
             (seen L.Links R.Sink self.old) (seen L.Links R.Sink self.new)) }
         ensures same { HasSameHost self.old self.new }
     {

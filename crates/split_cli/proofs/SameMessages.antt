@@ -1,9 +1,12 @@
 -- Whether two messages or two events are the same can be decided: a message is made again of its parts and its token.
 use Rattle.std.proofs.Common.{◌≡◌, ◌∙◌, ℕ, zero, suc, ℤ, pos, negsuc, ◌==◌, List, [], ◌∷◌, drop, get_or, inl, inr, refl}
 use Rattle.std.proofs.Common.{sym}
-use Rattle.std.proofs.Common.{ap, Bool, false, Option, Some, None}
+use Rattle.std.proofs.Common.{ap, Bool, false, ◌&&◌, int_eq, Option, Some, None}
 use Rattle.std.specs.Prelude.{◌↔◌, IsTrue, if◌then◌else◌, unwrap_or}
-use Rattle.std.proofs.lemmas.Bool.{cases_eq}
+use Rattle.std.specs.Bool.{Decides}
+use Rattle.std.specs.Cmp.{unsigned_Decides}
+use Rattle.std.proofs.lemmas.Bool.{cases_eq, and_parts, and_from}
+use Rattle.std.proofs.lemmas.Bool.Decides.{Decides-int_eq}
 use Rattle.js_base.proofs.Decisions.{Decided, as_well, both, same_text}
 use Rattle.js_base.specs.declared.ids.FrameId.{FrameId}
 use Rattle.js_base.specs.declared.ids.HostId.{HostId}
@@ -126,6 +129,19 @@ riders_again (rider ∷ riders) =
 
 same_riders : (one other : List Rider) → Decided (one ≡ other)
 same_riders = by_numbers riders_numbers riders_from_numbers riders_again
+
+-- `==` tells which values ride
+pub rider_told : (one other : Rider) → Decides ((one.0.0 == other.0.0) && int_eq one.1 other.1) (one ≡ other)
+rider_told one other =
+    let variable = unsigned_Decides one.0.0 other.0.0 in
+    let value = Decides-int_eq one.1 other.1 in (
+      λ is. let parts = and_parts (one.0.0 == other.0.0) (int_eq one.1 other.1) is in
+          let first : one.0.0 ≡ other.0.0 = variable.0 parts.0 in
+          let second : one.1 ≡ other.1 = value.0 parts.1 in
+          λ i. (record { 0 = first i }, second i),
+      λ same. and_from (one.0.0 == other.0.0) (int_eq one.1 other.1)
+          (variable.1 (ap (λ (it : Rider). it.0.0) same)) (value.1 (ap (λ (it : Rider). it.1) same)),
+    )
 
 -- ---- tests in two parts
 

@@ -1,11 +1,15 @@
 use Rattle.std.proofs.Common.{refl}
+use Rattle.node_engine.specs.Seals.{opened_of}
 use Rattle.node_engine.proofs.Noting.{steps_noted}
-use Rattle.node_engine.proofs.OneUnit.{one_parts}
+use Rattle.node_engine.proofs.OneUnit.{one_arrival, one_parts}
 use Rattle.node_engine.proofs.UnitParts.{some_arrival, some_parts, some_taking}
 use Rattle.node_engine.proofs.laws.unit_laws.Goals as goal
 
 pub returns-clause-some_arrival : goal.returns-clause-some_arrival
 returns-clause-some_arrival c = some_arrival
+
+pub returns-clause-one_arrival : goal.returns-clause-one_arrival
+returns-clause-one_arrival c = λ code me seals bytes. one_arrival code me bytes (opened_of seals bytes)
 
 pub returns-clause-some_taking : goal.returns-clause-some_taking
 returns-clause-some_taking c = some_taking c.step_laws.ensures.some_taking

@@ -1,4 +1,4 @@
-use Rattle.std.proofs.Common.{refl}
+use Rattle.std.proofs.Common.{ap₂, refl}
 use Rattle.node_engine.specs.NodeSources.{node_start}
 use Rattle.node_engine.proofs.Breaking.{faults_later}
 use Rattle.node_engine.proofs.Ends.{broke_early, served_begun}
@@ -12,8 +12,8 @@ returns-in-Ok-begin-clause-runs g c =
     (row_at c.hosts-rows.result.now c.args.node.now.me.0 c.index-rows-node.result
     (rw (← c.hosts-rows.ensures.hosts) at c.requires.0) c.index-rows-node.is))
     (rw (c.hosts-rows.ensures.hosts, c.name.ensures) at c.in-Ok-begin.ensures.ok) (c.begin.new.journal, refl)
-    (rw c.key.ensures at c.in-Ok.ensures.state) c.serve.ensures.answers c.serve.ensures.serves
-    c.serve.ensures.leaves
+    (ap₂ (λ h s. record { host = h; seals = s }) (rw c.key.ensures at c.in-Ok.ensures.state) c.none.ensures)
+    c.serve.ensures.answers c.serve.ensures.serves c.serve.ensures.leaves
 
 pub returns-in-Ok-begin-clause-faults : goal.returns-in-Ok-begin-clause-faults
 returns-in-Ok-begin-clause-faults g c =

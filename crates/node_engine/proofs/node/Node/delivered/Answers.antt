@@ -13,7 +13,7 @@ returns-in_err-line-clause-err g c =
     let some = c.step_laws.ensures.some_taking code (state_of c.args.self.now.host.now) c.args.from c.args.message.now
     in
     handed _ node_error.OutOfMemory c.from_residual.result c.from_residual.ensures (
-      step_parts code c.args.self.now.me (take_line code c.args.from c.args.message.now) some.0,
+      step_parts code c.args.self.now.me c.args.self.now.seals.now (take_line code c.args.from c.args.message.now) some.0,
       (some.0, some.1, refl),
       step_stops _ _ _ _ _ refl,
     )
@@ -23,7 +23,7 @@ returns-in-Ok-clause-ok g c =
     let code = c.args.self.now.code.now in
     on_ok_weaker c.stepped.result
     (λ does. (
-      step_parts code c.args.self.now.me (take_line code c.args.from c.args.message.now) _,
+      step_parts code c.args.self.now.me c.args.self.now.seals.now (take_line code c.args.from c.args.message.now) _,
       (_, c.in-Ok.ensures.ok, refl),
       step_does _ _ _ _ _ does,
     ))
@@ -34,7 +34,7 @@ returns-in-Ok-clause-err g c =
     let code = c.args.self.now.code.now in
     IfErr-weaker c.stepped.result _ _
     (λ error stops. (
-      step_parts code c.args.self.now.me (take_line code c.args.from c.args.message.now) _,
+      step_parts code c.args.self.now.me c.args.self.now.seals.now (take_line code c.args.from c.args.message.now) _,
       (_, c.in-Ok.ensures.ok, refl),
       step_then_stops error _ _ _ _ _ stops,
     ))
@@ -45,7 +45,7 @@ returns-clause-err g c =
     let code = c.args.self.now.code.now in
     let some = c.step_laws.ensures.some_taking code (state_of c.args.self.now.host.now) c.args.from c.args.message.now
     in (
-      step_parts code c.args.self.now.me (take_line code c.args.from c.args.message.now) some.0,
+      step_parts code c.args.self.now.me c.args.self.now.seals.now (take_line code c.args.from c.args.message.now) some.0,
       (some.0, some.1, refl),
       step_stops _ _ _ _ _ c.in-Err-OutOfMemory.ensures.keeps.err,
     )

@@ -16,6 +16,6 @@ returns-in_ok-heard-in-Done-clause-ok g c =
       _,
       refl,
       heard_does _ _ _ _ c.in_ok-heard-in-Done.ensures.ok,
-      λ world not_yet. rw (c.root.ensures.root, c.in_ok-heard-in-Done.ensures.same.node.code)
+      λ world not_yet. rw (c.root.ensures.root, c.in_ok-heard-in-Done.ensures.same.same.node.code)
           (heard_ended _ _ world not_yet),
     )

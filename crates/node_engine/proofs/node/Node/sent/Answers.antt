@@ -1,25 +1,18 @@
-use Rattle.std.proofs.Common.{refl}
-use Rattle.node_engine.proofs.Breaking.{send_breaks, send_without_memory, the_other}
+use Rattle.std.proofs.Common.{◌∙◌}
+use Rattle.std.proofs.lemmas.Result.{on_ok_weaker, IfErr-weaker}
+use Rattle.node_engine.proofs.Sealing.{frame_does, frame_stops}
 use Rattle.node_engine.proofs.node.Node.sent.Goals as goal
 
-pub returns-in-Err-OutOfMemory-clause-err : goal.returns-in-Err-OutOfMemory-clause-err
-returns-in-Err-OutOfMemory-clause-err g c =
-    send_without_memory _ _ _ _ _ _
-    (rw (c.deref.ensures.value, c.in_ok-bytes.ensures.spelled) at c.in-Err-OutOfMemory.ensures.err)
-    (record {
-      faults = λ journal.
-          (the_other c.in-Err-OutOfMemory.ensures.no_fault (λ same. let never : ⊥ = cc in never), refl);
-      begun = c.in-Err-OutOfMemory.ensures.begun;
-      left = c.in-Err-OutOfMemory.ensures.left;
-    })
+pub returns-in-Some-clause-ok : goal.returns-in-Some-clause-ok
+returns-in-Some-clause-ok g c =
+    let out = rw (c.in_ok-bytes.ensures.spelled, c.in-Some.is) at c.in_ok-bytes-2.ensures.ok in
+    on_ok_weaker c.put_out.result
+    (λ does. frame_does _ _ c.args.to _ _ _ _ _ c.in_ok-bytes-2.ensures.raised out does)
+    (rw c.deref.ensures.value at c.put_out.ensures.ok)
 
-pub returns-clause-err : goal.returns-clause-err
-returns-clause-err g c =
-    send_breaks _ _ _ _ _ _
-    (rw (c.deref.ensures.value, c.in_ok-bytes.ensures.spelled) at c.in-Err-Failed.ensures.err)
-    (record {
-      faults = λ journal.
-          (record { no_less = c.in-Err-Failed.ensures.faults; rose = c.in-Err-Failed.ensures.cause (cc) }, refl);
-      begun = c.in-Err-Failed.ensures.begun;
-      left = c.in-Err-Failed.ensures.left;
-    })
+pub returns-in-Some-clause-err : goal.returns-in-Some-clause-err
+returns-in-Some-clause-err g c =
+    let out = rw (c.in_ok-bytes.ensures.spelled, c.in-Some.is) at c.in_ok-bytes-2.ensures.ok in
+    IfErr-weaker c.put_out.result _ _
+    (λ error stops. frame_stops error _ _ c.args.to _ _ _ _ _ c.in_ok-bytes-2.ensures.raised out stops)
+    (rw c.deref.ensures.value at c.put_out.ensures.err)

@@ -1,4 +1,7 @@
+use Rattle.std.proofs.Common.{subst}
 use Rattle.std.proofs.lemmas.Result.{on_ok_weaker, IfErr-weaker}
+use Rattle.node_engine.specs.Told.{Does, Stops, seen}
+use Rattle.node_engine.specs.Units.{posting_parts}
 use Rattle.node_engine.proofs.Breaking.{breaks_first, breaks_later, done_later, handed}
 use Rattle.node_engine.proofs.node.Node.stepped.Goals as goal
 
@@ -9,12 +12,30 @@ returns-in_err-noted-clause-err g c =
 
 pub returns-in-Some-clause-ok : goal.returns-in-Some-clause-ok
 returns-in-Some-clause-ok g c =
+    let node = c.args.self.now in
+    let same = c.in_ok-noted.ensures.same in
+    let code = same.same.node.code in
+    let me = same.same.node.me in
     rw c.in-Some.is
-    (on_ok_weaker c.posted.result (λ does. done_later _ _ _ _ _ c.in_ok-noted.ensures.ok does)
-    (rw (c.in_ok-noted.ensures.same.node.code, c.in_ok-noted.ensures.same.node.me) at c.posted.ensures.ok))
+    (on_ok_weaker c.posted.result
+    (λ does.
+    done_later _ _ _ _ _ c.in_ok-noted.ensures.ok
+    (subst (λ seals.
+    Does (posting_parts node.code.now node.me seals c.in-Some.to c.in-Some.message)
+    (seen g.L.Links g.R.Sink c.noted.new.self) (seen g.L.Links g.R.Sink c.posted.new.self)) same.seals_is does))
+    (rw (code, me) at c.posted.ensures.ok))
 
 pub returns-in-Some-clause-err : goal.returns-in-Some-clause-err
 returns-in-Some-clause-err g c =
+    let node = c.args.self.now in
+    let same = c.in_ok-noted.ensures.same in
+    let code = same.same.node.code in
+    let me = same.same.node.me in
     rw c.in-Some.is
-    (IfErr-weaker c.posted.result _ _ (λ error stops. breaks_later error _ _ _ _ _ c.in_ok-noted.ensures.ok stops)
-    (rw (c.in_ok-noted.ensures.same.node.code, c.in_ok-noted.ensures.same.node.me) at c.posted.ensures.err))
+    (IfErr-weaker c.posted.result _ _
+    (λ error stops.
+    breaks_later error _ _ _ _ _ c.in_ok-noted.ensures.ok
+    (subst (λ seals.
+    Stops error (posting_parts node.code.now node.me seals c.in-Some.to c.in-Some.message)
+    (seen g.L.Links g.R.Sink c.noted.new.self) (seen g.L.Links g.R.Sink c.posted.new.self)) same.seals_is stops))
+    (rw (code, me) at c.posted.ensures.err))

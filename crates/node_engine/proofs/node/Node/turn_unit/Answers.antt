@@ -24,5 +24,5 @@ returns-in-Ok-clause-err g c =
 pub returns-in-Err-OutOfMemory-clause-err : goal.returns-in-Err-OutOfMemory-clause-err
 returns-in-Err-OutOfMemory-clause-err g c =
     let some = c.step_laws.ensures.some_turn c.args.self.now.code.now (state_of c.args.self.now.host.now) in
-    turn_stops _ c.args.self.now (step_parts c.args.self.now.code.now c.args.self.now.me turn_line some.0) some.0 _ _
+    turn_stops _ c.args.self.now (step_parts c.args.self.now.code.now c.args.self.now.me c.args.self.now.seals.now turn_line some.0) some.0 _ _
     c.requires.runs some.1 refl (step_stops _ _ _ _ _ c.in-Err-OutOfMemory.ensures.keeps.err)
