@@ -1,5 +1,5 @@
 -- Where a report is due, it is answered, or memory ran out, or a fault was counted.
-use Rattle.std.proofs.Common.{◌≡◌, ◌⊎◌, ℕ, List, Option, Some, codes, inl, inr, subst, ⊎_elim}
+use Rattle.std.proofs.Common.{◌≡◌, ℕ, List, Option, Some, codes, inl, inr, subst, ⊎_elim}
 use Rattle.js_base.specs.Counts.{Rose}
 use Rattle.js_base.specs.declared.status.Status.{Status}
 use Rattle.front_end.specs.Answers.{SinkChange, IsAnswered}

@@ -1,6 +1,6 @@
 -- What the words that a program's text lacks say of the program.
 use Rattle.std.proofs.Common.{◌≡◌, ◌∙◌, ℕ, List, Option, Some, sym, subst}
-use Rattle.js_base.specs.declared.status.Status.TheVariants.{Done, Differ}
+use Rattle.js_base.specs.declared.status.Status.TheVariants.{Differ}
 use Rattle.principals.specs.ActsFor.{Declared}
 use Rattle.jif_lex.specs.declared.token.Token.{Token}
 use Rattle.jif_lex.specs.declared.token.Word.{Word}

@@ -60,8 +60,9 @@ FollowsAltered placed tree bad start events last =
 abbrev pub MakesSteps : Program → Configuration → Configuration → Type 0
 MakesSteps tree c now = (steps : ℕ) × (now ≡ after_steps tree steps c)
 
--- So it is with the plain run itself, none of whose steps is altered: what may not be affected is at every moment what it
--- is after some number of its steps, never fewer than before, and what it is at its end once an obeying root has halted.
+-- So it is with the plain run itself, none of whose steps is altered: what may not be affected is at every moment what
+-- it is after some number of its steps, never fewer than before, and what it is at its end once an obeying root has
+-- halted.
 abbrev pub FollowsUnaltered : PlacedSource → Program → (bad : ℕ) → (start : List (List ℤ)) → List Event → WorldShape →
     Type 0
 FollowsUnaltered placed tree bad start events last =

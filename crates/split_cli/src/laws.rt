@@ -45,8 +45,8 @@ use net_world::laws::{fits_laws, secret_laws, step_laws};
 use placement::placement_laws;
 use simulation::{ending_laws, obeying_laws};
 use source_law::steady_laws;
-use source_words::word_laws;
 use source_run::run_laws;
+use source_words::word_laws;
 use split_rules::{asking_laws, split_laws};
 
 /// Laws of what is due, for who reasons about answers. The call does nothing.

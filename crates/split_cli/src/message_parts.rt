@@ -9,7 +9,8 @@ use event_text::{BadMessage, BadToken, Event};
 use host_code::Message;
 use js_base::{FrameId, HostId, RequestId, SiteId, VarId};
 
-/// What a message says beside its token and what rides: its kind, and then what it names, 0 where its kind names no such thing.
+/// What a message says beside its token and what rides: its kind, and then what it names, 0 where its kind names no such
+/// thing.
 #[derive(Clone, Copy, PartialEq, Eq)]
 pub struct Parts {
     kind: u8,
@@ -234,9 +235,7 @@ fn parts_made(made: &BadMessage) -> Parts
             ..
         } => { parts_with(4, request, frame, entry.0, 0, 0) }
         BadMessage::Rgoto { frame, entry, .. } => parts_with(5, none, frame, entry.0, 0, 0),
-        BadMessage::RgotoWith { frame, entry, .. } => {
-            parts_with(10, none, frame, entry.0, 0, 0)
-        }
+        BadMessage::RgotoWith { frame, entry, .. } => { parts_with(10, none, frame, entry.0, 0, 0) }
         BadMessage::Lgoto { .. } => parts_with(6, none, here, 0, 0, 0),
         BadMessage::Value { request, value } => parts_with(7, request, here, 0, 0, value),
         BadMessage::Ack { request } => parts_with(8, request, here, 0, 0, 0),
