@@ -1123,6 +1123,25 @@ impl Spot {
     fn end(self) -> usize {
         self.back.unwrap_or(self.host)
     }
+
+    /// The host to which the right to go on goes straight from here to the next spot, and to which a value may ride.
+    fn straight_to(self, next: Spot) -> Option<usize> {
+        match (self.back, next.back) {
+            _ if self.host == next.host => None,
+            (None, None) => Some(next.host),
+            (None, Some(back)) if back == self.host => Some(next.host),
+            _ => None,
+        }
+    }
+}
+
+/// The variable to which a statement gives a value.
+fn gives(statement: &Stmt) -> Option<usize> {
+    match statement.kind {
+        StmtKind::Let { var, .. } => Some(var),
+        StmtKind::Call { into, .. } => into,
+        _ => None,
+    }
 }
 
 /// What a plan costs.
@@ -1233,11 +1252,19 @@ impl<'a> Costs<'a> {
         }
     }
 
+    /// The cost of sending a value to each other host of a word, but for the one to which it rides.
+    fn sent(&self, weight: u64, host: usize, word: u16, carried: Option<usize>) -> u64 {
+        let is_told = |other: &usize| *other != host && word >> other & 1 == 1 && carried != Some(*other);
+        (0..self.hosts.hosts.len()).filter(is_told).map(|other| self.exchange(weight, host, other)).sum()
+    }
+
     /// The cost of sending a variable's value to each other host that reads it.
-    fn forwards(&self, weight: u64, host: usize, var: usize) -> u64 {
-        let reading = self.reading[var];
-        let others = (0..self.hosts.hosts.len()).filter(|other| *other != host && reading >> other & 1 == 1);
-        others.map(|other| self.exchange(weight, host, other)).sum()
+    fn forwards(&self, weight: u64, host: usize, var: usize, carried: Option<usize>) -> u64 {
+        self.sent(weight, host, self.reading[var], carried)
+    }
+
+    fn given(&self, weight: u64, host: usize, gives: Option<usize>, carried: Option<usize>) -> u64 {
+        gives.map_or(0, |var| self.forwards(weight, host, var, carried))
     }
 
     fn home(&self, method: usize) -> usize {
@@ -1247,12 +1274,15 @@ impl<'a> Costs<'a> {
     fn block(&self, weight: u64, home: usize, block: &[Stmt]) -> u64 {
         let mut total = 0;
         let mut spot = Spot::on(home);
+        let mut left = None;
         for (place, statement) in block.iter().enumerate() {
             let next = self.next_spot(spot, &block[place..]);
+            total += self.given(weight, spot.host, left, spot.straight_to(next));
             total += self.move_on(weight, spot, next) + self.statement(weight, statement);
+            left = gives(statement);
             spot = next;
         }
-        total + self.leave(weight, spot)
+        total + self.given(weight, spot.host, left, None) + self.leave(weight, spot)
     }
 
     /// The cost of a block in a statement, behind which this host gets back the right to go on.
@@ -1260,10 +1290,11 @@ impl<'a> Costs<'a> {
         self.block(weight, host, block) + self.message(weight, self.block_end(host, block), host)
     }
 
+    /// The cost of a statement, but for what it gives. That is counted at the next one.
     fn statement(&self, weight: u64, statement: &Stmt) -> u64 {
         let host = self.plan.statements[statement.id];
         match &statement.kind {
-            StmtKind::Let { var, value } => self.expr(weight, host, value) + self.forwards(weight, host, *var),
+            StmtKind::Let { value, .. } => self.expr(weight, host, value),
             StmtKind::SetField { field, value } => {
                 self.expr(weight, host, value) + self.field(weight, host, *field)
             }
@@ -1284,12 +1315,12 @@ impl<'a> Costs<'a> {
 
     fn call(&self, weight: u64, host: usize, method: usize, args: &[Expr], into: Option<usize>) -> u64 {
         let params = &self.program.methods[method].params;
+        let (home, end) = (self.home(method), self.ends[method]);
         let given = args.iter().zip(params).map(|(arg, param)| {
-            self.expr(weight, host, arg) + self.forwards(weight, host, *param)
+            self.expr(weight, host, arg) + self.forwards(weight, host, *param, Some(home))
         });
-        let end = self.ends[method];
-        let kept = into.map_or(0, |into| self.exchange(weight, end, host) + self.forwards(weight, host, into));
-        given.sum::<u64>() + self.message(weight, host, self.home(method)) + self.message(weight, end, host) + kept
+        let kept = if into.is_some() { self.exchange(weight, end, host) } else { 0 };
+        given.sum::<u64>() + self.message(weight, host, home) + self.message(weight, end, host) + kept
     }
 
     fn program(&self) -> u64 {
@@ -1316,7 +1347,8 @@ fn cheapest_plan(program: &Program, needs: &Needs, hosts: &Hosts, allowed: &Allo
 #[derive(Clone, Copy)]
 enum Piece<'a> {
     Access { weight: u64, statement: usize, field: usize },
-    Giving { weight: u64, statement: usize, var: usize },
+    Giving { weight: u64, home: usize, block: &'a [Stmt], place: usize, var: usize },
+    Passing { weight: u64, statement: usize, method: usize, var: usize },
     Calling { weight: u64, statement: usize, method: usize, kept: bool },
     Walk { weight: u64, home: usize, nested: bool, block: &'a [Stmt] },
     Ending { method: usize },
@@ -1339,8 +1371,11 @@ impl<'a> Pieces<'a> {
 
     fn walk(&mut self, weight: u64, home: usize, nested: bool, block: &'a [Stmt]) {
         self.all.push(Piece::Walk { weight, home, nested, block });
-        for statement in block {
+        for (place, statement) in block.iter().enumerate() {
             self.statement(weight, statement);
+            if let Some(var) = gives(statement) {
+                self.all.push(Piece::Giving { weight, home, block, place, var });
+            }
         }
     }
 
@@ -1368,10 +1403,7 @@ impl<'a> Pieces<'a> {
     fn statement(&mut self, weight: u64, statement: &'a Stmt) {
         let id = statement.id;
         match &statement.kind {
-            StmtKind::Let { var, value } => {
-                self.expr(weight, id, value);
-                self.all.push(Piece::Giving { weight, statement: id, var: *var });
-            }
+            StmtKind::Let { value, .. } => self.expr(weight, id, value),
             StmtKind::SetField { field, value } => {
                 self.expr(weight, id, value);
                 self.access(weight, id, *field);
@@ -1394,12 +1426,9 @@ impl<'a> Pieces<'a> {
             StmtKind::Call { method, args, into } => {
                 for (arg, param) in args.iter().zip(&self.program.methods[*method].params) {
                     self.expr(weight, id, arg);
-                    self.all.push(Piece::Giving { weight, statement: id, var: *param });
+                    self.all.push(Piece::Passing { weight, statement: id, method: *method, var: *param });
                 }
                 self.all.push(Piece::Calling { weight, statement: id, method: *method, kept: into.is_some() });
-                if let Some(var) = into {
-                    self.all.push(Piece::Giving { weight, statement: id, var: *var });
-                }
             }
             StmtKind::Return { value } => self.expr(weight, id, value),
         }
@@ -1429,8 +1458,13 @@ impl<'a> Index<'a> {
                     note(statement);
                     index.fields[field].push(piece);
                 }
-                Piece::Giving { statement, var, .. } => {
+                Piece::Giving { block, place, var, .. } => {
+                    note(block[place].id);
+                    needs.readers[var].iter().for_each(|reader| note(*reader));
+                }
+                Piece::Passing { statement, method, var, .. } => {
                     note(statement);
+                    note(program.methods[method].head);
                     needs.readers[var].iter().for_each(|reader| note(*reader));
                 }
                 Piece::Calling { statement, method, .. } => {
@@ -1470,15 +1504,34 @@ impl<'a> Costs<'a> {
         self.end_of(self.home(method), &self.program.methods[method].body)
     }
 
+    /// The cost of sending a variable's value to each other host that reads it, behind the move where there is one.
+    fn told(&self, weight: u64, host: usize, var: usize, carried: Option<usize>) -> u64 {
+        let word = self.needs.readers[var].iter().fold(0u16, |word, reader| word | 1 << self.at(*reader));
+        self.sent(weight, host, word, carried)
+    }
+
+    /// The host to which a value rides that is given at a place of a block. A host that is not the home and not trusted
+    /// for what is left does not hold the right to go on.
+    fn carried_at(&self, home: usize, block: &[Stmt], place: usize) -> Option<usize> {
+        let (host, rest) = (self.at(block[place].id), &block[place + 1..]);
+        if rest.is_empty() || self.at(rest[0].id) == host || host != home && !self.is_trusted_for_all(host, rest) {
+            return None;
+        }
+        let (start, spot) = self.last_start(home, block, place + 1);
+        let spot = (start..=place).fold(spot, |spot, place| self.next_spot(spot, &block[place..]));
+        spot.straight_to(self.next_spot(spot, rest))
+    }
+
     /// What a piece costs that is no walk.
     fn piece(&self, piece: &Piece) -> u64 {
         match *piece {
             Piece::Access { weight, statement, field } => self.field(weight, self.at(statement), field),
-            Piece::Giving { weight, statement, var } => {
-                let word = self.needs.readers[var].iter().fold(0u16, |word, reader| word | 1 << self.at(*reader));
-                let host = self.at(statement);
-                let others = (0..self.hosts.hosts.len()).filter(|other| *other != host && word >> other & 1 == 1);
-                others.map(|other| self.exchange(weight, host, other)).sum()
+            Piece::Giving { weight, home, block, place, var } => {
+                let carried = self.carried_at(self.at(home), block, place);
+                self.told(weight, self.at(block[place].id), var, carried)
+            }
+            Piece::Passing { weight, statement, method, var } => {
+                self.told(weight, self.at(statement), var, Some(self.home(method)))
             }
             Piece::Calling { weight, statement, method, kept } => {
                 let (host, end) = (self.at(statement), self.found_end(method));
@@ -1505,8 +1558,14 @@ impl<'a> Costs<'a> {
     }
 }
 
-/// What a walk costs before and behind the move of a statement. Both are gone over in step, from the last known spot up
-/// to the statement to where they meet behind it.
+/// The variable to which the statement before a place gives a value that the move of another one does not touch.
+fn untouched(needs: &Needs, moved: usize, block: &[Stmt], place: usize) -> Option<usize> {
+    let statement = &block[place.checked_sub(1)?];
+    gives(statement).filter(|var| statement.id != moved && !needs.readers[*var].contains(&moved))
+}
+
+/// What a walk costs before and behind the move of a statement, with what others give than this one and what it does
+/// not read. Both are gone over in step, from the last known spot up to the statement to where they meet behind it.
 fn walk_change(before: &Costs, after: &Costs, weight: u64, home: usize, nested: bool, block: &[Stmt]) -> Change {
     let moved = after.moved.expect("a move").0;
     let place = block.partition_point(|statement| statement.id < moved);
@@ -1519,15 +1578,26 @@ fn walk_change(before: &Costs, after: &Costs, weight: u64, home: usize, nested: 
         change.before += before.message(weight, before.end_of(old_home, block), old_home);
         change.after += after.message(weight, after.end_of(new_home, block), new_home);
     }
+    let give = |change: &mut Change, place: usize, one: (usize, Option<usize>), other: (usize, Option<usize>)| {
+        if one != other {
+            if let Some(var) = untouched(before.needs, moved, block, place) {
+                change.before += before.told(weight, one.0, var, one.1);
+                change.after += after.told(weight, other.0, var, other.1);
+            }
+        }
+    };
     for place in start..block.len() {
         if place >= same_from && first == second {
             return change;
         }
         let (next, then) = (before.next_spot(first, &block[place..]), after.next_spot(second, &block[place..]));
+        let (one, other) = ((first.host, first.straight_to(next)), (second.host, second.straight_to(then)));
+        give(&mut change, place, one, other);
         change.before += before.move_on(weight, first, next);
         change.after += after.move_on(weight, second, then);
         (first, second) = (next, then);
     }
+    give(&mut change, block.len(), (first.host, None), (second.host, None));
     change.before += before.leave(weight, first);
     change.after += after.leave(weight, second);
     change

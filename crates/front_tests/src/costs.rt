@@ -55,16 +55,21 @@ const SLOW_WAY_BACK: &str = "principals = []\n\
 const SLOW_PLANS: &str = "\
     18 | ABBA | BAB | int{} p; int{} q; int{} v; int{} w; void main{}() { p = p + v; q = q + w; } \
     | B hands the token on to A: 5. A reads v of B: 1 and 5. A hands it on to B: 1. B reads w of A: 5 and 1.\n\
-    42 | A | ABBAAAB | int{} r; int{} twice{}(int{} n) { int m = n + n; return m; } \
+    36 | A | ABBAAAB | int{} r; int{} twice{}(int{} n) { int m = n + n; return m; } \
     void main{}() { int{} x = 3; x = twice(x); r = x; } \
     | x goes to B, which reads it later: 6. The parameter goes to B, which reads it: 6. The method begins on A, \
     where the call stands, and A hands the token on to B: 1. From its end the token goes to A: 5, and the result: 6. \
-    So x has another value, which goes to B: 6. A hands the token on to B: 1, which writes r on A: 6. The end of \
-    `main` goes from B to A: 5.\n\
-    48 | A | BABAAAB | int{} r; int{} twice{}(int{} n) { int m = n + n; return m; } \
+    So x has another value. It rides with the token, which A hands on to B: 1. B writes r on A: 6. The end of `main` \
+    goes from B to A: 5.\n\
+    30 | A | BBBAAAB | int{} r; int{} twice{}(int{} n) { int m = n + n; return m; } \
+    void main{}() { int{} x = 3; x = twice(x); r = x; } \
+    | x goes to B: 6. The method begins and ends on B, and the parameter rides with the token to it: 1. From its end \
+    on all is as before: 23.\n\
+    36 | A | BABAAAB | int{} r; int{} twice{}(int{} n) { int m = n + n; return m; } \
     void main{}() { int{} x = 3; x = twice(x); r = x; } \
     | x goes to B: 6. The method begins on B: 1, which hands the token on to A: 5. That is where the parameter is \
-    read, and the call stands there too. A sends m to B: 6, and the token: 1. From its end on all is as before: 29.";
+    read, and the call stands there too. A hands the token on to B, with which m rides: 1. From its end on all is as \
+    before: 23.";
 
 /// A host that Alice trusts, and two of which she trusts the second. Each message from B to A costs 3.
 const LENDING_HOSTS: &str = "principals = [\"Alice\"]\n\
@@ -73,11 +78,15 @@ const LENDING_HOSTS: &str = "principals = [\"Alice\"]\n\
     [[host]]\nname = \"C\"\nlabel = \"{?: Alice}\"\n\
     [[link]]\nfrom = \"B\"\nto = \"A\"\ncost = 3\n";
 
-/// A plan where the token is lent.
+/// Plans where the token is lent.
 const LENDING_PLANS: &str = "\
     5 | BC | ABC | int{} u; int{?: Alice} n; void main{?: Alice}() { u = 1; n = 1; } \
     | B is not trusted with what follows, so it is lent the token. The way over C costs 1 and 1, which is less than \
-    3. So A asks C to name itself: 2. A sends the token to B: 1, B gives it to C: 1, and C ends at A: 1.";
+    3. So A asks C to name itself: 2. A sends the token to B: 1, B gives it to C: 1, and C ends at A: 1.\n\
+    9 | BC | AABC | int{} u; int{?: Alice} n; void main{?: Alice}() { int{} x = 2; u = x; n = 1; } \
+    | As C takes the token back and not A, x does not ride: it goes to B, 1 and 3. From there on all is as before: 5.\n\
+    4 | BA | AABA | int{} u; int{?: Alice} n; void main{?: Alice}() { int{} x = 2; u = x; n = 1; } \
+    | A goes on behind B and takes the token back itself. So x rides with the token to B: 1, and B gives it back: 3.";
 
 /// A host that Alice trusts, and two that she does not trust. Each message from B to A costs 9.
 const TRUSTED_ALONE: &str = "principals = [\"Alice\"]\n\
@@ -86,11 +95,14 @@ const TRUSTED_ALONE: &str = "principals = [\"Alice\"]\n\
     [[host]]\nname = \"C\"\nlabel = \"{}\"\n\
     [[link]]\nfrom = \"B\"\nto = \"A\"\ncost = 9\n";
 
-/// A plan where it is lent twice.
+/// Plans where it is lent twice.
 const LENDING_TWICE: &str = "\
     12 | BCA | ABCA | int{} u; int{} v; int{?: Alice} n; void main{?: Alice}() { u = 1; v = 1; n = 1; } \
     | C is not trusted either with what follows, so A lends the token to both of them in turn. To B and back 1 and \
-    9, to C and back 2.";
+    9, to C and back 2.\n\
+    14 | BCA | ABCA | int{} u; int{} v; int{?: Alice} n; void main{?: Alice}() { int{} x = 1; v = x; n = 1; } \
+    | The token goes from B to A before it goes to C. So x does not ride: it goes from B to C, there and back 2. The \
+    rest is as before: 12.";
 
 /// The hosts of letters, in their order.
 fn placed(alloc: Global, letters: &str) -> Result<Vec<HostId>, AllocError> {

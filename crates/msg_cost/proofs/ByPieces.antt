@@ -1,5 +1,6 @@
 -- The cost of a program is that of its pieces.
-use Rattle.std.proofs.Common.{◌≡◌, ◌∙◌, ℕ, suc, ◌+◌, Bool, true, false, List, [], ◌∷◌, ◌++◌, drop, length, refl, ap, sym}
+use Rattle.std.proofs.Common.{◌≡◌, ◌∙◌, ℕ, suc, ◌+◌, Bool, true, false, List, [], ◌∷◌, ◌++◌, drop, length, refl, ap}
+use Rattle.std.proofs.Common.{sym}
 use Rattle.std.proofs.Common.{append_assoc, length-append, arith}
 use Rattle.std.proofs.lemmas.List.Sums.{sum_by-append}
 use Rattle.std.specs.Prelude.{Option, Some, None, if◌then◌else◌}
@@ -42,8 +43,9 @@ record Same (planned : PlannedShape) (moved : Option StmtId) (terms : List Term)
     Type 0 where
   pub cost : cost_of planned.hosts terms ≡ pieces_cost planned moved pieces
 
-both : (planned : PlannedShape) (moved : Option StmtId) (terms others : List Term) (pieces more : List Piece) → Same planned moved terms pieces →
-    Same planned moved others more → Same planned moved (terms ++ others) (pieces ++ more)
+both : (planned : PlannedShape) (moved : Option StmtId) (terms others : List Term) (pieces more : List Piece) →
+    Same planned moved terms pieces → Same planned moved others more →
+    Same planned moved (terms ++ others) (pieces ++ more)
 both planned moved terms others pieces more one two = record {
   cost =
       let all = cost-append planned.hosts terms others in
@@ -63,7 +65,8 @@ expr_same planned moved weight id (number value) = record { cost = refl }
 expr_same planned moved weight id (local x) = record { cost = refl }
 expr_same planned moved weight id (scalar field) = one_piece planned moved (access weight id field) _ refl
 expr_same planned moved weight id (element field index) =
-    both planned moved _ _ _ _ (expr_same planned moved weight id index) (one_piece planned moved (access weight id field) _ refl)
+    both planned moved _ _ _ _ (expr_same planned moved weight id index)
+    (one_piece planned moved (access weight id field) _ refl)
 expr_same planned moved weight id (inverted operand) = expr_same planned moved weight id operand
 expr_same planned moved weight id (negated operand) = expr_same planned moved weight id operand
 expr_same planned moved weight id (binary operator left right) =
@@ -71,14 +74,15 @@ expr_same planned moved weight id (binary operator left right) =
 expr_same planned moved weight id (declassified operand label) = expr_same planned moved weight id operand
 expr_same planned moved weight id (endorsed operand label) = expr_same planned moved weight id operand
 
-arguments_same : (planned : PlannedShape) (moved : Option StmtId) (weight : ℕ) (id : StmtId) (method : MethodId) (params : List VarId)
-    (arguments : List ExprTree) →
+arguments_same : (planned : PlannedShape) (moved : Option StmtId) (weight : ℕ) (id : StmtId) (method : MethodId)
+    (params : List VarId) (arguments : List ExprTree) →
     Same planned moved (argument_terms planned weight (statement_host planned.plan id)
     (called_home planned (method_at planned.program method)) params arguments)
     (argument_pieces weight id method params arguments)
 arguments_same planned moved weight id method params [] = record { cost = refl }
 arguments_same planned moved weight id method [] (argument ∷ others) =
-    both planned moved _ _ _ _ (expr_same planned moved weight id argument) (arguments_same planned moved weight id method [] others)
+    both planned moved _ _ _ _ (expr_same planned moved weight id argument)
+    (arguments_same planned moved weight id method [] others)
 arguments_same planned moved weight id method (param ∷ params) (argument ∷ others) =
     both planned moved _ _ _ _
     (both planned moved _ _ _ _ (expr_same planned moved weight id argument)
@@ -316,7 +320,8 @@ nested_same planned moved weight id block walked = record {
       let own = given_statements block in
       let back : List StmtId → List Term = λ ids. message weight (end_host planned (on host) ids) host ∷ [] in
       let back_is = ap (λ (ids : List StmtId). cost_of planned.hosts (back ids)) (given_own block) in
-      let first = cost-append planned.hosts (block_terms planned weight (on host) block) (back (own_statements block)) in
+      let first = cost-append planned.hosts (block_terms planned weight (on host) block)
+      (back (own_statements block)) in
       let second = cost-append planned.hosts (walk_terms planned moved weight (on host) None own)
       (back (given_ids own)) in
       let parts = pieces-cons planned moved (walk weight id true own)
@@ -331,7 +336,8 @@ block_walked : (planned : PlannedShape) (moved : Option StmtId) (weight : ℕ) (
     Walked planned moved weight home own place spot left block
 block_walked planned moved weight home own place spot left done is = record {
   cost =
-      let parts = cost-append planned.hosts (given_terms planned weight spot.host left None) (leave_terms weight spot) in
+      let parts = cost-append planned.hosts (given_terms planned weight spot.host left None)
+      (leave_terms weight spot) in
       omega arith;
 }
 block_walked planned moved weight home own place spot left (set_local heading x value rest) is =

@@ -42,17 +42,17 @@ to_next planned weight host x carried n =
     ∙ ap (map send) (filter-append gets (range_with_len 0 n) (n ∷ []))
     ∙ map-append send (filter gets (range_with_len 0 n)) (filter gets (n ∷ []))
 
-chosen : (planned : PlannedShape) (host : HostId) (x : VarId) (carried : Option HostId) (n : ℕ) → is_told planned host x carried n ≡ true →
-    filter (is_told planned host x carried) (n ∷ []) ≡ n ∷ []
+chosen : (planned : PlannedShape) (host : HostId) (x : VarId) (carried : Option HostId) (n : ℕ) →
+    is_told planned host x carried n ≡ true → filter (is_told planned host x carried) (n ∷ []) ≡ n ∷ []
 chosen planned host x carried n does = ap (λ b. cond b (n ∷ []) []) does
 
-not_chosen : (planned : PlannedShape) (host : HostId) (x : VarId) (carried : Option HostId) (n : ℕ) → is_told planned host x carried n ≡ false →
-    filter (is_told planned host x carried) (n ∷ []) ≡ []
+not_chosen : (planned : PlannedShape) (host : HostId) (x : VarId) (carried : Option HostId) (n : ℕ) →
+    is_told planned host x carried n ≡ false → filter (is_told planned host x carried) (n ∷ []) ≡ []
 not_chosen planned host x carried n not_so = ap (λ b. cond b (n ∷ []) []) not_so
 
--- a host that reads the variable, and is not the one that sends
-pub one_gets : (planned : PlannedShape) (weight : ℕ) (host : HostId) (x : VarId) (carried : Option HostId) (n total other : ℕ) →
-    n ≢ host.0 → reads_on planned x n ≡ true → is_to carried n ≡ false →
+-- a host that reads the variable, is not the one that sends, and to which the value does not ride
+pub one_gets : (planned : PlannedShape) (weight : ℕ) (host : HostId) (x : VarId) (carried : Option HostId)
+    (n total other : ℕ) → n ≢ host.0 → reads_on planned x n ≡ true → is_to carried n ≡ false →
     other ≡ capped (cost_of planned.hosts (exchange weight host (record { 0 = n }) ∷ [])) →
     Costs planned.hosts (forwards_below planned weight host x carried n) total →
     Costs planned.hosts (forwards_below planned weight host x carried (n + 1)) (min (total + other) (2 ^ 64 - 1))
@@ -62,19 +62,21 @@ one_gets planned weight host x carried n total other apart reads rides cost so =
     let does : is_told planned host x carried n ≡ true =
     rw (ne_eqb n host.0 apart, reads, rides) refl in
     subst P (sym (to_next planned weight host x carried n
-    ∙ ap (λ more. forwards_below planned weight host x carried n ++ map send more) (chosen planned host x carried n does)))
+    ∙ ap (λ more. forwards_below planned weight host x carried n ++ map send more)
+    (chosen planned host x carried n does)))
     (costs_both planned.hosts (forwards_below planned weight host x carried n) (send n ∷ []) total other so cost)
 
--- the host that sends, or one that does not read the variable
-pub one_gets_not : (planned : PlannedShape) (weight : ℕ) (host : HostId) (x : VarId) (carried : Option HostId) (n total : ℕ) →
-    is_told planned host x carried n ≡ false →
+-- a host that is not told the value
+pub one_gets_not : (planned : PlannedShape) (weight : ℕ) (host : HostId) (x : VarId) (carried : Option HostId)
+    (n total : ℕ) → is_told planned host x carried n ≡ false →
     Costs planned.hosts (forwards_below planned weight host x carried n) total →
     Costs planned.hosts (forwards_below planned weight host x carried (n + 1)) total
 one_gets_not planned weight host x carried n total not_so so =
     let send : ℕ → Term = λ one. exchange weight host (record { 0 = one }) in
     let P : List Term → Type 0 = λ terms. Costs planned.hosts terms total in
     subst P (sym (to_next planned weight host x carried n
-    ∙ ap (λ more. forwards_below planned weight host x carried n ++ map send more) (not_chosen planned host x carried n not_so)
+    ∙ ap (λ more. forwards_below planned weight host x carried n ++ map send more)
+    (not_chosen planned host x carried n not_so)
     ∙ append-nil (forwards_below planned weight host x carried n))) so
 
 pub true_not_false : true ≡ false → ⊥

@@ -156,7 +156,8 @@ arguments_none : (planned : PlannedShape) → AreHosts planned.hosts → (host :
     cost_of planned.hosts (argument_terms planned weight host home params arguments) ≡ 0
 arguments_none planned sound host stands method home params [] there weight = refl
 arguments_none planned sound host stands method home [] (argument ∷ others) there weight =
-    both_none planned.hosts (expr_terms planned weight host argument) (argument_terms planned weight host home [] others)
+    both_none planned.hosts (expr_terms planned weight host argument)
+    (argument_terms planned weight host home [] others)
     (expr_none planned sound host stands method argument there.0 weight)
     (arguments_none planned sound host stands method home [] others there.1 weight)
 arguments_none planned sound host stands method home (param ∷ params) (argument ∷ others) there weight =

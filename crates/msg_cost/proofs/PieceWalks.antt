@@ -1,5 +1,6 @@
 -- The pieces of a block, a statement at a time.
-use Rattle.std.proofs.Common.{◌≡◌, ◌∙◌, ℕ, suc, Bool, true, List, [], ◌∷◌, ◌++◌, map, refl, ap, sym, append-nil, append_assoc}
+use Rattle.std.proofs.Common.{◌≡◌, ◌∙◌, ℕ, suc, Bool, true, List, [], ◌∷◌, ◌++◌, map, refl, ap, sym, append-nil}
+use Rattle.std.proofs.Common.{append_assoc}
 use Rattle.std.specs.List.{flat_map}
 use Rattle.std.proofs.lemmas.List.{map-append}
 use Rattle.js_base.specs.declared.ids.StmtId.{StmtId}
@@ -90,8 +91,8 @@ method_more program so_far next all method others was is =
 
 -- ---- branches and loops
 
-pub branch_pieces : (program : ProgramTree) (weight : ℕ) (home : StmtId) (own : List Given) (place : ℕ) (heading : Heading) (guard : ExprTree)
-    (first second : BlockTree) (old read one two : List Piece) →
+pub branch_pieces : (program : ProgramTree) (weight : ℕ) (home : StmtId) (own : List Given) (place : ℕ)
+    (heading : Heading) (guard : ExprTree) (first second : BlockTree) (old read one two : List Piece) →
     read ≡ old ++ expr_pieces weight heading.id guard →
     one ≡ read ++ (walk weight heading.id true (given_statements first)
     ∷ block_pieces program weight heading.id (given_statements first) 0 first) →
@@ -111,8 +112,9 @@ branch_pieces program weight home own place heading guard first second old read 
     ∙ append_assoc old (guards ++ firsts) seconds
     ∙ ap (λ (mine : List Piece). old ++ mine) (sym (append-nil (guards ++ firsts ++ seconds)))
 
-pub loop_pieces : (program : ProgramTree) (weight : ℕ) (home : StmtId) (own : List Given) (place : ℕ) (heading : Heading) (guard : ExprTree) (body : BlockTree)
-    (old read one : List Piece) → read ≡ old ++ expr_pieces (inside weight) heading.id guard →
+pub loop_pieces : (program : ProgramTree) (weight : ℕ) (home : StmtId) (own : List Given) (place : ℕ)
+    (heading : Heading) (guard : ExprTree) (body : BlockTree) (old read one : List Piece) →
+    read ≡ old ++ expr_pieces (inside weight) heading.id guard →
     one ≡ read
     ++ (walk (inside weight) heading.id true (given_statements body)
     ∷ block_pieces program (inside weight) heading.id (given_statements body) 0 body) →

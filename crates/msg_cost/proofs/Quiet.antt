@@ -1,4 +1,4 @@
--- Where a move leaves the readers of what is given that it does not touch.
+-- A move leaves the readers of what is given that it does not touch on their hosts.
 use Rattle.std.proofs.Common.{◌≡◌, ◌≢◌, ◌∙◌, ◌||◌, Bool, true, false, ℕ, nat_eq, List, [], ◌∷◌, map, refl, ap, sym}
 use Rattle.std.specs.Prelude.{Option, Some, None, slice_get, unwrap_or, if◌then◌else◌}
 use Rattle.std.specs.List.{list_any}
@@ -11,6 +11,7 @@ use Rattle.msg_cost.specs.Pieces.{Piece, access, giving, passing, calling, walk,
 use Rattle.msg_cost.specs.Rows.{has_number}
 use Rattle.msg_cost.specs.Touches.{statements_of}
 use Rattle.msg_cost.specs.Walks.{SameHosts}
+use Rattle.msg_cost.proofs.Forwards.{true_not_false}
 use Rattle.msg_cost.proofs.Independent.{ReadersStay, Quiet, NotTouched}
 
 -- the plan behind a move leaves the statements of other numbers
@@ -20,10 +21,7 @@ Stay planned plan statement = (other : StmtId) → other.0 ≢ statement.0 →
 
 pub neither : (first second : Bool) → (first || second) ≡ false → (first ≡ false) × (second ≡ false)
 neither false second is = (refl, is)
-neither true second is = absurd (differ is)
-  where
-    differ : true ≡ false → ⊥
-    differ same = cc
+neither true second is = absurd (true_not_false is)
 
 pub apart : (one other : ℕ) → nat_eq one other ≡ false → other ≢ one
 apart one other not same = eqb-false one other not (sym same)

@@ -97,12 +97,6 @@ less planned home statement others host holds = elim holds [
       inr (tail_trusted (is_trusted_for planned host statement) (is_trusted_for_all planned host others) trusted)
 ]
 
--- what holds of both choices
-picked : (P : HostId → Type 0) (test : Bool) (first second : HostId) → (test ≡ true → P first) → P second →
-    P (if test then first else second)
-picked P true first second one other = one refl
-picked P false first second one other = other
-
 first_true : (first second : Bool) → (first && second) ≡ true → first ≡ true
 first_true true second is = refl
 first_true false second is = is
@@ -115,7 +109,7 @@ given_back planned home from host statements holds = split (host_behind planned 
         Holds planned home statements (return_host planned from host statements)
     split None is = rw is holds
     split (Some next) is =
-        rw is (picked (Holds planned home statements) _ next from (λ both. inr (first_true _ _ both)) holds)
+        rw is (chosen _ (Holds planned home statements) next from (λ both. inr (first_true _ _ both)) (λ not. holds))
 
 entered_holds : (planned : PlannedShape) (home from host : HostId) (statements : List StmtId) →
     Holds planned home statements from →

@@ -1,18 +1,15 @@
 -- Spots of a walk: where they stand, and when they are the same under two plans.
 use Rattle.std.proofs.Common.{◌≡◌, ◌≢◌, ◌∙◌, ◌⊎◌, inl, inr, ℕ, zero, suc, ◌<◌, ◌≤◌, Bool, true, false, ◌&&◌, List}
-use Rattle.std.proofs.Common.{[], ◌∷◌, ◌++◌}
-use Rattle.std.proofs.Common.{length, get_or, take, drop, refl, ap, sym, append_assoc, arith}
-use Rattle.std.specs.Prelude.{Option, Some, None, if◌then◌else◌}
+use Rattle.std.proofs.Common.{[], ◌∷◌, ◌++◌, length, get_or, take, drop, refl, ap, sym, append_assoc, arith}
 use Rattle.std.proofs.lemmas.Bool.{cases_Bool, cases_eq, eqb-true, eq-eqb}
+use Rattle.std.specs.Prelude.{Option, Some, None, if◌then◌else◌}
 use Rattle.js_base.specs.declared.ids.HostId.{HostId}
 use Rattle.js_base.specs.declared.ids.StmtId.{StmtId}
 use Rattle.js_base.specs.declared.ids.VarId.{VarId}
 use Rattle.need_labels.specs.Plan.{PlanShape, statement_host}
 use Rattle.msg_cost.specs.declared.spot.Spot.{Spot}
-use Rattle.msg_cost.specs.Moves.{PlannedShape, is_same, is_trusted_for, is_trusted_for_all, host_behind}
-use Rattle.msg_cost.specs.Moves.{return_host, on}
-use Rattle.msg_cost.specs.Moves.{end_of, entered, next_spot, end_host}
-use Rattle.msg_cost.specs.Moves.{straight_to}
+use Rattle.msg_cost.specs.Moves.{PlannedShape, is_same, is_trusted_for, is_trusted_for_all, host_behind, return_host}
+use Rattle.msg_cost.specs.Moves.{on, end_of, entered, next_spot, straight_to, end_host}
 use Rattle.msg_cost.specs.Pieces.{Given, given_ids, untouched, gives_behind, walk_terms}
 use Rattle.msg_cost.specs.Terms.{Term, move_terms, given_terms}
 use Rattle.msg_cost.specs.Walks.{spot_behind, under, SameHosts}
@@ -21,7 +18,7 @@ use Rattle.msg_cost.proofs.Independent.{ReadersStay, Quiet, given_same}
 -- ---- choices
 
 -- what holds of both choices holds of the one that a test makes
-pub chosen : (test : Bool) (P : Spot → Type 0) (first second : Spot) → (test ≡ true → P first) →
+pub chosen : {A : Type 0} (test : Bool) (P : A → Type 0) (first second : A) → (test ≡ true → P first) →
     (test ≡ false → P second) → P (if test then first else second)
 chosen true P first second one other = one refl
 chosen false P first second one other = other refl

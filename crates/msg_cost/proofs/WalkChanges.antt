@@ -1,28 +1,27 @@
 -- What walks cost before and behind the move of one statement.
 use Rattle.std.proofs.Common.{◌≡◌, ◌≢◌, ◌∙◌, inl, inr, ℕ, zero, suc, ◌+◌, ◌-◌, ◌^◌, ◌<◌, ◌≤◌, min, List, [], ◌∷◌, ◌++◌}
 use Rattle.std.proofs.Common.{true, false, length, get_or, take, drop, append-nil, refl, ap, sym, subst, arith}
-use Rattle.std.specs.Prelude.{Option, Some, None}
-use Rattle.js_base.specs.declared.ids.VarId.{VarId}
 use Rattle.std.proofs.lemmas.List.{take_more, map-append}
 use Rattle.std.proofs.lemmas.List.Sums.{sum_by-cons, sum_by-append}
 use Rattle.std.proofs.lemmas.Bool.{cases_eq, cases_lt}
+use Rattle.std.specs.Prelude.{Option, Some, None}
 use Rattle.host_decl.specs.Hosts.{HostsShape}
 use Rattle.js_base.specs.declared.ids.HostId.{HostId}
 use Rattle.js_base.specs.declared.ids.StmtId.{StmtId}
+use Rattle.js_base.specs.declared.ids.VarId.{VarId}
 use Rattle.jif_tree.specs.declared.program.Stmt.{Stmt}
+use Rattle.need_labels.specs.Needs.{NeedsShape}
 use Rattle.need_labels.specs.Plan.{PlanShape, statement_host}
 use Rattle.msg_cost.specs.declared.around.Around.{Around}
+use Rattle.msg_cost.specs.declared.piece.Piece.{Piece as Kept}
 use Rattle.msg_cost.specs.declared.spot.Spot.{Spot}
 use Rattle.msg_cost.specs.declared.walk_change.Change.{Change}
 use Rattle.msg_cost.specs.Cost.{cost_of}
-use Rattle.msg_cost.specs.Moves.{PlannedShape, on, end_host}
-use Rattle.msg_cost.specs.declared.piece.Piece.{Piece as Kept}
+use Rattle.msg_cost.specs.Moves.{PlannedShape, on, next_spot, straight_to, end_host}
 use Rattle.msg_cost.specs.Pieces.{Given, given_ids, untouched, gives_behind, walk, walk_terms, piece_cost, walk_cost}
 use Rattle.msg_cost.specs.Pieces.{walks_cost}
 use Rattle.msg_cost.specs.PieceViews.{given_of, givens_of, piece_shape, all_pieces}
-use Rattle.msg_cost.specs.Moves.{next_spot, straight_to}
 use Rattle.msg_cost.specs.Terms.{Term, message, leave_terms, move_terms, given_terms}
-use Rattle.need_labels.specs.Needs.{NeedsShape}
 use Rattle.msg_cost.specs.Views.{ids_of, capped}
 use Rattle.msg_cost.specs.Walks.{number_at, spot_behind, under, SameHosts, IsAround, IsMoved, IsChange}
 use Rattle.msg_cost.proofs.Independent.{ReadersStay, Quiet, walk_same}
@@ -358,11 +357,12 @@ whole_changed planned plan statement home weight block most place at at_then lef
 
 -- ---- the way back behind a nested block
 
-pub without_back : (first second : PlannedShape) (part : Option StmtId) (weight : ℕ) (home : StmtId) (own : List Given) (change : Change) →
-    second.hosts ≡ first.hosts →
+pub without_back : (first second : PlannedShape) (part : Option StmtId) (weight : ℕ) (home : StmtId)
+    (own : List Given) (change : Change) → second.hosts ≡ first.hosts →
     IsChange (cost_of first.hosts (walk_terms first part weight (on (statement_host first.plan home)) None own))
     (cost_of first.hosts (walk_terms second part weight (on (statement_host second.plan home)) None own)) change →
-    IsChange (piece_cost first part (walk weight home false own)) (piece_cost second part (walk weight home false own)) change
+    IsChange (piece_cost first part (walk weight home false own)) (piece_cost second part (walk weight home false own))
+    change
 without_back first second part weight home own change same changed =
     let moves = walk_terms first part weight (on (statement_host first.plan home)) None own in
     let moves_then = walk_terms second part weight (on (statement_host second.plan home)) None own in
@@ -385,7 +385,8 @@ pub with_back : (first second : PlannedShape) (part : Option StmtId) (weight : �
     (end_host second (on (statement_host second.plan home)) (given_ids own)) (statement_host second.plan home) ∷ [])) →
     next.before ≡ min (change.before + back.before) (2 ^ 64 - 1) →
     next.after ≡ min (change.after + back.after) (2 ^ 64 - 1) →
-    IsChange (piece_cost first part (walk weight home true own)) (piece_cost second part (walk weight home true own)) next
+    IsChange (piece_cost first part (walk weight home true own)) (piece_cost second part (walk weight home true own))
+    next
 with_back first second part weight home own change back next same changed was now before after =
     let moves = walk_terms first part weight (on (statement_host first.plan home)) None own in
     let moves_then = walk_terms second part weight (on (statement_host second.plan home)) None own in
@@ -408,8 +409,8 @@ with_back first second part weight home own change back next same changed was no
 
 -- ---- the walks of a row
 
-walks_more : (planned : PlannedShape) (part : Option StmtId) (row : List Kept) (place : ℕ) (piece : Kept) → place < length row →
-    piece ≡ get_or row place piece →
+walks_more : (planned : PlannedShape) (part : Option StmtId) (row : List Kept) (place : ℕ) (piece : Kept) →
+    place < length row → piece ≡ get_or row place piece →
     walks_cost planned part (all_pieces (take (place + 1) row))
     ≡ walks_cost planned part (all_pieces (take place row)) + walk_cost planned part (piece_shape piece)
 walks_more planned part row place piece within is =
@@ -424,8 +425,8 @@ walks_more planned part row place piece within is =
 -- one more walk
 pub row_walked : (first second : PlannedShape) (part : Option StmtId) (row : List Kept) (place : ℕ) (piece : Kept)
     (change one next : Change) → place < length row → piece ≡ get_or row place piece →
-    IsChange (walks_cost first part (all_pieces (take place row))) (walks_cost second part (all_pieces (take place row)))
-    change →
+    IsChange (walks_cost first part (all_pieces (take place row)))
+    (walks_cost second part (all_pieces (take place row))) change →
     IsChange (walk_cost first part (piece_shape piece)) (walk_cost second part (piece_shape piece)) one →
     next.before ≡ min (change.before + one.before) (2 ^ 64 - 1) →
     next.after ≡ min (change.after + one.after) (2 ^ 64 - 1) →

@@ -222,7 +222,7 @@ read_needs = needs_with (1 ∷ 1 ∷ 1 ∷ 0 ∷ 1 ∷ []) ((3 ∷ []) ∷ [])
 abbrev pub read_plan : PlanShape
 read_plan = plan_of (0 ∷ 1 ∷ []) (0 ∷ 0 ∷ 0 ∷ 1 ∷ 0 ∷ [])
 
--- `x = 2; p = p + x; q = q + 1;`, each on another host, of which the second is lent the right to go on
+-- `x = 2; p = p + x; q = q + 1;`, each on another host, of three. The second is lent the right to go on.
 abbrev pub read_ahead : Labelled
 read_ahead = program_of (set_local (at 1) (variable 0) (number (pos 2))
     (set_field (at 2) (field 0) (binary Add (scalar (field 0)) (local (variable 0)))
@@ -234,7 +234,7 @@ ahead_needs = needs_with (3 ∷ 0 ∷ 0 ∷ 1 ∷ []) ((2 ∷ []) ∷ [])
 abbrev pub ahead_plan : PlanShape
 ahead_plan = plan_of (1 ∷ 2 ∷ []) (0 ∷ 0 ∷ 1 ∷ 2 ∷ [])
 
--- the same three hosts as for `told_ahead`, where the way back costs 1
+-- the three hosts of `told_ahead`, where each message costs 1
 abbrev pub near_hosts : HostsShape
 near_hosts = record told_hosts { costs = (0 ∷ 1 ∷ 1 ∷ []) ∷ (1 ∷ 0 ∷ 1 ∷ []) ∷ (1 ∷ 1 ∷ 0 ∷ []) ∷ [] }
 

@@ -6,6 +6,10 @@
 -- A walk over a block stands at a spot. A spot is a host, and perhaps the host to which it gives the right to go on
 -- back. So the next statement decides whether a segment goes on, and no list of statements is cut. The splitting goes
 -- over the same spots.
+--
+-- A value that a statement gives to a variable rides where the message that hands the token over from that statement's
+-- host takes the value along to the host of the next statement. What rides depends on the two spots alone: a host that
+-- does not read the variable is sent nothing, whether a value may ride to it or not.
 use Rattle.std.specs.Prelude.{ℕ, ◌+◌, Bool, false, ◌&&◌, nat_eq, nat_lt, nat_le, if◌then◌else◌}
 use Rattle.std.specs.Prelude.{List, [], ◌∷◌, Option, Some, None, slice_get, slice_index, option_map, unwrap_or}
 use Rattle.std.specs.Int.{bit_at}
@@ -107,9 +111,9 @@ next_spot planned spot statement others =
 
 -- ---- what rides
 
--- The host to which the token goes from a spot straight to the next: it is handed on, or the host that has it pushes
--- the entry that is to get it back. There is none where the token stays, where a lent segment gives it back first, or
--- where another host is asked for the entry.
+-- The host to which the token goes from a spot straight to the next: it is handed on, or lent by the host that is to
+-- get it back. There is none where the token stays, where a lent segment gives it back first, or where another host is
+-- asked to take it back.
 abbrev pub straight_to : Spot → Spot → Option HostId
 straight_to spot next = if is_same spot.host next.host then None else leaves spot.back next.back
   where

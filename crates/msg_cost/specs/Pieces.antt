@@ -70,7 +70,8 @@ untouched needs moved given = left given.gives
 -- The moves over statements from a spot on, with what they give. What the statement before them gives is still to be
 -- counted at the spot.
 abbrev pub walk_terms : PlannedShape → Option StmtId → ℕ → Spot → Option VarId → List Given → List Term
-walk_terms planned moved weight spot gives [] = given_terms planned weight spot.host gives None ++ leave_terms weight spot
+walk_terms planned moved weight spot gives [] =
+    given_terms planned weight spot.host gives None ++ leave_terms weight spot
 walk_terms planned moved weight spot gives (given ∷ others) =
     let next = next_spot planned spot given.id (given_ids others) in
     (given_terms planned weight spot.host gives (straight_to spot next) ++ move_terms weight spot next)

@@ -2,7 +2,7 @@
 -- says how often it may be sent.
 --
 -- The cost is a sum of terms. A block gives a list of terms, each with a weight, two hosts, and whether an answer comes
--- back. What moves, or which forwards ride with another message, can change the list, and not the sum.
+-- back. A value that rides with the token has no term of its own.
 use Rattle.std.specs.Prelude.{ℕ, ◌*◌, ◌^◌, min, Bool, ◌&&◌, not, nat_eq, if◌then◌else◌}
 use Rattle.std.specs.Prelude.{List, [], ◌∷◌, ◌++◌, map, filter, length, Option, Some, None, slice_get, unwrap_or}
 use Rattle.std.specs.List.{flat_map, list_any, range_with_len}
@@ -89,7 +89,8 @@ reads_on planned x host =
 abbrev pub is_other_reader : PlannedShape → HostId → VarId → ℕ → Bool
 is_other_reader planned host x other = not (nat_eq other host.0) && reads_on planned x other
 
--- whether the host of this number is sent the variable's value: it reads the variable, and the value does not ride to it
+-- whether the host of this number is sent the variable's value: it is another one that reads the variable, and the
+-- value does not ride to it
 abbrev pub is_told : PlannedShape → HostId → VarId → Option HostId → ℕ → Bool
 is_told planned host x carried other = is_other_reader planned host x other && not (is_to carried other)
 

@@ -1,8 +1,8 @@
 //! What a moved statement touches of what others give, and where a value rides that is given at a place of a block.
 
 ghost use Rattle.std.specs.Prelude.{◌≡◌, ◌≢◌, ◌≤◌, ◌↔◌, false, IsTrue, length, nat_eq};
-ghost use Rattle.msg_cost.specs.Kept.{is_trusted_from};
 ghost use Rattle.std.specs.List.{list_any};
+ghost use Rattle.msg_cost.specs.Kept.{is_trusted_from};
 ghost use Rattle.msg_cost.specs.Moves.{on};
 ghost use Rattle.msg_cost.specs.Pieces.{touches, carried_at};
 ghost use Rattle.msg_cost.specs.Tables.{KnowsBlock, IsTable};
@@ -37,8 +37,8 @@ fn is_among(statements: &[StmtId], one: StmtId) -> bool
     statements.iter().any(|reader| reader.0 == one.0)
 }
 
-/// The host to which a value rides that is given at a place of a block. In a plan that puts each statement on a host that
-/// may hold it, the spot there is known from the table, or the host is lent the token, and no stretch is gone over.
+/// The host to which a value rides that is given at a place of a block. In a plan that puts each statement on a host
+/// that may hold it, the spot there is known from the table, or the host is lent the token. So no stretch is gone over.
 pub fn carried_at(planned: &Seated<'_>, walk: &Walk<'_>, place: usize) -> Option<HostId>
     requires { KnowsBlock planned.now.needs.now planned.now.hosts.now walk.now }
     ensures { result ≡ carried_at (seated_shape planned.now) walk.now.home (ids_of walk.now.block.now) place }
@@ -61,8 +61,8 @@ pub fn carried_at(planned: &Seated<'_>, walk: &Walk<'_>, place: usize) -> Option
     straight_to(spot, next)
 }
 
-/// Whether a host that is not the home of a walk is not trusted for what is left of its block. Then it does not hold the
-/// token there.
+/// Whether a host that is not the home of a walk is not trusted for what is left of its block. Then it does not hold
+/// the token there.
 fn is_lent(planned: &Seated<'_>, walk: &Walk<'_>, home: HostId, host: HostId, place: usize) -> bool
     requires { KnowsBlock planned.now.needs.now planned.now.hosts.now walk.now }
     ensures { IsTrue result ↔ ((host.0 ≢ home.0)

@@ -22,7 +22,7 @@ use crate::piece_cost::other_cost;
 use crate::program_cost::program_cost;
 use crate::seated::Seated;
 use crate::step::Step;
-use crate::walk_change::{Change, NO_CHANGE, walk_change};
+use crate::walk_change::{Change, NO_CHANGE, plus, walk_change};
 use host_decl::Hosts;
 use jif_tree::Checked;
 use js_base::StmtId;
@@ -30,9 +30,10 @@ use js_base::limits::HOSTS;
 use need_labels::{Needs, Plan};
 
 /// What those pieces cost under a plan that a move of a part would touch, but for walks: the reads and writes and the
-/// definitions of a statement, the definitions of what it reads, and the calls of its method where it is one of the
-/// statements of the body itself. It is the same for all moves of that part, so whoever tries many hosts for one part
-/// counts it once. Behind a move that is made, it is what `cost_after` counted for that move.
+/// definitions of a statement, the definitions of what it reads, the calls of its method where it is one of the
+/// statements of the body itself, and the arguments of these where it is the head. It is the same for all moves of that
+/// part, so whoever tries many hosts for one part counts it once. Behind a move that is made, it is what `cost_after`
+/// counted for that move.
 pub fn cost_before(
     checked: &Checked,
     needs: &Needs,
@@ -208,11 +209,7 @@ fn row_change(
 {
     let mut total = NO_CHANGE;
     for piece in row {
-        let one = piece_change(before, after, statement, piece);
-        total = Change {
-            before: total.before.saturating_add(one.before),
-            after: total.after.saturating_add(one.after),
-        };
+        total = plus(total, piece_change(before, after, statement, piece));
     }
     total
 }

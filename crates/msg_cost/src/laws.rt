@@ -78,8 +78,8 @@ pub fn cost_examples()
     // The same with two hosts behind it: the way there, with which the value rides, the way back, the way on, and the
     // way home.
     ensures near { plan_cost read_ahead ahead_needs near_hosts ahead_plan ≡ 4 }
-    // Where the host of what follows gets the token back, nothing rides: that host is told before (2), the value is sent
-    // (1 + 10), then the way there, the way on, and the way home.
+    // Where the host of what follows gets the token back, nothing rides: that host is told before (2), the value is
+    // sent, there and back (11), then the way there, the way on, and the way home.
     ensures asked { plan_cost read_ahead ahead_needs told_hosts ahead_plan ≡ 16 }
     // What a lent segment gives does not ride: the way there, the value there and back (2), the way back, the way on,
     // and the way home.

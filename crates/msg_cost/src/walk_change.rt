@@ -31,8 +31,15 @@ use crate::trust::Trust;
 use crate::values::given;
 use crate::walk::{Walk, gives};
 use jif_tree::Stmt;
-use js_base::{StmtId, VarId};
+use js_base::{HostId, StmtId, VarId};
 use need_labels::Needs;
+
+/// What something costs before a move and behind it, but for what it costs both times.
+#[derive(Clone, Copy)]
+pub struct Change {
+    pub before: u64,
+    pub after: u64,
+}
 
 /// Nothing changes.
 pub const NO_CHANGE: Change = Change {
@@ -40,11 +47,24 @@ pub const NO_CHANGE: Change = Change {
     after: 0,
 };
 
-/// What something costs before a move and behind it, but for what it costs both times.
+/// Two changes in one.
+pub fn plus(first: Change, second: Change) -> Change
+    ensures { result ≡ record {
+      before = min (first.before + second.before) (2 ^ 64 - 1);
+      after = min (first.after + second.after) (2 ^ 64 - 1);
+    } }
+{
+    Change {
+        before: first.before.saturating_add(second.before),
+        after: first.after.saturating_add(second.after),
+    }
+}
+
+/// A host that gives a variable a value, and the one to which that rides.
 #[derive(Clone, Copy)]
-pub struct Change {
-    pub before: u64,
-    pub after: u64,
+struct Ride {
+    from: HostId,
+    to: Option<HostId>,
 }
 
 /// What a walk costs before and behind the move of a statement, but for what it costs both times.
@@ -63,10 +83,11 @@ pub fn walk_change(
     if !walk.nested {
         return moves;
     }
-    Change {
-        before: moves.before.saturating_add(way_back(before, walk)),
-        after: moves.after.saturating_add(way_back(after, walk)),
-    }
+    let back = Change {
+        before: way_back(before, walk),
+        after: way_back(after, walk),
+    };
+    plus(moves, back)
 }
 
 /// What the way back behind a nested block costs.
@@ -126,7 +147,7 @@ fn untouched(needs: &Needs, moved: StmtId, statement: &Stmt) -> Option<VarId>
 }
 
 /// The same of the statement before a place of a block, if there is one.
-fn left_at(needs: &Needs, moved: StmtId, block: &[Stmt], place: usize) -> Option<VarId>
+fn gives_behind(needs: &Needs, moved: StmtId, block: &[Stmt], place: usize) -> Option<VarId>
     requires { place ≤ length block.now }
     ensures { result ≡ gives_behind needs.now (Some moved) None (givens_of block.now) place }
 {
@@ -194,8 +215,8 @@ fn stretch_change(
         }
         let next = next_at(before, walk, place, first);
         let then = next_at(after, walk, place, second);
-        let one = ride(first, next);
-        let other = ride(second, then);
+        let one = ride_between(first, next);
+        let other = ride_between(second, then);
         let gave = given_change(before, after, statement, walk, place, one, other);
         let moved = Change {
             before: move_on(before.hosts, walk.weight, first, next),
@@ -205,8 +226,8 @@ fn stretch_change(
         first = next;
         second = then;
     }
-    let one = Spot::on(first.host);
-    let other = Spot::on(second.host);
+    let one = no_ride(first);
+    let other = no_ride(second);
     let gave = given_change(before, after, statement, walk, walk.block.len(), one, other);
     let last = Change {
         before: leave(before.hosts, walk.weight, first),
@@ -215,13 +236,23 @@ fn stretch_change(
     plus(plus(total, gave), last)
 }
 
-/// A host, and the one to which a value rides that it gives at a spot before the next.
-fn ride(spot: Spot, next: Spot) -> Spot
-    ensures { result ≡ record { host = spot.host; back = straight_to spot next } }
+/// What a host gives at a spot before the next rides to where the token goes straight.
+fn ride_between(spot: Spot, next: Spot) -> Ride
+    ensures { result ≡ record { from = spot.host; to = straight_to spot next } }
 {
-    Spot {
-        host: spot.host,
-        back: straight_to(spot, next),
+    Ride {
+        from: spot.host,
+        to: straight_to(spot, next),
+    }
+}
+
+/// What a host gives at the last spot of a walk does not ride.
+fn no_ride(spot: Spot) -> Ride
+    ensures { result ≡ record { from = spot.host; to = None } }
+{
+    Ride {
+        from: spot.host,
+        to: None,
     }
 }
 
@@ -234,44 +265,26 @@ fn given_change(
     statement: StmtId,
     walk: &Walk<'_>,
     place: usize,
-    first: Spot,
-    second: Spot,
+    first: Ride,
+    second: Ride,
 ) -> Change
     requires moved { IsMoved statement (seated_shape before.now) (seated_shape after.now) }
     requires within { place ≤ length walk.now.block.now }
-    ensures { let gives = gives_behind before.now.needs.now (Some statement) None (givens_of walk.now.block.now) place in
+    ensures { let gives = gives_behind before.now.needs.now (Some statement) None (givens_of walk.now.block.now)
+        place in
         IsChange (cost_of before.now.hosts.now
-        (given_terms (seated_shape before.now) walk.now.weight first.host gives first.back))
+        (given_terms (seated_shape before.now) walk.now.weight first.from gives first.to))
         (cost_of before.now.hosts.now
-        (given_terms (seated_shape after.now) walk.now.weight second.host gives second.back)) result }
+        (given_terms (seated_shape after.now) walk.now.weight second.from gives second.to)) result }
 {
-    if is_same_spot(first, second) {
+    if is_same_ride(first, second) {
         return NO_CHANGE;
     }
-    let gives = left_at(before.needs, statement, walk.block, place);
+    let gives = gives_behind(before.needs, statement, walk.block, place);
+    let weight = walk.weight;
     Change {
-        before: given(before, &NOTHING, walk.weight, first.host, gives, first.back),
-        after: given(
-            after,
-            &NOTHING,
-            walk.weight,
-            second.host,
-            gives,
-            second.back,
-        ),
-    }
-}
-
-/// Two changes in one.
-fn plus(first: Change, second: Change) -> Change
-    ensures { result ≡ record {
-      before = min (first.before + second.before) (2 ^ 64 - 1);
-      after = min (first.after + second.after) (2 ^ 64 - 1);
-    } }
-{
-    Change {
-        before: first.before.saturating_add(second.before),
-        after: first.after.saturating_add(second.after),
+        before: given(before, &NOTHING, weight, first.from, gives, first.to),
+        after: given(after, &NOTHING, weight, second.from, gives, second.to),
     }
 }
 
@@ -279,12 +292,25 @@ fn plus(first: Change, second: Change) -> Change
 fn is_same_spot(first: Spot, second: Spot) -> bool
     ensures { IsTrue result ↔ (first ≡ second) }
 {
-    first.host.0 == second.host.0
-        && match (first.back, second.back) {
-            (Some(one), Some(other)) => one.0 == other.0,
-            (None, None) => true,
-            _ => false,
-        }
+    first.host.0 == second.host.0 && is_same_host(first.back, second.back)
+}
+
+/// Whether two rides are the same.
+fn is_same_ride(first: Ride, second: Ride) -> bool
+    ensures { IsTrue result ↔ (first ≡ second) }
+{
+    first.from.0 == second.from.0 && is_same_host(first.to, second.to)
+}
+
+/// Whether two hosts are the same, or there is none both times.
+fn is_same_host(first: Option<HostId>, second: Option<HostId>) -> bool
+    ensures { IsTrue result ↔ (first ≡ second) }
+{
+    match (first, second) {
+        (Some(one), Some(other)) => one.0 == other.0,
+        (None, None) => true,
+        _ => false,
+    }
 }
 
 /// Where the statement at a place of the block of a walk runs.

@@ -1,15 +1,14 @@
-use Rattle.std.proofs.Common.{◌≡◌, ◌∙◌, ℕ, suc, ◌≤◌, ◌<◌, length, ap, sym, add-one, arith}
+use Rattle.std.proofs.Common.{◌≡◌, ◌∙◌, ℕ, suc, ◌≤◌, ◌<◌, drop, length, ap, sym, add-one, arith}
 use Rattle.js_base.specs.declared.ids.HostId.{HostId}
+use Rattle.jif_tree.specs.declared.program.Stmt.{Stmt}
 use Rattle.need_labels.specs.Plan.{statement_host}
 use Rattle.msg_cost.specs.declared.spot.Spot.{Spot}
+use Rattle.msg_cost.specs.Kept.{is_trusted_from}
 use Rattle.msg_cost.specs.Moves.{on, carried_to}
 use Rattle.msg_cost.specs.Views.{seated_shape, ids_of}
 use Rattle.msg_cost.specs.Walks.{spot_behind}
-use Rattle.std.proofs.Common.{drop}
 use Rattle.msg_cost.proofs.Riding.{none_behind, carried_behind, same_none, lent_none}
 use Rattle.msg_cost.proofs.SettledSpots.{stands_on}
-use Rattle.msg_cost.specs.Kept.{is_trusted_from}
-use Rattle.jif_tree.specs.declared.program.Stmt.{Stmt}
 use Rattle.msg_cost.proofs.carried.carried_at.Goals as goal
 
 pub returns-then-left-lt2 : goal.returns-then-left-lt2

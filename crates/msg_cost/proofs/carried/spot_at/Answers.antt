@@ -9,6 +9,7 @@ loop-place-preserved c =
     let most = c.requires.count in
     rw add-one (record {
       spot = one_behind (seated_shape c.args.planned.now) (on c.args.home) c.args.block.now c.loop-place.place
-          c.loop-place.spot c.next_spot-spot.result (omega arith) c.loop-place.invariant.spot c.next_spot-spot.ensures.result;
+          c.loop-place.spot c.next_spot-spot.result (omega arith) c.loop-place.invariant.spot
+          c.next_spot-spot.ensures.result;
       right = rw add-one at c.next_spot-spot.ensures.right;
     })

@@ -81,7 +81,8 @@ add_statement-add_nested-requires-in-While t c =
     (tree_before c.args.statement.now done) tree_is in
     (rw c.deref-in-While.ensures.value (omega (arith, c.decreases)), c.in_ok-add_expr-in-While.ensures.tables)
 
-pub add_statement-returns-in_ok-add_nested-in-If-clause-pieces : goal.add_statement-returns-in_ok-add_nested-in-If-clause-pieces
+pub add_statement-returns-in_ok-add_nested-in-If-clause-pieces :
+    goal.add_statement-returns-in_ok-add_nested-in-If-clause-pieces
 add_statement-returns-in_ok-add_nested-in-If-clause-pieces t c =
     let program = program_tree c.args.program.now in
     let head = head_of c.args.statement.now in
@@ -101,7 +102,8 @@ add_statement-returns-in_ok-add_nested-in-If-clause-pieces t c =
     (rw c.deref.ensures.value at c.in_ok-add_nested-in-If.ensures.pieces) is))
     (rw c.deref-in-If.ensures.value at c.add_nested-in-If.ensures.pieces)
 
-pub add_statement-returns-in_ok-add_expr-in-While-clause-pieces : goal.add_statement-returns-in_ok-add_expr-in-While-clause-pieces
+pub add_statement-returns-in_ok-add_expr-in-While-clause-pieces :
+    goal.add_statement-returns-in_ok-add_expr-in-While-clause-pieces
 add_statement-returns-in_ok-add_expr-in-While-clause-pieces t c =
     let program = program_tree c.args.program.now in
     let head = head_of c.args.statement.now in

@@ -13,8 +13,8 @@ use Rattle.msg_cost.specs.Terms.{leave_terms, move_terms, given_terms}
 use Rattle.msg_cost.specs.Views.{seated_shape, capped}
 use Rattle.msg_cost.specs.Walks.{IsChange}
 use Rattle.msg_cost.proofs.Quiet.{quiet_moved}
-use Rattle.msg_cost.proofs.WalkChanges.{Progressed, starts, goes_on, ended, walk_step, walk_last, joined, same_later, gives_stay}
-use Rattle.msg_cost.proofs.WalkChanges.{all_changed}
+use Rattle.msg_cost.proofs.WalkChanges.{Progressed, starts, goes_on, ended, walk_step, walk_last, joined, same_later}
+use Rattle.msg_cost.proofs.WalkChanges.{gives_stay, all_changed}
 use Rattle.msg_cost.proofs.walk_change.stretch_change.Goals as goal
 
 pub loop-place-init : goal.loop-place-init
@@ -40,7 +40,8 @@ loop-place-preserved c =
     (walk_terms first part walk.weight c.args.start.spot (left_at c.args.start.place)
     (givens_of (drop c.args.start.place block))) in
     let all_then = cost_of first.hosts
-    (walk_terms second part walk.weight c.args.spot (left_at c.args.start.place) (givens_of (drop c.args.start.place block))) in
+    (walk_terms second part walk.weight c.args.spot (left_at c.args.start.place)
+    (givens_of (drop c.args.start.place block))) in
     let gives_then : gives ≡ gives_behind second.needs part None (givens_of block) (suc place) =
     sym (ap (λ (shape : PlannedShape). gives_behind shape.needs part None (givens_of block) (suc place))
     c.requires.moved.same) in
@@ -49,7 +50,7 @@ loop-place-preserved c =
     let step_then = walk_step second first.hosts part walk.weight two next_then None left gives block place
     c.loop-place-test.true gives_then c.next_at-then.ensures in
     let so_far = rw (step, step_then) at c.loop-place.invariant.so_far in
-    let gave = rw (c.ride-one.ensures, c.ride-other.ensures) at c.given_change-gave.ensures in
+    let gave = rw (c.ride_between-one.ensures, c.ride_between-other.ensures) at c.given_change-gave.ensures in
     let given = goes_on all all_then _ _ _ _ c.loop-place.total c.given_change-gave.result so_far gave in
     let moves : Change = record { before = c.move_on.result; after = c.move_on-in-loop-place.result } in
     let gone = goes_on all all_then _ _ _ _ _ moves given
@@ -103,7 +104,8 @@ returns c =
     (walk_terms first part walk.weight c.args.start.spot (left_at c.args.start.place)
     (givens_of (drop c.args.start.place block))) in
     let all_then = cost_of first.hosts
-    (walk_terms second part walk.weight c.args.spot (left_at c.args.start.place) (givens_of (drop c.args.start.place block))) in
+    (walk_terms second part walk.weight c.args.spot (left_at c.args.start.place)
+    (givens_of (drop c.args.start.place block))) in
     let last = walk_last first first.hosts part walk.weight one left rest done in
     let last_then = walk_last second first.hosts part walk.weight two left rest done in
     let so_far = rw (last, last_then) at c.loop-place.invariant.so_far in
@@ -114,7 +116,7 @@ returns c =
     let gave = subst (λ (count : ℕ). IsChange
     (cost_of first.hosts (given_terms first walk.weight one.host (left_at count) None))
     (cost_of first.hosts (given_terms second walk.weight two.host (left_at count) None)) c.given_change-gave-2.result)
-    at_end (rw (c.on-one.ensures, c.on-other.ensures) at c.given_change-gave-2.ensures) in
+    at_end (rw (c.no_ride-one.ensures, c.no_ride-other.ensures) at c.given_change-gave-2.ensures) in
     let given = goes_on all all_then _ _ _ _ c.loop-place.total c.given_change-gave-2.result so_far gave in
     let left_all = goes_on all all_then _ _ 0 0 _ (record { before = c.leave.result; after = c.leave-2.result }) given
     (all_changed _ _ (record { before = c.leave.result; after = c.leave-2.result }) c.leave.ensures

@@ -18,9 +18,11 @@ invariant-loop-place l = record {
       (gives_behind l.before.needs.now (Some l.statement) None (givens_of l.walk.block.now) l.fn.start.place)
       (givens_of (drop l.fn.start.place l.walk.block.now))))
       (cost_of l.before.hosts.now (walk_terms (seated_shape l.before) (Some l.statement) l.walk.weight l.first
-      (gives_behind l.before.needs.now (Some l.statement) None (givens_of l.walk.block.now) l.place) (givens_of (drop l.place l.walk.block.now))))
+      (gives_behind l.before.needs.now (Some l.statement) None (givens_of l.walk.block.now) l.place)
+      (givens_of (drop l.place l.walk.block.now))))
       (cost_of l.before.hosts.now (walk_terms (seated_shape l.after) (Some l.statement) l.walk.weight l.second
-      (gives_behind l.before.needs.now (Some l.statement) None (givens_of l.walk.block.now) l.place) (givens_of (drop l.place l.walk.block.now))))
+      (gives_behind l.before.needs.now (Some l.statement) None (givens_of l.walk.block.now) l.place)
+      (givens_of (drop l.place l.walk.block.now))))
       l.total;
   within : l.place ≤ length l.walk.block.now;
 }

@@ -3,7 +3,7 @@ use Rattle.std.specs.Prelude.{Some, None}
 use Rattle.msg_cost.specs.Pieces.{gives_behind}
 use Rattle.msg_cost.specs.PieceViews.{givens_of}
 use Rattle.msg_cost.proofs.WalkChanges.{gives_at}
-use Rattle.msg_cost.proofs.walk_change.left_at.Goals as goal
+use Rattle.msg_cost.proofs.walk_change.gives_behind.Goals as goal
 
 pub returns : goal.returns
 returns c =
