@@ -9,22 +9,22 @@ use Rattle.msg_cost.specs.Moves.{PlannedShape}
 use Rattle.split_rules.specs.Walk.{riders_to, riding_params}
 
 -- those from a place on that have an argument
-abbrev left_from : PlannedShape → HostId → HostId → List VarId → List Expr → ℕ → List VarId
+abbrev pub left_from : PlannedShape → HostId → HostId → List VarId → List Expr → ℕ → List VarId
 left_from planned host home params args place =
     riding_params planned host home (drop place params) (map expr_tree (drop place args))
 
 -- the first of them, and then the others
 pub first_left : (planned : PlannedShape) (host home : HostId) (params : List VarId) (args : List Expr) (place : ℕ)
-    (param : VarId) → place < length params → place < length args → param ≡ get_or params place param →
+    (param other : VarId) → place < length params → place < length args → param ≡ get_or params place other →
     left_from planned host home params args place
     ≡ riders_to planned host param (Some home) ++ left_from planned host home params args (suc place)
-first_left planned host home [] args place param within few is = absurd (omega (arith, within))
-first_left planned host home (first ∷ params) [] place param within few is = absurd (omega (arith, few))
-first_left planned host home (first ∷ params) (arg ∷ args) zero param within few is =
+first_left planned host home [] args place param other within few is = absurd (omega (arith, within))
+first_left planned host home (first ∷ params) [] place param other within few is = absurd (omega (arith, few))
+first_left planned host home (first ∷ params) (arg ∷ args) zero param other within few is =
     ap (λ one. riders_to planned host one (Some home) ++ riding_params planned host home params (map expr_tree args))
     (sym is)
-first_left planned host home (first ∷ params) (arg ∷ args) (suc place) param within few is =
-    first_left planned host home params args place param (omega (arith, within)) (omega (arith, few)) is
+first_left planned host home (first ∷ params) (arg ∷ args) (suc place) param other within few is =
+    first_left planned host home params args place param other (omega (arith, within)) (omega (arith, few)) is
 
 no_params : (planned : PlannedShape) (host home : HostId) (args : List ExprTree) →
     riding_params planned host home [] args ≡ []
