@@ -20,3 +20,4 @@ pub mod AheadOf
 pub mod Receivers
 pub mod Operands
 pub mod Arguments
+pub mod Ridden

@@ -1,5 +1,5 @@
 -- What branches and loops give, put together from what they give one by one.
-use Rattle.std.proofs.Common.{◌≡◌, ℕ, List, [], ◌∷◌, ◌++◌, refl, sym, ap, ◌∙◌}
+use Rattle.std.proofs.Common.{◌≡◌, ℕ, List, [], ◌∷◌, ◌++◌, None, refl, sym, ap, ◌∙◌}
 use Rattle.js_base.specs.declared.ids.HostId.{HostId}
 use Rattle.js_base.specs.declared.ids.StmtId.{StmtId}
 use Rattle.label_lattice.specs.declared.label.Label.{Label}
@@ -73,7 +73,7 @@ pub branch_traced : (walked : Walked) (around : Around) (host : HostId) (left : 
     landed ≡ traced one (lands host start.counts.branches ∷ []) →
     two ≡ traced landed (block_emissions walked inside landed.counts (lane_on host) second) →
     stood ≡ traced two (stands host start.counts.entries ∷ []) →
-    stood ≡ traced start (own_emissions walked around start.counts host left (branch heading guard first second done))
+    stood ≡ traced start (own_emissions walked around start.counts host left None (branch heading guard first second done))
 branch_traced walked around host left heading guard first second start branched one landed two stood branched_is one_is
     landed_is two_is stood_is =
     let inside = inside_of walked around heading.id guard in
@@ -152,7 +152,7 @@ pub loop_traced : (walked : Walked) (around : Around) (host : HostId) (left : Li
     pushed ≡ traced start (loop_front walked around start.counts host left heading.id guard) →
     one ≡ traced pushed (block_emissions walked inside pushed.counts (lane_on host) body) →
     landed ≡ traced one (lands host start.counts.branches ∷ []) →
-    landed ≡ traced start (own_emissions walked around start.counts host left (loop heading guard body done))
+    landed ≡ traced start (own_emissions walked around start.counts host left None (loop heading guard body done))
 loop_traced walked around host left heading guard body start pushed one landed pushed_is one_is landed_is =
     let inside = inside_of walked around heading.id guard in
     let front = loop_front walked around start.counts host left heading.id guard in

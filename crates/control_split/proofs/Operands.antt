@@ -43,10 +43,10 @@ pub result_kept : (walked : Walked) (host : HostId) (label : Label) (statement :
     ≡ emitted host label statement (op.Ret kept (nodes_of 0 value)) ∷ []
 result_kept walked host label statement value kept is = rw is refl
 
-pub no_parameters : (walked : Walked) (host : HostId) (label : Label) (statement : StmtId) (args : List ExprTree) →
-    argument_emissions walked host label statement [] args ≡ []
-no_parameters walked host label statement [] = refl
-no_parameters walked host label statement (first ∷ others) = refl
+pub no_parameters : (walked : Walked) (host home : HostId) (label : Label) (statement : StmtId)
+    (args : List ExprTree) → argument_emissions walked host home label statement [] args ≡ []
+no_parameters walked host home label statement [] = refl
+no_parameters walked host home label statement (first ∷ others) = refl
 
 -- one emission more on a trace, where it is another way to say it
 pub with_one : (before after : TraceShape) (one other : Emission) → after ≡ traced_one before one → one ≡ other →

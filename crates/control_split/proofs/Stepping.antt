@@ -7,10 +7,11 @@ use Rattle.jif_tree.specs.declared.program.StmtKind as kind
 use Rattle.jif_tree.specs.Trees.{Heading, BlockTree, done, statement_tree, block_tree, tree_before, head_of}
 use Rattle.msg_cost.proofs.Statements.{own_ids}
 use Rattle.msg_cost.specs.declared.spot.Spot.{Spot}
-use Rattle.msg_cost.specs.Moves.{next_spot, own_statements}
+use Rattle.msg_cost.specs.Moves.{next_spot, carried_to, own_statements}
+use Rattle.msg_cost.specs.PieceViews.{gives}
 use Rattle.msg_cost.specs.Views.{ids_of}
 use Rattle.split_rules.specs.Emissions.{Emission, Counts, counts_after}
-use Rattle.split_rules.specs.Walk.{Walked, Around, Lane, lane_at, under_token, move_emissions, block_emissions}
+use Rattle.split_rules.specs.Walk.{Walked, Around, Lane, lane_behind, under_token, move_emissions, block_emissions}
 use Rattle.control_split.specs.Own.{own_emissions}
 use Rattle.control_split.specs.Trace.{TraceShape, traced}
 use Rattle.control_split.proofs.Traces.{traced_append, traced_counts, counts_append}
@@ -22,8 +23,10 @@ one_by_one walked around counts lane next others what heading rest =
     let moved = move_emissions walked around counts lane next (heading.id ∷ others) in
     let here = counts_after counts moved in
     let own = own_emissions walked around here next.host (under_token walked.planned next others)
-    (statement_tree what heading done) in
-    moved ++ own ++ block_emissions walked around (counts_after here own) (lane_at counts lane next) rest
+    (carried_to walked.planned next others) (statement_tree what heading done) in
+    moved ++ own
+    ++ block_emissions walked around (counts_after here own) (lane_behind walked counts lane next (gives what) others)
+    rest
 
 counted : (walked : Walked) (around : Around) (counts : Counts) (moved own : List Emission) (lane : Lane)
     (rest : BlockTree) →
@@ -38,13 +41,17 @@ counted_at : (walked : Walked) (around : Around) (counts : Counts) (lane : Lane)
     (what : StmtKind) (heading : Heading) (rest : BlockTree) →
     let moved = move_emissions walked around counts lane next (heading.id ∷ others) in
     let own = own_emissions walked around (counts_after counts moved) next.host
-    (under_token walked.planned next others) (statement_tree what heading done) in
-    moved ++ own ++ block_emissions walked around (counts_after counts (moved ++ own)) (lane_at counts lane next) rest
+    (under_token walked.planned next others) (carried_to walked.planned next others)
+    (statement_tree what heading done) in
+    moved ++ own
+    ++ block_emissions walked around (counts_after counts (moved ++ own))
+    (lane_behind walked counts lane next (gives what) others) rest
     ≡ one_by_one walked around counts lane next others what heading rest
 counted_at walked around counts lane next others what heading rest =
     let moved = move_emissions walked around counts lane next (heading.id ∷ others) in
     counted walked around counts moved (own_emissions walked around (counts_after counts moved) next.host
-    (under_token walked.planned next others) (statement_tree what heading done)) (lane_at counts lane next) rest
+    (under_token walked.planned next others) (carried_to walked.planned next others)
+    (statement_tree what heading done)) (lane_behind walked counts lane next (gives what) others) rest
 
 abbrev next_of : Walked → Lane → Heading → BlockTree → Spot
 next_of walked lane heading rest = next_spot walked.planned lane.spot heading.id (own_statements rest)
@@ -76,15 +83,18 @@ traced_by_one : (walked : Walked) (around : Around) (trace : TraceShape) (lane :
     (others : List StmtId) (what : StmtKind) (heading : Heading) (rest : BlockTree) →
     let moved = traced trace (move_emissions walked around trace.counts lane next (heading.id ∷ others)) in
     let own = traced moved (own_emissions walked around moved.counts next.host
-    (under_token walked.planned next others) (statement_tree what heading done)) in
+    (under_token walked.planned next others) (carried_to walked.planned next others)
+    (statement_tree what heading done)) in
     traced trace (one_by_one walked around trace.counts lane next others what heading rest)
-    ≡ traced own (block_emissions walked around own.counts (lane_at trace.counts lane next) rest)
+    ≡ traced own (block_emissions walked around own.counts
+    (lane_behind walked trace.counts lane next (gives what) others) rest)
 traced_by_one walked around trace lane next others what heading rest =
     let moves = move_emissions walked around trace.counts lane next (heading.id ∷ others) in
     let moved = traced trace moves in
-    let there = lane_at trace.counts lane next in
+    let there = lane_behind walked trace.counts lane next (gives what) others in
     let owns : Counts → List Emission = λ here. own_emissions walked around here next.host
-    (under_token walked.planned next others) (statement_tree what heading done) in
+    (under_token walked.planned next others) (carried_to walked.planned next others)
+    (statement_tree what heading done) in
     let F : Counts → TraceShape = λ here. traced (traced moved (owns here))
     (block_emissions walked around (counts_after here (owns here)) there rest) in
     let G : Counts → TraceShape = λ behind. traced (traced moved (owns moved.counts))
@@ -101,9 +111,10 @@ pub one_walked : (walked : Walked) (around : Around) (start trace moved own : Tr
     (next : Spot) (statement : Stmt) (others : List Stmt) →
     next ≡ next_spot walked.planned lane.spot statement.id (ids_of others) →
     moved ≡ traced trace (move_emissions walked around trace.counts lane next (statement.id ∷ ids_of others)) →
-    there ≡ lane_at trace.counts lane next →
+    there ≡ lane_behind walked trace.counts lane next (gives statement.kind) (ids_of others) →
     own ≡ traced moved (own_emissions walked around moved.counts next.host
-    (under_token walked.planned next (ids_of others)) (tree_before statement done)) →
+    (under_token walked.planned next (ids_of others)) (carried_to walked.planned next (ids_of others))
+    (tree_before statement done)) →
     traced trace (block_emissions walked around trace.counts lane (block_tree (statement ∷ others))) ≡ start →
     traced own (block_emissions walked around own.counts there (block_tree others)) ≡ start
 one_walked walked around start trace moved own lane there next statement others next_is moved_is there_is own_is so =
@@ -119,10 +130,11 @@ one_walked walked around start trace moved own lane there next statement others 
     (sym (ap (traced trace) (statement_first walked around trace.counts lane statement.kind heading rest)) ∙ so) in
     let here = subst Q (sym next_is) first in
     let R : TraceShape → Type 0 = λ trace_there.
-    traced trace_there (block_emissions walked around trace_there.counts (lane_at trace.counts lane next) rest)
-    ≡ start in
+    traced trace_there (block_emissions walked around trace_there.counts
+    (lane_behind walked trace.counts lane next (gives statement.kind) (ids_of others)) rest) ≡ start in
     let S : TraceShape → Type 0 = λ middle. R (traced middle (own_emissions walked around middle.counts next.host
-    (under_token walked.planned next (ids_of others)) (tree_before statement done))) in
+    (under_token walked.planned next (ids_of others)) (carried_to walked.planned next (ids_of others))
+    (tree_before statement done))) in
     let T : Lane → Type 0 = λ behind. traced own (block_emissions walked around own.counts behind rest) ≡ start in
     subst T (sym there_is) (subst R (sym own_is) (subst S (sym moved_is)
     (sym (traced_by_one walked around trace lane next (ids_of others) statement.kind heading rest) ∙ here)))

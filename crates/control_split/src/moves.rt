@@ -68,7 +68,10 @@ fn hand_on(
 {
     let number = trace.entries();
     trace.entry(host, around.pc, need)?;
-    trace.instruction(&around.place_on(from), go_with(riders, EntryId(number), host))?;
+    trace.instruction(
+        &around.place_on(from),
+        go_with(riders, EntryId(number), host),
+    )?;
     trace.stands(host, number)
 }
 
@@ -91,7 +94,10 @@ fn lend(
     let segment = trace.entries();
     trace.entry(host, around.pc, ahead.row)?;
     trace.instruction(&around.place_on(from), push_or_ask(from, back, number))?;
-    trace.instruction(&around.place_on(from), go_with(riders, EntryId(segment), host))?;
+    trace.instruction(
+        &around.place_on(from),
+        go_with(riders, EntryId(segment), host),
+    )?;
     trace.stands(host, segment)
 }
 

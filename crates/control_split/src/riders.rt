@@ -7,23 +7,33 @@ ghost use Rattle.jif_tree.specs.Trees.{expr_tree};
 ghost use Rattle.msg_cost.specs.declared.spot.Spot.{Spot};
 ghost use Rattle.msg_cost.specs.Moves.{carried_to};
 ghost use Rattle.msg_cost.specs.PieceViews.{gives};
+ghost use Rattle.msg_cost.specs.Terms.{reads_on};
 ghost use Rattle.split_rules.specs.Walk.{riders_to, rides_behind, riding_params, go_with, call_with};
 ghost use Rattle.control_split.specs.Views.{planned_in, riding_of, riders_of};
 
 use crate::walk::Split;
 use host_code::{MOST_RIDERS, Op, RiderVars};
 use jif_tree::{Expr, Stmt, StmtKind};
-use js_base::bits::has_bit;
 use js_base::{EntryId, HostId, OutOfMemory, VarId};
-use msg_cost::{Spot, reading_hosts};
+use msg_cost::Spot;
 use std::alloc::Global;
+
+/// Whether a statement on this host reads the variable.
+fn reads_on(split: &Split<'_>, x: VarId, host: HostId) -> bool
+    ensures { result ≡ reads_on (planned_in split.now) x host.0 }
+{
+    let readers = split.needs.readers(x);
+    readers
+        .iter()
+        .any(|reader| split.plan.host_of(*reader).0 == host.0)
+}
 
 /// Whether the value of a variable rides from a host to the one to which it is carried, which reads the variable.
 fn rides_to(split: &Split<'_>, host: HostId, x: VarId, carried: Option<HostId>) -> bool
     ensures { (if result then x ∷ [] else []) ≡ riders_to (planned_in split.now) host x carried }
 {
     match carried {
-        Some(to) => to.0 != host.0 && has_bit(reading_hosts(&split.planned(), x), to.0),
+        Some(to) => to.0 != host.0 && reads_on(split, x, to),
         None => false,
     }
 }
@@ -67,9 +77,10 @@ pub fn riding_params(
 {
     let count = params.len().min(args.len());
     let mut riders = Vec::new(split.alloc);
-    for param in &params[..count] {
-        if rides_to(split, host, *param, Some(home)) {
-            riders.push(*param)?;
+    for place in 0..count {
+        let param = params[place];
+        if rides_to(split, host, param, Some(home)) {
+            riders.push(param)?;
         }
     }
     Ok(riders)

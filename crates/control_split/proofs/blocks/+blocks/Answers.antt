@@ -1,4 +1,4 @@
-use Rattle.std.proofs.Common.{◌≡◌, ◌∙◌, suc, List, ◌∷◌, drop, ap, sym, subst}
+use Rattle.std.proofs.Common.{◌≡◌, ◌∙◌, suc, List, ◌∷◌, Option, drop, ap, sym, subst}
 use Rattle.std.proofs.Common.{◌+◌, OnOk, refl, add-one, arith}
 use Rattle.js_base.specs.declared.ids.HostId.{HostId}
 use Rattle.js_base.proofs.Lists.{next_of}
@@ -8,18 +8,18 @@ use Rattle.jif_tree.specs.Trees.{BlockTree, done, expr_tree, statement_tree, blo
 use Rattle.jif_tree.proofs.StatementCounts.{part_counts, body_counts, both_counts}
 use Rattle.msg_cost.specs.declared.spot.Spot.{Spot}
 use Rattle.msg_cost.specs.Kept.{AreTrustedTo}
-use Rattle.msg_cost.specs.Moves.{PlannedShape, next_spot}
+use Rattle.msg_cost.specs.Moves.{PlannedShape, next_spot, straight_to, carried_to}
 use Rattle.msg_cost.specs.Views.{ids_of}
-use Rattle.split_rules.specs.Walk.{lane_on, under_token, block_emissions}
+use Rattle.split_rules.specs.Walk.{Lane, lane_on, lane_at, with_riding, under_token, block_emissions}
 use Rattle.control_split.specs.Ahead.{IsAhead}
 use Rattle.control_split.specs.Own.{own_emissions}
 use Rattle.control_split.specs.Places.{around_at, heading_at}
 use Rattle.control_split.specs.Trace.{traced}
-use Rattle.control_split.specs.Views.{walked_of, around_of, lane_of}
+use Rattle.control_split.specs.Views.{walked_of, around_of, lane_of, riding_of}
 use Rattle.control_split.proofs.Nesting.{branch_front_traced, branch_traced, loop_front_traced, loop_traced}
 use Rattle.control_split.proofs.SizedBlocks.{sized_part, sized_guard, sized_first, sized_second, sized_loop_guard}
 use Rattle.control_split.proofs.SizedBlocks.{sized_body, sized_args}
-use Rattle.control_split.proofs.Spots.{spot_host}
+use Rattle.control_split.proofs.Spots.{spot_host, lane_spot}
 use Rattle.control_split.proofs.Stepping.{one_walked}
 use Rattle.control_split.proofs.blocks.+blocks.Goals as goal
 
@@ -29,28 +29,43 @@ block-loop-place-preserved t c =
     let around = around_of c.args.around.now in
     let first = c.index-block-place.result in
     let rest = drop (suc c.loop-place.place) c.args.block.now in
-    let next = c.next_spot-next.result in
+    let next = c.loop-place.next in
     let lane = lane_of c.loop-place.lane in
     let left = next_of c.args.block.now c.loop-place.place first c.loop-place-test.true c.index-block-place.is in
     let ids = ap ids_of left in
-    let F : PlannedShape → Type 0 = λ planned. next ≡ next_spot planned lane.spot first.id (ids_of rest) in
-    let spot = subst F c.planned-planned.ensures (c.next_spot-next.ensures.result first.id (ids_of rest) ids) in
+    let spot = c.loop-place.invariant.2 first.id (ids_of rest) ids in
     let N : PlannedShape → Type 0 = λ planned.
-    AreTrustedTo planned c.args.block.now (c.loop-place.place + 1) c.next_spot-next.new.noted in
+    AreTrustedTo planned c.args.block.now (c.loop-place.place + 1 + 1) c.spot_at-behind.new.noted in
     let on = ap (λ (there : Spot). there.host) spot ∙ spot_host walked.planned lane.spot first.id (ids_of rest) in
     let A : HostId → Type 0 = λ host. IsAhead walked.planned host (first.id ∷ ids_of rest) c.ahead_at-ahead.result in
     let ahead = subst A (sym on) (c.ahead_at-ahead.ensures first.id (ids_of rest) ids) in
     let moved = c.in_ok-lane.ensures.trace walked (first.id ∷ ids_of rest) ahead in
+    let C : PlannedShape → Type 0 = λ planned. straight_to next c.spot_at-behind.result
+    ≡ carried_to planned next (ids_of (drop (c.loop-place.place + 1) c.args.block.now)) in
+    let carried : c.straight_to-carried.result ≡ carried_to walked.planned next (ids_of rest) =
+    c.straight_to-carried.ensures ∙ subst C c.planned-planned.ensures c.spot_at-behind.ensures.carried
+    ∙ ap (λ place. carried_to walked.planned next (ids_of (drop place c.args.block.now))) (add-one c.loop-place.place) in
     let own = c.in_ok-statement.ensures (under_token walked.planned next (ids_of rest))
     (c.left_behind-left.ensures first.id (ids_of rest) ids) in
+    let O : Option HostId → Type 0 = λ to. c.statement.new.trace ≡ traced c.move_on.new.trace (own_emissions walked around
+    c.move_on.new.trace.counts next.host (under_token walked.planned next (ids_of rest)) to (tree_before first done)) in
+    let there = ap (λ one. with_riding one (riding_of c.rides_behind-lane.result)) c.in_ok-lane.ensures.lane
+    ∙ ap (with_riding (lane_at c.loop-place.trace.counts lane next)) (c.rides_behind-lane.ensures (ids_of rest) carried) in
+    let at : c.in_ok-lane.lane.spot ≡ next = ap (λ (one : Lane). one.spot) c.in_ok-lane.ensures.lane
+    ∙ ap (λ it. (lane_at c.loop-place.trace.counts lane it).spot) spot
+    ∙ lane_spot walked.planned c.loop-place.trace.counts lane first.id (ids_of rest) ∙ sym spot in
     let start = traced c.args.trace.now
     (block_emissions walked around c.args.trace.now.counts (lane_on c.args.home) (block_tree c.args.block.now)) in
     let P : List Stmt → Type 0 = λ statements. traced c.loop-place.trace
     (block_emissions walked around c.loop-place.trace.counts lane (block_tree statements)) ≡ start in (
       rw add-one (one_walked walked around start c.loop-place.trace c.move_on.new.trace c.statement.new.trace lane
-          (lane_of c.in_ok-lane.lane) next first rest spot moved c.in_ok-lane.ensures.lane own
-          (subst P left c.loop-place.invariant.0)),
-      subst N c.planned-planned.ensures c.next_spot-next.ensures.noted,
+          _ next first rest spot moved there (subst O carried own) (subst P left c.loop-place.invariant.0)),
+      subst N c.planned-planned.ensures c.spot_at-behind.ensures.noted,
+      λ statement others is.
+          let F : PlannedShape → Type 0 = λ planned.
+          c.spot_at-behind.result ≡ next_spot planned next statement others in
+          subst F c.planned-planned.ensures (c.spot_at-behind.ensures.next statement others is)
+          ∙ ap (λ it. next_spot walked.planned it statement others) (sym at),
     )
 
 pub block-statement-requires : goal.block-statement-requires
@@ -166,7 +181,7 @@ statement-returns-in-If t c others left =
     ∙ c.tree_laws.ensures.branches c.in-If.guard c.in-If.yes c.in-If.no heading done in
     let P : BlockTree → Type 0 = λ tree. OnOk c.branch-walk.result (c.branch-walk.new.trace
     ≡ traced c.args.trace.now (own_emissions (walked_of c.args.walk.now) (around_of c.args.around.now)
-    c.args.trace.now.counts c.args.host others tree)) in
+    c.args.trace.now.counts c.args.host others c.args.carried tree)) in
     subst P (sym tree_is)
     (rw (c.deref.ensures.value, c.deref-in-If.ensures.value) at (c.branch-walk.ensures others left))
 
@@ -177,6 +192,6 @@ statement-returns-in-While t c others left =
     ∙ c.tree_laws.ensures.loops c.in-While.guard c.in-While.body heading done in
     let P : BlockTree → Type 0 = λ tree. OnOk c.repeat.result (c.repeat.new.trace
     ≡ traced c.args.trace.now (own_emissions (walked_of c.args.walk.now) (around_of c.args.around.now)
-    c.args.trace.now.counts c.args.host others tree)) in
+    c.args.trace.now.counts c.args.host others c.args.carried tree)) in
     subst P (sym tree_is)
     (rw c.deref-in-While.ensures.value at (c.repeat.ensures others (rw (c.need_of.ensures, left) refl)))

@@ -14,7 +14,8 @@ pub returns : goal.returns
 returns c =
     let place = c.args.place.now in
     let value = expr_tree c.args.expr.now in
-    let sent = send_emissions (planned_in c.args.walk.now.split) place.host place.label.now place.statement c.args.x in
+    let sent = send_emissions (planned_in c.args.walk.now.split) place.host place.label.now place.statement c.args.x
+    c.args.carried in
     on_ok_weaker c.send.result (λ is. traced_then c.args.trace.now c.value.new.trace c.send.new.trace
     (expr_emissions place.host place.label.now place.statement 0 value)
     (emitted place.host place.label.now place.statement (op.Let c.args.x (nodes_of 0 value)) ∷ sent)

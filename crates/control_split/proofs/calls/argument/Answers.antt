@@ -1,4 +1,4 @@
-use Rattle.std.proofs.Common.{◌∙◌, ◌∷◌, List, ap}
+use Rattle.std.proofs.Common.{◌∙◌, ◌∷◌, List, ap, Some}
 use Rattle.std.proofs.lemmas.Result.{on_ok_weaker}
 use Rattle.host_code.specs.declared.code_expr.Node.{Node}
 use Rattle.host_code.specs.declared.instruction.Op.TheVariants as op
@@ -15,7 +15,7 @@ returns c =
     let place = c.args.place.now in
     let value = expr_tree c.args.argument.now in
     let passed = pass_emissions (planned_in c.args.walk.now.split) place.host place.label.now place.statement
-    c.args.param in
+    c.args.param (Some c.args.home) in
     on_ok_weaker c.pass.result (λ is. traced_then c.args.trace.now c.value.new.trace c.pass.new.trace
     (expr_emissions place.host place.label.now place.statement 0 value)
     (emitted place.host place.label.now place.statement (op.Arg c.args.param (nodes_of 0 value)) ∷ passed)

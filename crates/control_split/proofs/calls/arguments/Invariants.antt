@@ -8,7 +8,7 @@ use Rattle.control_split.proofs.calls.arguments.Given as goal
 -- what is left gives what all arguments gave from the start
 abbrev pub invariant-loop-arg : goal.invariant-loop-arg
 invariant-loop-arg l =
-    traced l.trace (argument_emissions (walked_of l.walk) l.place.host l.place.label.now l.place.statement l.left
+    traced l.trace (argument_emissions (walked_of l.walk) l.place.host l.home l.place.label.now l.place.statement l.left
     (map expr_tree (drop l.arg-index l.args)))
-    ≡ traced l.fn.trace (argument_emissions (walked_of l.walk) l.place.host l.place.label.now l.place.statement
+    ≡ traced l.fn.trace (argument_emissions (walked_of l.walk) l.place.host l.home l.place.label.now l.place.statement
     l.fn.params (map expr_tree l.args))
