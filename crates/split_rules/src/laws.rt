@@ -76,10 +76,10 @@ pub fn asking_laws()
 
 /// Where a program is split that passes the label check, a host that is trusted for all that is due at a place of its
 /// code, whatever host the place is on, may change what the instruction there changes and what rides with it, is
-/// trusted for the entries that the instruction pushes, asks for or goes to, and is trusted for all that is due behind it. The
-/// labels are those of the host file and the program. And wherever a thread comes to that enters at an entry, until it
-/// gives back the token with which it entered, the need of the entry has the needs of all that is due there, and of the
-/// entry that the instruction there names.
+/// trusted for the entries that the instruction pushes, asks for or goes to, and is trusted for all that is due behind
+/// it. The labels are those of the host file and the program. And wherever a thread comes to that enters at an entry,
+/// until it gives back the token with which it entered, the need of the entry has the needs of all that is due there,
+/// and of the entry that the instruction there names.
 pub fn opening_laws()
     ensures opens { (placed : PlacedProgram) (table : Table) →
         let planned = planned_from placed in
