@@ -20,7 +20,8 @@ none_below [] short = refl
 none_below (first ∷ others) short = absurd (omega (arith, short))
 
 -- no parameter is left
-pub none_left : (walked : Walked) (host home : HostId) (label : Label) (statement : StmtId) (start before after : TraceShape)
+pub none_left : (walked : Walked) (host home : HostId) (label : Label) (statement : StmtId)
+    (start before after : TraceShape)
     (left more : List VarId) (one two : List ExprTree) → length left < 1 → more ≡ left → after ≡ before →
     traced before (argument_emissions walked host home label statement left one) ≡ start →
     traced after (argument_emissions walked host home label statement more two) ≡ start
@@ -38,8 +39,10 @@ pub one_argument : (walked : Walked) (host home : HostId) (label : Label) (state
     ++ emitted host label statement (op.Arg param (nodes_of 0 (expr_tree arg)))
     ∷ pass_emissions walked.planned host label statement param (Some home)) →
     traced before (argument_emissions walked host home label statement left (map expr_tree (drop index args))) ≡ start →
-    traced after (argument_emissions walked host home label statement more (map expr_tree (drop (index + 1) args))) ≡ start
-one_argument walked host home label statement start before after left more param args index arg first within arg_is is so =
+    traced after (argument_emissions walked host home label statement more (map expr_tree (drop (index + 1) args))) ≡
+    start
+one_argument walked host home label statement start before after left more param args index arg first within arg_is is
+    so =
     let own = expr_emissions host label statement 0 (expr_tree arg)
     ++ emitted host label statement (op.Arg param (nodes_of 0 (expr_tree arg)))
     ∷ pass_emissions walked.planned host label statement param (Some home) in

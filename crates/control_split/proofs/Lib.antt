@@ -7,7 +7,6 @@ pub mod Stepping
 pub mod SplitParts
 pub mod Alike
 pub mod Reading
-pub mod Spots
 pub mod Nesting
 pub mod Sites
 pub mod TableRows

@@ -73,7 +73,8 @@ pub branch_traced : (walked : Walked) (around : Around) (host : HostId) (left : 
     landed ≡ traced one (lands host start.counts.branches ∷ []) →
     two ≡ traced landed (block_emissions walked inside landed.counts (lane_on host) second) →
     stood ≡ traced two (stands host start.counts.entries ∷ []) →
-    stood ≡ traced start (own_emissions walked around start.counts host left None (branch heading guard first second done))
+    stood ≡ traced start (own_emissions walked around start.counts host left None (branch heading guard first second
+    done))
 branch_traced walked around host left heading guard first second start branched one landed two stood branched_is one_is
     landed_is two_is stood_is =
     let inside = inside_of walked around heading.id guard in

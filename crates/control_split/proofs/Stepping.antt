@@ -1,20 +1,41 @@
 -- Walks of blocks, a statement at a time.
-use Rattle.std.proofs.Common.{◌≡◌, ◌∙◌, List, ◌∷◌, ◌++◌, refl, ap, sym, subst}
+use Rattle.std.proofs.Common.{◌≡◌, ◌∙◌, Bool, true, false, List, ◌∷◌, ◌++◌, refl, ap, sym, subst}
+use Rattle.js_base.specs.declared.ids.HostId.{HostId}
 use Rattle.js_base.specs.declared.ids.StmtId.{StmtId}
 use Rattle.jif_tree.specs.declared.program.Stmt.{Stmt}
 use Rattle.jif_tree.specs.declared.program.StmtKind.{StmtKind}
 use Rattle.jif_tree.specs.declared.program.StmtKind as kind
 use Rattle.jif_tree.specs.Trees.{Heading, BlockTree, done, statement_tree, block_tree, tree_before, head_of}
+use Rattle.msg_cost.proofs.Spots.{next_host, next_stays}
 use Rattle.msg_cost.proofs.Statements.{own_ids}
 use Rattle.msg_cost.specs.declared.spot.Spot.{Spot}
-use Rattle.msg_cost.specs.Moves.{next_spot, carried_to, own_statements}
+use Rattle.msg_cost.specs.Moves.{PlannedShape, is_same, next_spot, carried_to, own_statements}
 use Rattle.msg_cost.specs.PieceViews.{gives}
 use Rattle.msg_cost.specs.Views.{ids_of}
 use Rattle.split_rules.specs.Emissions.{Emission, Counts, counts_after}
-use Rattle.split_rules.specs.Walk.{Walked, Around, Lane, lane_behind, under_token, move_emissions, block_emissions}
+use Rattle.split_rules.specs.Walk.{Walked, Around, Lane, lane_at, lane_behind, under_token, move_emissions}
+use Rattle.split_rules.specs.Walk.{block_emissions}
 use Rattle.control_split.specs.Own.{own_emissions}
 use Rattle.control_split.specs.Trace.{TraceShape, traced}
 use Rattle.control_split.proofs.Traces.{traced_append, traced_counts, counts_append}
+
+-- a lane that moves to the spot of a statement is at that spot
+pub lane_spot : (planned : PlannedShape) (counts : Counts) (lane : Lane) (statement : StmtId) (others : List StmtId) →
+    let next = next_spot planned lane.spot statement others in
+    (lane_at counts lane next).spot ≡ next
+lane_spot planned counts lane statement others = by (is_same lane.spot.host next.host) refl
+  where
+    next : Spot
+    next = next_spot planned lane.spot statement others
+
+    P : HostId → Type 0
+    P one = is_same lane.spot.host one ≡ true
+
+    by : (b : Bool) → is_same lane.spot.host next.host ≡ b → (lane_at counts lane next).spot ≡ next
+    by true is =
+        rw is (sym (next_stays planned lane.spot statement others
+        (subst P (next_host planned lane.spot statement others) is)))
+    by false is = rw is refl
 
 -- what comes of a statement and those behind it, where it is known where it runs and what is behind it
 abbrev one_by_one : Walked → Around → Counts → Lane → Spot → List StmtId → StmtKind → Heading → BlockTree →

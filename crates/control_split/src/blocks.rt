@@ -83,7 +83,7 @@ fn spot_at(
         ids_of (drop place block.now) ≡ statement ∷ others →
         result ≡ next_spot (shape_of planned.now) spot statement others }
     ensures carried { straight_to spot result
-        ≡ carried_to (shape_of planned.now) spot (ids_of (drop place block.now)) }
+        ≡ carried_to (shape_of planned.now) spot (drop place (ids_of block.now)) }
     ensures noted { AreTrustedTo (shape_of planned.now) block.now (place + 1) noted.new }
 {
     if place < block.len() {

@@ -80,8 +80,8 @@ impl<'a> Around<'a> {
     }
 }
 
-/// A spot, the number of the entry that gives back what was lent there, where it was, and the variable whose value rides
-/// once the spot is left.
+/// A spot, the number of the entry that gives back what was lent there, where it was, and the variable whose value
+/// rides once the spot is left.
 #[derive(Clone, Copy)]
 pub struct Lane {
     pub spot: Spot,

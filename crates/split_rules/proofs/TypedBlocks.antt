@@ -15,6 +15,7 @@ use Rattle.jif_tree.specs.WellNumbered.{IsBlockIn, is_some}
 use Rattle.jif_tree.specs.Returns.{ReturnsLast}
 use Rattle.host_code.specs.declared.instruction.Op.TheVariants as op
 use Rattle.need_labels.specs.Plan.{statement_host}
+use Rattle.msg_cost.proofs.Spots.{next_host}
 use Rattle.msg_cost.specs.declared.spot.Spot.{Spot}
 use Rattle.msg_cost.specs.Moves.{PlannedShape, is_same, is_trusted_for, is_trusted_for_all, return_host, on, end_of}
 use Rattle.msg_cost.specs.Moves.{entered, next_spot, straight_to, carried_to, own_statements}
@@ -36,7 +37,7 @@ use Rattle.split_rules.proofs.TypedMoves.{ahead_at, lane_level}
 use Rattle.split_rules.proofs.TypedMoves.{lane_place, IsGivenBack, IsLaneKnown, lane_still, MovesTyped, move_typed}
 use Rattle.split_rules.proofs.TypedMoves.{IsLaneTrusted, IsLaneOut}
 use Rattle.split_rules.proofs.TypedForwards.{IsCarried, IsCarriedWithin, none_out, out_rides, out_sourced}
-use Rattle.split_rules.proofs.WalkedMoves.{one_of_two, next_here, next_there}
+use Rattle.split_rules.proofs.WalkedMoves.{one_of_two}
 use Rattle.split_rules.proofs.WalkedStates.{counts_more}
 use Rattle.split_rules.proofs.WalkedBlocks.{inside_of, branch_front, branch_own, loop_front, loop_own}
 use Rattle.split_rules.proofs.TypedStates.{known_at, counts_in, counts_behind, Leads, leads_still, leads_on, moved_then}
@@ -139,28 +140,9 @@ carried_within : (planned : PlannedShape) →
 carried_within planned there spot [] = tt
 carried_within planned there spot (statement ∷ others) =
     let next = next_spot planned spot statement others in
+    let P : HostId → Type 0 = λ host. host.0 < length planned.hosts.hosts in
     straight_within planned spot.host next.host spot.back next.back
-    (elim (eqb_tells spot.host.0 host.0) [
-      | inl same ↦ subst Q (sym (next_here planned spot statement others same.1))
-          (subst P (sym same.1) (there statement))
-      | inr apart ↦ subst Q (sym (next_there planned spot statement others apart.1)) (entered_within (end_of spot))
-    ])
-  where
-    host : HostId
-    host = statement_host planned.plan statement
-
-    P : ℕ → Type 0
-    P number = number < length planned.hosts.hosts
-
-    Q : Spot → Type 0
-    Q spot = spot.host.0 < length planned.hosts.hosts
-
-    entered_within : (from : HostId) → Q (entered planned from host (statement ∷ others))
-    entered_within from =
-        one_of_two Q (is_same from host) (on host) _ (there statement)
-        (one_of_two Q (is_trusted_for_all planned host (statement ∷ others)) (on host)
-        (record { host = host; back = Some (return_host planned from host (statement ∷ others)) })
-        (there statement) (there statement))
+    (subst P (sym (next_host planned spot statement others)) (there statement))
 
 -- a statement gives this variable its value, if one is given
 abbrev GivesOne : PlannedShape → BlockTree → Option VarId → Type 0

@@ -31,7 +31,8 @@ use Rattle.split_rules.proofs.WalkedMoves.{at_last}
 use Rattle.split_rules.proofs.TypedStates.{known_at, counts_in, typed_on, Leads}
 use Rattle.split_rules.proofs.TypedRows.{covers_due}
 use Rattle.split_rules.proofs.TypedValues.{IsDueOn, Site, expr_typed}
-use Rattle.split_rules.proofs.TypedForwards.{out_behind, out_rides, out_sourced, none_riding, IsGivenOn, all_both}
+use Rattle.split_rules.proofs.BackedLabels.{all_both}
+use Rattle.split_rules.proofs.TypedForwards.{out_behind, out_rides, out_sourced, none_riding, IsGivenOn}
 use Rattle.split_rules.proofs.TypedForwards.{AreCarried, send_typed, pass_typed}
 use Rattle.split_rules.proofs.TypedStatements.{calm_at, riding_at}
 

@@ -19,6 +19,7 @@ use Rattle.split_rules.specs.Positions.{Entrance, number_of, IsOf, IsOut, withou
 use Rattle.split_rules.specs.Typing.{AreDueOn, AreSourced, Gives, RidesAll, here, TypedOp, AreTyped}
 use Rattle.split_rules.proofs.TypedStates.{known_at}
 use Rattle.split_rules.proofs.TypedValues.{Site}
+use Rattle.split_rules.proofs.BackedLabels.{all_both}
 
 abbrev forwards_to : BlockTree → VarId → List HostId → List Forward
 forwards_to source x hosts = map (λ host. record { variable = x; host = host; source = source }) hosts
@@ -124,11 +125,6 @@ pub out_sourced : (planned : PlannedShape) (me : HostId) (source : BlockTree) (x
 out_sourced planned me source x carried given =
     are_sourced planned me source x given
     (hosts_of (filter (gets_riding planned me x carried) (range_with_len 0 (length planned.hosts.hosts))))
-
-pub all_both : {X : Type 0} (P : X → Type 0) (xs ys : List X) → AllByRecursion P xs → AllByRecursion P ys →
-    AllByRecursion P (xs ++ ys)
-all_both P [] ys one two = two
-all_both P (x ∷ xs) ys one two = (one.0, all_both P xs ys one.1 two)
 
 -- ---- sending
 

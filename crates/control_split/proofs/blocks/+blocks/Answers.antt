@@ -1,11 +1,13 @@
 use Rattle.std.proofs.Common.{◌≡◌, ◌∙◌, suc, List, ◌∷◌, Option, drop, ap, sym, subst}
 use Rattle.std.proofs.Common.{◌+◌, OnOk, refl, add-one, arith}
 use Rattle.js_base.specs.declared.ids.HostId.{HostId}
+use Rattle.std.proofs.lemmas.List.{drop-map}
 use Rattle.js_base.proofs.Lists.{next_of}
 use Rattle.jif_tree.specs.declared.program.Stmt.{Stmt}
 use Rattle.jif_tree.specs.declared.program.StmtKind.{StmtKind}
 use Rattle.jif_tree.specs.Trees.{BlockTree, done, expr_tree, statement_tree, block_tree, tree_before, head_of}
 use Rattle.jif_tree.proofs.StatementCounts.{part_counts, body_counts, both_counts}
+use Rattle.msg_cost.proofs.Spots.{next_host}
 use Rattle.msg_cost.specs.declared.spot.Spot.{Spot}
 use Rattle.msg_cost.specs.Kept.{AreTrustedTo}
 use Rattle.msg_cost.specs.Moves.{PlannedShape, next_spot, straight_to, carried_to}
@@ -19,8 +21,7 @@ use Rattle.control_split.specs.Views.{walked_of, around_of, lane_of, riding_of}
 use Rattle.control_split.proofs.Nesting.{branch_front_traced, branch_traced, loop_front_traced, loop_traced}
 use Rattle.control_split.proofs.SizedBlocks.{sized_part, sized_guard, sized_first, sized_second, sized_loop_guard}
 use Rattle.control_split.proofs.SizedBlocks.{sized_body, sized_args}
-use Rattle.control_split.proofs.Spots.{spot_host, lane_spot}
-use Rattle.control_split.proofs.Stepping.{one_walked}
+use Rattle.control_split.proofs.Stepping.{lane_spot, one_walked}
 use Rattle.control_split.proofs.blocks.+blocks.Goals as goal
 
 pub block-loop-place-preserved : goal.block-loop-place-preserved
@@ -36,21 +37,25 @@ block-loop-place-preserved t c =
     let spot = c.loop-place.invariant.2 first.id (ids_of rest) ids in
     let N : PlannedShape → Type 0 = λ planned.
     AreTrustedTo planned c.args.block.now (c.loop-place.place + 1 + 1) c.spot_at-behind.new.noted in
-    let on = ap (λ (there : Spot). there.host) spot ∙ spot_host walked.planned lane.spot first.id (ids_of rest) in
+    let on = ap (λ (there : Spot). there.host) spot ∙ next_host walked.planned lane.spot first.id (ids_of rest) in
     let A : HostId → Type 0 = λ host. IsAhead walked.planned host (first.id ∷ ids_of rest) c.ahead_at-ahead.result in
     let ahead = subst A (sym on) (c.ahead_at-ahead.ensures first.id (ids_of rest) ids) in
     let moved = c.in_ok-lane.ensures.trace walked (first.id ∷ ids_of rest) ahead in
     let C : PlannedShape → Type 0 = λ planned. straight_to next c.spot_at-behind.result
-    ≡ carried_to planned next (ids_of (drop (c.loop-place.place + 1) c.args.block.now)) in
+    ≡ carried_to planned next (drop (c.loop-place.place + 1) (ids_of c.args.block.now)) in
     let carried : c.straight_to-carried.result ≡ carried_to walked.planned next (ids_of rest) =
     c.straight_to-carried.ensures ∙ subst C c.planned-planned.ensures c.spot_at-behind.ensures.carried
-    ∙ ap (λ place. carried_to walked.planned next (ids_of (drop place c.args.block.now))) (add-one c.loop-place.place) in
+    ∙ ap (λ place. carried_to walked.planned next (drop place (ids_of c.args.block.now))) (add-one c.loop-place.place)
+    ∙ ap (carried_to walked.planned next)
+    (drop-map (λ (one : Stmt). one.id) (suc c.loop-place.place) c.args.block.now) in
     let own = c.in_ok-statement.ensures (under_token walked.planned next (ids_of rest))
     (c.left_behind-left.ensures first.id (ids_of rest) ids) in
-    let O : Option HostId → Type 0 = λ to. c.statement.new.trace ≡ traced c.move_on.new.trace (own_emissions walked around
+    let O : Option HostId → Type 0 = λ to. c.statement.new.trace ≡ traced c.move_on.new.trace
+    (own_emissions walked around
     c.move_on.new.trace.counts next.host (under_token walked.planned next (ids_of rest)) to (tree_before first done)) in
     let there = ap (λ one. with_riding one (riding_of c.rides_behind-lane.result)) c.in_ok-lane.ensures.lane
-    ∙ ap (with_riding (lane_at c.loop-place.trace.counts lane next)) (c.rides_behind-lane.ensures (ids_of rest) carried) in
+    ∙ ap (with_riding (lane_at c.loop-place.trace.counts lane next)) (c.rides_behind-lane.ensures (ids_of rest) carried)
+    in
     let at : c.in_ok-lane.lane.spot ≡ next = ap (λ (one : Lane). one.spot) c.in_ok-lane.ensures.lane
     ∙ ap (λ it. (lane_at c.loop-place.trace.counts lane it).spot) spot
     ∙ lane_spot walked.planned c.loop-place.trace.counts lane first.id (ids_of rest) ∙ sym spot in

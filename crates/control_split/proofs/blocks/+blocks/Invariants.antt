@@ -10,8 +10,8 @@ use Rattle.control_split.specs.Trace.{traced}
 use Rattle.control_split.specs.Views.{walked_of, planned_in, around_of, lane_of}
 use Rattle.control_split.proofs.blocks.+blocks.Given as goal
 
--- What is left gives what all statements gave from the start, and it is known where the next statement runs, if there is
--- one.
+-- What is left gives what all statements gave from the start, and it is known where the next statement runs, if there
+-- is one.
 abbrev pub invariant-block-loop-place : goal.invariant-block-loop-place
 invariant-block-loop-place l =
     (traced l.trace (block_emissions (walked_of l.walk) (around_of l.around) l.trace.counts (lane_of l.lane)

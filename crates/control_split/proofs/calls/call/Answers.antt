@@ -28,9 +28,11 @@ returns c = λ left needed.
     let method = method_at (program_tree c.args.walk.now.split.checked.now.program) what.method in
     let args = map expr_tree what.args.now in
     let home = called_home walked.planned method in
-    let gave : List VarId → HostId → List Emission = λ params on. argument_emissions walked host on label id params args in
+    let gave : List VarId → HostId → List Emission = λ params on. argument_emissions walked host on label id params args
+    in
     let ridden : List VarId → HostId → List VarId = λ params on. riding_params walked.planned host on params args in
-    let kept : Option VarId → List Emission = λ given. kept_emissions walked host label id given what.into c.args.carried in
+    let kept : Option VarId → List Emission = λ given. kept_emissions walked host label id given what.into
+    c.args.carried in
     let home_is : c.called_home-home.result ≡ home = c.called_home-home.ensures
     ∙ ap (λ (planned : PlannedShape). called_home planned (method_at planned.program what.method)) c.planned.ensures in
     on_ok_weaker c.keep.result (λ is.
@@ -46,7 +48,8 @@ returns c = λ left needed.
     (ap (λ (need : ℕ). entry (record { host = host; label = label; need = need })) needed))
     c.in_ok-instruction.ensures
     (c.in_ok-arguments.ensures
-    ∙ ap (λ params. traced c.instruction.new.self (gave params c.called_home-home.result)) c.params_of-params.ensures.tree
+    ∙ ap (λ params. traced c.instruction.new.self (gave params c.called_home-home.result))
+    c.params_of-params.ensures.tree
     ∙ ap (λ on. traced c.instruction.new.self (gave (params_of method) on)) home_is)
     (with_one c.arguments.new.trace c.instruction-2.new.self _ _ c.in_ok-instruction-2.ensures
     (ap (λ (number : ℕ). emitted host label id (op.Push (entry_id number))) c.entries-behind.ensures))

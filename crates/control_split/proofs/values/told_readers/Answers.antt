@@ -11,6 +11,7 @@ use Rattle.control_split.proofs.Receivers.{one_gets, one_gets_not}
 use Rattle.control_split.proofs.values.told_readers.Goals as goal
 use Rattle.control_split.proofs.values.told_readers.Goals.{then-other-host+then-has_bit+then-not-is_to+in_ok-push}
 use Rattle.control_split.proofs.values.told_readers.Goals.{else-other-host}
+use Rattle.control_split.proofs.values.told_readers.Goals.{}
 use Rattle.control_split.proofs.values.told_readers.Goals.{else-other-host-via-then-other-host+then-has_bit+else-not-is_to}
 use Rattle.control_split.proofs.values.told_readers.Goals.{else-other-host-via-then-other-host+else-has_bit}
 use Rattle.control_split.proofs.values.told_readers.Goals.{else-other-host-via-else-other-host}
