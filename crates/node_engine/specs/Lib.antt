@@ -8,6 +8,7 @@ pub mod Notes
 pub mod Options
 pub mod Said
 pub mod Seals
+pub mod SealsFile
 pub mod Serving
 pub mod Statuses
 pub mod Told

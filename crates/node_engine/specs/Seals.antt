@@ -19,12 +19,12 @@ pub record SealedLinks : Type 0 where
 abbrev pub SealsShape : Type 0
 SealsShape = Option SealedLinks
 
-abbrev pub link_in : Option (Option LinkShape) → Option LinkShape
+abbrev pub link_in : {X : Type 0} → Option (Option X) → Option X
 link_in None = None
 link_in (Some link) = link
 
 -- the link of a host
-abbrev pub link_of : List (Option LinkShape) → HostId → Option LinkShape
+abbrev pub link_of : {X : Type 0} → List (Option X) → HostId → Option X
 link_of links host = link_in (slice_get links host.0)
 
 -- these links behind one more frame of the link of a host, where there is one

@@ -16,7 +16,7 @@ use std::marker::Model;
 /// back.
 #[derive(Drop)]
 pub struct Seals {
-    links: Option<SealedLinks>,
+    pub(crate) links: Option<SealedLinks>,
 }
 
 impl Model for Seals {
@@ -30,11 +30,11 @@ impl Model for Seals {
 
 /// The links of a node, by the number of the other host. There is none at the number of the node's own.
 #[derive(Drop)]
-struct SealedLinks {
+pub(crate) struct SealedLinks {
     /// those that lead to the other hosts
-    sealers: Vec<Option<Sealer>>,
+    pub(crate) sealers: Vec<Option<Sealer>>,
     /// and those that lead from them
-    openers: Vec<Option<Opener>>,
+    pub(crate) openers: Vec<Option<Opener>>,
 }
 
 /// What bytes come to that arrived.
