@@ -27,13 +27,14 @@ use Rattle.host_code.specs.declared.instruction.Op.TheVariants as op
 use Rattle.host_code.specs.declared.code_expr.Node.TheVariants as node
 use Rattle.need_labels.specs.Labelled.{Labelled, all_labels}
 use Rattle.msg_cost.specs.declared.spot.Spot.{Spot}
-use Rattle.msg_cost.specs.Moves.{PlannedShape, is_same, end_of, next_spot, own_statements, home_of}
+use Rattle.msg_cost.specs.Moves.{PlannedShape, is_same, end_of, next_spot, own_statements, home_of, called_home}
 use Rattle.msg_cost.proofs.Bounds.{all_left, all_right}
 use Rattle.split_file.specs.File.{HasExpressions, IsWordExpression}
 use Rattle.split_rules.specs.Emissions.{Emission, instruction, entry, stands, lands, Counts, counts_after}
 use Rattle.split_rules.specs.Expressions.{Reading, reads_in, readings_of}
 use Rattle.split_rules.specs.Walk.{Walked, Around, Lane, lane_on, under_token, emitted, need_of, entry_id}
-use Rattle.split_rules.specs.Walk.{push_or_ask, expr_emissions, other_readers, leave_emissions, enter_emissions}
+use Rattle.split_rules.specs.Walk.{push_or_ask, expr_emissions, told_readers, leave_emissions, enter_emissions}
+use Rattle.split_rules.specs.Walk.{send_emissions, pass_emissions, go_with, call_with}
 use Rattle.split_rules.specs.Walk.{move_emissions, end_emissions, argument_emissions, kept_emissions, call_emissions}
 use Rattle.split_rules.specs.Walk.{result_emissions, block_emissions, walked_in, method_emissions, methods_emissions}
 use Rattle.split_rules.proofs.WalkedMoves.{one_of_two}
@@ -86,17 +87,17 @@ module _ (pc : Label) (statement : StmtId) (under : IsLabel pc) (small : stateme
   expr_real host first expr real few =
       reads_real host pc statement under small (readings_of first expr) (readings_real first expr real few)
 
-  sends_real : (host : HostId) (planned : PlannedShape) (x : VarId) →
-      AreReal (map (λ other. emitted host pc statement (op.Send x other)) (other_readers planned host x))
-  sends_real host planned x =
+  sends_real : (host : HostId) (planned : PlannedShape) (x : VarId) (carried : Option HostId) →
+      AreReal (send_emissions planned host pc statement x carried)
+  sends_real host planned x carried =
       mapped_real (λ other. emitted host pc statement (op.Send x other)) (λ other. (under, small, tt))
-      (other_readers planned host x)
+      (told_readers planned host x carried)
 
-  passes_real : (host : HostId) (planned : PlannedShape) (x : VarId) →
-      AreReal (map (λ other. emitted host pc statement (op.Pass x other)) (other_readers planned host x))
-  passes_real host planned x =
+  passes_real : (host : HostId) (planned : PlannedShape) (x : VarId) (carried : Option HostId) →
+      AreReal (pass_emissions planned host pc statement x carried)
+  passes_real host planned x carried =
       mapped_real (λ other. emitted host pc statement (op.Pass x other)) (λ other. (under, small, tt))
-      (other_readers planned host x)
+      (told_readers planned host x carried)
 
 -- ---- what is known of a walk
 
@@ -123,29 +124,34 @@ inside_real walked around heading guard walk known small written = record {
 -- ---- moves
 
 leave_real : (around : Around) (lane : Lane) → IsRealAround around → AreReal (leave_emissions around lane)
-leave_real around lane known = by lane.spot.host lane.spot.back lane.return_entry
+leave_real around lane known = by lane.spot.host lane.spot.back lane.return_entry lane.riding
   where
-    by : (host : HostId) (back : Option HostId) (return : ℕ) →
-        let it : Lane = record { spot = record { host = host; back = back }; return_entry = return } in
-        AreReal (leave_emissions around it)
-    by host None return = none_real
-    by host (Some back) return = more_real (known.pc, known.owner, tt) (more_real tt none_real)
+    by : (host : HostId) (back : Option HostId) (return : ℕ) (riding : List VarId) →
+        let spot : Spot = record { host = host; back = back } in
+        AreReal (leave_emissions around (record { spot = spot; return_entry = return; riding = riding }))
+    by host None return riding = none_real
+    by host (Some back) return riding = more_real (known.pc, known.owner, tt) (more_real tt none_real)
 
 push_or_ask_real : (from host : HostId) (number : ℕ) → HasExpressions (push_or_ask from host number)
 push_or_ask_real from host number =
     one_of_two HasExpressions (is_same from host) (op.Push (entry_id number)) (op.Ask (entry_id number) host) tt tt
 
+go_real : (riders : List VarId) (number : ℕ) (host : HostId) → HasExpressions (go_with riders (entry_id number) host)
+go_real [] number host = tt
+go_real (x ∷ riders) number host = tt
+
 enter_real : (walked : Walked) (around : Around) → IsRealWalk walked → IsRealAround around → (counts : Counts)
-    (from host : HostId) (back : Option HostId) (statements : List StmtId) →
-    AreReal (enter_emissions walked around counts from (record { host = host; back = back }) statements)
-enter_real walked around walk known counts from host None statements =
+    (from : HostId) (riders : List VarId) (host : HostId) (back : Option HostId) (statements : List StmtId) →
+    AreReal (enter_emissions walked around counts from riders (record { host = host; back = back }) statements)
+enter_real walked around walk known counts from riders host None statements =
     one_of_two AreReal (is_same from host) [] _ none_real
-    (more_real (known.pc, walk.needs statements) (more_real (known.pc, known.owner, tt) (more_real tt none_real)))
-enter_real walked around walk known counts from host (Some back) statements =
+    (more_real (known.pc, walk.needs statements) (more_real (known.pc, known.owner, go_real riders counts.entries host)
+    (more_real tt none_real)))
+enter_real walked around walk known counts from riders host (Some back) statements =
     one_of_two AreReal (is_same from host) [] _ none_real
     (more_real (known.pc, walk.needs _) (more_real (known.pc, walk.needs _)
     (more_real (known.pc, known.owner, push_or_ask_real from back counts.entries)
-    (more_real (known.pc, known.owner, tt) (more_real tt none_real)))))
+    (more_real (known.pc, known.owner, go_real riders (counts.entries + 1) host) (more_real tt none_real)))))
 
 move_real : (walked : Walked) (around : Around) → IsRealWalk walked → IsRealAround around → (counts : Counts)
     (lane : Lane) (next : Spot) (statements : List StmtId) →
@@ -153,7 +159,7 @@ move_real : (walked : Walked) (around : Around) → IsRealWalk walked → IsReal
 move_real walked around walk known counts lane next statements =
     one_of_two AreReal (is_same lane.spot.host next.host) [] _ none_real
     (both_real (leave_real around lane known)
-    (enter_real walked around walk known counts (end_of lane.spot) next.host next.back statements))
+    (enter_real walked around walk known counts (end_of lane.spot) lane.riding next.host next.back statements))
 
 end_real : (around : Around) (lane : Lane) → IsRealAround around → AreReal (end_emissions around lane)
 end_real around lane known =
@@ -163,41 +169,47 @@ end_real around lane known =
 
 module _ (walked : Walked) (walk : IsRealWalk walked) (pc : Label) (statement : StmtId) (under : IsLabel pc)
     (small : statement.0 < 2 ^ 32) where
-  arguments_real : (host : HostId) (params : List VarId) (arguments : List ExprTree) →
+  arguments_real : (host home : HostId) (params : List VarId) (arguments : List ExprTree) →
       AllByRecursion ExprHasNumbers arguments → sum (map expr_nodes arguments) ≤ EXPRESSION_NODES →
-      AreReal (argument_emissions walked host pc statement params arguments)
-  arguments_real host params [] real few = none_real
-  arguments_real host [] (argument ∷ others) real few = none_real
-  arguments_real host (param ∷ params) (argument ∷ others) real few =
+      AreReal (argument_emissions walked host home pc statement params arguments)
+  arguments_real host home params [] real few = none_real
+  arguments_real host home [] (argument ∷ others) real few = none_real
+  arguments_real host home (param ∷ params) (argument ∷ others) real few =
       let both : sum (map expr_nodes (argument ∷ others)) ≡ expr_nodes argument + sum (map expr_nodes others) =
       sum_by-cons (λ nodes. nodes) (expr_nodes argument) (map expr_nodes others) in
       let own : expr_nodes argument ≤ EXPRESSION_NODES = omega (arith, both, few) in
       both_real (both_real (expr_real pc statement under small host 0 argument real.0 own)
       (more_real (under, small, expression_real 0 argument real.0 own)
-      (passes_real pc statement under small host walked.planned param)))
-      (arguments_real host params others real.1 (omega (arith, both, few)))
+      (passes_real pc statement under small host walked.planned param (Some home))))
+      (arguments_real host home params others real.1 (omega (arith, both, few)))
 
-  kept_real : (host : HostId) (result into : Option VarId) →
-      AreReal (kept_emissions walked host pc statement result into)
-  kept_real host (Some result) (Some into) =
-      more_real (under, small, result_real result) (sends_real pc statement under small host walked.planned into)
+  kept_real : (host : HostId) (result into : Option VarId) (carried : Option HostId) →
+      AreReal (kept_emissions walked host pc statement result into carried)
+  kept_real host (Some result) (Some into) carried =
+      more_real (under, small, result_real result) (sends_real pc statement under small host walked.planned into carried)
     where
       result_real : (x : VarId) → IsWordExpression (node.Var x ∷ [])
       result_real x = expression_real 0 (local x) tt (omega arith)
-  kept_real host (Some result) None = none_real
-  kept_real host None (Some into) = none_real
-  kept_real host None None = none_real
+  kept_real host (Some result) None carried = none_real
+  kept_real host None (Some into) carried = none_real
+  kept_real host None None carried = none_real
+
+  called_real : (riders : List VarId) (number : ℕ) (home : HostId) →
+      HasExpressions (call_with riders (entry_id number) home)
+  called_real [] number home = tt
+  called_real (x ∷ riders) number home = tt
 
   call_real : (counts : Counts) (host : HostId) (site : SiteId) (method : MethodId) (arguments : List ExprTree)
-      (into : Option VarId) (left : List StmtId) → AllByRecursion ExprHasNumbers arguments →
+      (into : Option VarId) (carried : Option HostId) (left : List StmtId) → AllByRecursion ExprHasNumbers arguments →
       sum (map expr_nodes arguments) ≤ EXPRESSION_NODES →
-      AreReal (call_emissions walked counts host pc statement site method arguments into left)
-  call_real counts host site method arguments into left real few =
+      AreReal (call_emissions walked counts host pc statement site method arguments into carried left)
+  call_real counts host site method arguments into carried left real few =
       let called = method_at walked.labelled.program method in
+      let home = called_home walked.planned called in
       more_real (under, walk.needs (statement ∷ left)) (more_real (under, small, tt)
-      (both_real (arguments_real host (params_of called) arguments real few)
-      (more_real (under, small, tt) (more_real (under, small, tt) (more_real tt
-      (kept_real host (result_of called) into))))))
+      (both_real (arguments_real host home (params_of called) arguments real few)
+      (more_real (under, small, tt) (more_real (under, small, called_real _ (suc method.0) home) (more_real tt
+      (kept_real host (result_of called) into carried))))))
 
   result_real : (host : HostId) (value : ExprTree) → ExprHasNumbers value → expr_nodes value ≤ EXPRESSION_NODES →
       AreReal (result_emissions walked host pc statement value)
@@ -259,7 +271,7 @@ block_real walked walk (set_local heading x value rest) real written few ids aro
     statement_real walked around walk known counts lane heading.id (own_statements rest) _ _
     (both_real (expr_real around.pc heading.id known.pc small host 0 value real.0 own)
     (more_real (known.pc, small, expression_real 0 value real.0 own)
-    (sends_real around.pc heading.id known.pc small host walked.planned x)))
+    (sends_real around.pc heading.id known.pc small host walked.planned x _)))
     (block_real walked walk rest real.1
     (all_right IsLabel (written_in value) (written_in_block rest) written) (All-tail IsFew (expr_nodes value) (block_nodes rest) few)
     (All-tail IsSmall heading.id.0 (block_statements rest) ids) around known _ _)
@@ -355,7 +367,7 @@ block_real walked walk (call heading site called arguments into rest) real writt
     let here = counts_after counts (move_emissions walked around counts lane next (heading.id ∷ others)) in
     let nodes = sum (map expr_nodes arguments) in
     statement_real walked around walk known counts lane heading.id others _ _
-    (call_real walked walk around.pc heading.id known.pc small here next.host site called arguments into
+    (call_real walked walk around.pc heading.id known.pc small here next.host site called arguments into _
     (under_token walked.planned next others) real.0 (All-head IsFew nodes (block_nodes rest) few))
     (block_real walked walk rest real.1
     (all_right IsLabel (flat_map written_in arguments) (written_in_block rest) written) (All-tail IsFew nodes (block_nodes rest) few)

@@ -278,9 +278,11 @@ block_named has basis planned tree around (set_local heading x value rest) block
     parts_named has basis counts _ _ _
     (move_named has basis walked around counts lane next (heading.id ∷ others) block)
     (λ told. all_both (IsWellNamed has basis) (expr_emissions next.host pc heading.id 0 value) _
-    (expr_named has basis next.host pc heading.id 0 value)
-    (tt, sends_named has basis next.host pc heading.id x
-    (told_readers planned next.host x (carried_to planned next others))))
+    (expr_named has basis next.host pc heading.id 0 value) (
+      tt,
+      sends_named has basis next.host pc heading.id x
+          (told_readers planned next.host x (carried_to planned next others)),
+    ))
     (block_named has basis planned tree around rest block kept.1 there.1 _ (lane_behind walked counts lane next (Some x) others))
 block_named has basis planned tree around (set_field heading field value rest) block kept there counts lane =
     let walked = walked_in basis.principals basis.labelled planned tree in
