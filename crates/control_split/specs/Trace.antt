@@ -5,7 +5,6 @@ use Rattle.js_base.specs.declared.ids.StmtId.{StmtId}
 use Rattle.js_base.specs.declared.ids.VarId.{VarId}
 use Rattle.label_lattice.specs.declared.label.Label.{Label}
 use Rattle.label_lattice.specs.Lattice.{empty_label}
-use Rattle.host_code.specs.declared.instruction.Op.TheVariants as op
 use Rattle.control_split.specs.declared.needs.Ahead.{Ahead}
 use Rattle.control_split.specs.declared.trace.TraceItem.{TraceItem}
 use Rattle.control_split.specs.declared.trace.TraceItem.TheVariants as item

@@ -1,7 +1,6 @@
 -- Blocks: from a lane on, where the statements that are left are due, all emissions of a block are typed.
 use Rattle.std.proofs.Common.{◌≡◌, ◌∙◌, Bool, true, false, List, [], ◌∷◌, ◌++◌, map, length, refl, ap, sym, subst}
-use Rattle.std.proofs.Common.{ℕ, ◌<◌, inl, inr, true≢false, append_assoc, eqb-true}
-use Rattle.std.proofs.lemmas.Bool.Decides.{eqb_tells}
+use Rattle.std.proofs.Common.{◌<◌, inl, true≢false, append_assoc, eqb-true}
 use Rattle.std.specs.Prelude.{Option, Some, None, ⊤, if◌then◌else◌}
 use Rattle.js_base.specs.declared.ids.HostId.{HostId}
 use Rattle.js_base.specs.declared.ids.VarId.{VarId}
@@ -17,8 +16,8 @@ use Rattle.host_code.specs.declared.instruction.Op.TheVariants as op
 use Rattle.need_labels.specs.Plan.{statement_host}
 use Rattle.msg_cost.proofs.Spots.{next_host}
 use Rattle.msg_cost.specs.declared.spot.Spot.{Spot}
-use Rattle.msg_cost.specs.Moves.{PlannedShape, is_same, is_trusted_for, is_trusted_for_all, return_host, on, end_of}
-use Rattle.msg_cost.specs.Moves.{entered, next_spot, straight_to, carried_to, own_statements}
+use Rattle.msg_cost.specs.Moves.{PlannedShape, is_same, is_trusted_for, on}
+use Rattle.msg_cost.specs.Moves.{next_spot, straight_to, carried_to, own_statements}
 use Rattle.split_rules.specs.Emissions.{Emission, Counts, counts_after}
 use Rattle.split_rules.specs.Walk.{Walked, Around, Lane, lane_on, lane_at, lane_behind, under_token, emitted}
 use Rattle.split_rules.specs.Walk.{expr_emissions, rides_behind}

@@ -18,8 +18,10 @@ use Rattle.split_rules.specs.Positions.{no_call, Position, Entrance, calm, with_
 use Rattle.split_rules.specs.TypedCode.{Table, IsTypedOp, IsTypedEntry, IsTypedCode}
 use Rattle.split_rules.specs.Typing.{EntryIs, IsTrustedAt, AreDueOn, AreSourced, Covers, need_due, IsCalm, RidesAll}
 use Rattle.split_rules.specs.Typing.{Reads, Pushes, Follows, Enters}
-use Rattle.split_rules.specs.TypingExamples.{code_instead, CanBeTyped, as_given, rides, sent_and_rides, kept_back}
-use Rattle.split_rules.specs.TypingExamples.{kept_from_call, ridden_table, lent_local, lent_local_table, called_table}
+use Rattle.split_rules.specs.TypingExamples.{code_instead, CanBeTyped, as_given, sent_instead, rides, sent_and_rides}
+use Rattle.split_rules.specs.TypingExamples.{kept_back}
+use Rattle.split_rules.specs.TypingExamples.{kept_from_call, sent_first_table, ridden_table, lent_local}
+use Rattle.split_rules.specs.TypingExamples.{lent_local_table, called_table}
 use Rattle.split_rules.specs.TypingExamples.{called_level, local_out, lent_past_local, framed, argued, param_out}
 use Rattle.split_rules.specs.Walk.{need_of}
 use Rattle.split_rules.specs.Worked.{host_id, var_id, field_id, site_id, increased, sent_local, called, calling}
@@ -165,6 +167,46 @@ local_rides =
               (
                 ((both, tt), sets sent_local entries (run reading ∷ []) refl),
                 (((both.1, ((refl, refl, setting_of, refl), tt)), ((refl, refl), (refl, (refl, tt)), refl)), tt),
+              ),
+              (
+                (
+                  ((there, tt), reads_first sent_local second main_level reading [] (field_id 0) refl refl),
+                  (((there, tt), stores sent_local entries second main_level refl), (((tt, tt), refl), tt)),
+                ),
+                tt,
+              ),
+            ) host.0;
+      },
+    )
+
+-- or is sent before
+pub local_sent : CanBeTyped sent_local sent_instead
+unfolding is_trusted_by
+local_sent =
+    let first = host_id 0 in
+    let second = host_id 1 in
+    let entries = sent_first_table.entries in
+    let both : AreDueOn sent_local first (run setting ∷ run reading ∷ []) =
+    ((refl, setting_of), ((refl, reading_of), tt)) in
+    let there : AreDueOn sent_local second (run reading ∷ []) = ((refl, reading_of), tt) in (
+      sent_first_table,
+      record {
+        many = refl;
+        halts = refl;
+        methods = each_at (IsMethodEntry sent_local sent_first_table) sent_local.program.methods (refl, tt);
+        entries = each_at (IsEntryBehind sent_local sent_first_table)
+            (drop 1 (code_instead sent_local sent_instead).entries) (
+              enters sent_local sent_first_table 1 _ main_level (run setting ∷ run reading ∷ []) refl refl both refl,
+              (enters sent_local sent_first_table 2 _ main_level (run reading ∷ []) refl refl there refl, tt),
+            );
+        instructions = λ host. each_part (IsTypedThere sent_local sent_first_table)
+            (code_instead sent_local sent_instead).parts (
+              (
+                ((both, tt), sets sent_local entries (run reading ∷ []) refl),
+                (
+                  ((both.1, ((refl, refl, setting_of, refl), tt)), (refl, (refl, inl (refl, refl), refl))),
+                  (((both.1, tt), (refl, refl)), tt),
+                ),
               ),
               (
                 (

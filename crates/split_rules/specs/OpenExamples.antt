@@ -54,7 +54,8 @@ increase id field = set_field (heading id) (field_id field) (increased field (nu
 abbrev pub tests_first : Position → Position
 tests_first here = with_reads here (record { field = field_id 0; index = number (pos 0) } ∷ [])
 
--- A local is set, then sent to the host that reads it, and then that host is handed the right to go on.
+-- A local is set, then sent to the host that reads it, as typed code may do in place of letting it ride, and then that
+-- host is handed the right to go on.
 abbrev pub setting : BlockTree
 setting = set_local (heading 1) (var_id 0) (number (pos 7)) done
 

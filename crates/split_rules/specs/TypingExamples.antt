@@ -43,7 +43,12 @@ CanBeTyped planned instead = (table : Table) × IsTypedCode planned (code_instea
 abbrev pub as_given : Op → List Op
 as_given what = what ∷ []
 
--- the local rides, and is sent too
+-- the local is sent in place of riding
+abbrev pub sent_instead : Op → List Op
+sent_instead (op.GoWith there on riders) = op.Send (var_id 0) on ∷ op.Go there on ∷ []
+sent_instead other = other ∷ []
+
+-- it rides, and is sent too
 abbrev pub sent_and_rides : Op → List Op
 sent_and_rides (op.GoWith there on riders) = op.Send (var_id 0) on ∷ op.GoWith there on riders ∷ []
 sent_and_rides other = other ∷ []
@@ -88,6 +93,17 @@ ridden_table =
     ∷ entrance (calm main_level (run reading ∷ [])) 0 ∷ [])
     ((calm main_level (run setting ∷ run reading ∷ [])
     ∷ local_out (calm main_level (run reading ∷ [])) ∷ [])
+    ∷ (calm main_level (run reading ∷ [])
+    ∷ tests_first (calm main_level (run reading ∷ []))
+    ∷ calm main_level [] ∷ []) ∷ [])
+
+-- where it is sent first
+abbrev pub sent_first_table : Table
+sent_first_table =
+    table_with ridden_table.entries
+    ((calm main_level (run setting ∷ run reading ∷ [])
+    ∷ local_out (calm main_level (run reading ∷ []))
+    ∷ calm main_level (run reading ∷ []) ∷ [])
     ∷ (calm main_level (run reading ∷ [])
     ∷ tests_first (calm main_level (run reading ∷ []))
     ∷ calm main_level [] ∷ []) ∷ [])

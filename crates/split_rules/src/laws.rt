@@ -20,8 +20,8 @@ ghost use Rattle.split_rules.specs.Opening.{NamesWithin, IsCoveredBy};
 ghost use Rattle.split_rules.specs.OpenExamples.{code_of, untrusted, trusted_by_first, thread_on_first, lent_table};
 ghost use Rattle.split_rules.specs.OpenExamples.{sent_table, branched_table, looped_table, FirstOpens};
 ghost use Rattle.split_rules.specs.TypingExamples.{first_instead, CanBeTyped, as_given, rides, sent_and_rides};
-ghost use Rattle.split_rules.specs.TypingExamples.{kept_back};
-ghost use Rattle.split_rules.specs.TypingExamples.{kept_from_call, lent_local, lent_past_local};
+ghost use Rattle.split_rules.specs.TypingExamples.{sent_instead, kept_back, kept_from_call, lent_local};
+ghost use Rattle.split_rules.specs.TypingExamples.{lent_past_local};
 ghost use Rattle.split_rules.specs.Settled.{AreSettled};
 ghost use Rattle.split_rules.specs.Walk.{program_emissions};
 ghost use Rattle.std.specs.Prelude.{◌≡◌, ℕ, ◌+◌, ◌*◌, ◌≤◌, List, ◌∷◌, [], length, pos};
@@ -122,6 +122,8 @@ pub fn typing_laws()
 pub fn typing_examples()
     // A local is not sent before the thread is handed over, but rides with it.
     ensures local_rides { CanBeTyped sent_local as_given }
+    // It may be sent as well.
+    ensures local_sent { CanBeTyped sent_local sent_instead }
     // It rides where the entry behind is pushed between.
     ensures rides_past_push { CanBeTyped lent_local as_given }
     // A parameter rides with the call, behind the push of the entry where the result is kept.

@@ -1,4 +1,4 @@
-use Rattle.std.proofs.Common.{◌≡◌, ◌∙◌, Bool, Vec, Global, List, [], ◌∷◌, ◌++◌, Some, if◌then◌else◌, ap, sym, arith}
+use Rattle.std.proofs.Common.{◌≡◌, ◌∙◌, Bool, Vec, Global, List, [], ◌∷◌, ◌++◌, if◌then◌else◌, ap, sym, arith}
 use Rattle.std.proofs.Common.{append_assoc, append-nil, add-one, ◌+◌, suc, refl, slice_index_or}
 use Rattle.js_base.specs.declared.ids.VarId.{VarId}
 use Rattle.control_split.specs.Views.{planned_in}

@@ -6,6 +6,9 @@ use Rattle.split_rules.proofs.laws.typing_examples.Goals as goal
 pub returns-clause-local_rides : goal.returns-clause-local_rides
 returns-clause-local_rides c = example.local_rides
 
+pub returns-clause-local_sent : goal.returns-clause-local_sent
+returns-clause-local_sent c = example.local_sent
+
 pub returns-clause-rides_past_push : goal.returns-clause-rides_past_push
 returns-clause-rides_past_push c = example.rides_past_push
 
