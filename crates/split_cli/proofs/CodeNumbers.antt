@@ -23,13 +23,15 @@ use Rattle.host_code.specs.declared.instruction.Op.{Op}
 use Rattle.host_code.specs.declared.instruction.Op.TheVariants as op
 use Rattle.need_labels.specs.Labelled.{Labelled}
 use Rattle.msg_cost.specs.declared.spot.Spot.{Spot}
-use Rattle.msg_cost.specs.Moves.{PlannedShape, is_same, end_of, next_spot, own_statements, home_of}
+use Rattle.msg_cost.specs.Moves.{PlannedShape, is_same, end_of, next_spot, carried_to, own_statements, home_of}
+use Rattle.msg_cost.specs.Moves.{called_home}
 use Rattle.split_rules.specs.Placed.{PlacedProgram, planned_from}
 use Rattle.split_rules.specs.Emissions.{Emission, instruction, entry, stands, lands, Counts, counts_after}
 use Rattle.split_rules.specs.Expressions.{Reading, reads_in, nodes_of, readings_of, first_element}
 use Rattle.split_rules.specs.SplitCode.{emitted_on, landed, placed_instruction, part_on, code_labels, split_code}
 use Rattle.split_rules.specs.Walk.{Walked, Around, Lane, lane_on, entry_id, under_token, emitted, push_or_ask}
-use Rattle.split_rules.specs.Walk.{expr_emissions, read_emissions, other_readers, leave_emissions}
+use Rattle.split_rules.specs.Walk.{expr_emissions, read_emissions, told_readers, leave_emissions, go_with, call_with}
+use Rattle.split_rules.specs.Walk.{riding_params}
 use Rattle.split_rules.specs.Walk.{enter_emissions, move_emissions, end_emissions, argument_emissions, kept_emissions}
 use Rattle.split_rules.specs.Walk.{call_emissions, result_emissions, block_emissions, walked_in, method_entry}
 use Rattle.split_rules.specs.Walk.{method_emissions, methods_emissions, halt_entries, program_emissions}
@@ -125,70 +127,85 @@ passes_have host pc statement x (other ∷ others) = (tt, passes_have host pc st
 
 leaves_then : (around : Around) (lane : Lane) (more : List Emission) → EmitNumbers more →
     EmitNumbers (leave_emissions around lane ++ more)
-leaves_then around lane more small = by lane.spot.host lane.spot.back lane.return_entry
+leaves_then around lane more small = by lane.spot.host lane.spot.back lane.return_entry lane.riding
   where
-    by : (host : HostId) (back : Option HostId) (place : ℕ) →
-        let it : Lane = record { spot = record { host = host; back = back }; return_entry = place } in
-        EmitNumbers (leave_emissions around it ++ more)
-    by host None place = small
-    by host (Some back) place = (tt, (tt, small))
+    by : (host : HostId) (back : Option HostId) (place : ℕ) (riding : List VarId) →
+        let spot : Spot = record { host = host; back = back } in
+        EmitNumbers (leave_emissions around (record { spot = spot; return_entry = place; riding = riding }) ++ more)
+    by host None place riding = small
+    by host (Some back) place riding = (tt, (tt, small))
 
 push_has : (from host : HostId) (place : ℕ) → OperationHasNumbers (push_or_ask from host place)
 push_has from host place =
     one_of_two OperationHasNumbers (is_same from host) (op.Push (entry_id place)) (op.Ask (entry_id place) host) tt tt
 
-enters_have : (walked : Walked) (around : Around) (counts : Counts) (from host : HostId) (back : Option HostId)
-    (statements : List StmtId) →
-    EmitNumbers (enter_emissions walked around counts from (record { host = host; back = back }) statements)
-enters_have walked around counts from host None statements =
-    one_of_two EmitNumbers (is_same from host) [] _ tt (tt, (tt, (tt, tt)))
-enters_have walked around counts from host (Some back) statements =
-    one_of_two EmitNumbers (is_same from host) [] _ tt (tt, (tt, (push_has from back counts.entries, (tt, (tt, tt)))))
+go_has : (riders : List VarId) (place : ℕ) (host : HostId) →
+    OperationHasNumbers (go_with riders (entry_id place) host)
+go_has [] place host = tt
+go_has (x ∷ riders) place host = tt
+
+enters_have : (walked : Walked) (around : Around) (counts : Counts) (from : HostId) (riders : List VarId)
+    (host : HostId) (back : Option HostId) (statements : List StmtId) →
+    EmitNumbers (enter_emissions walked around counts from riders (record { host = host; back = back }) statements)
+enters_have walked around counts from riders host None statements =
+    one_of_two EmitNumbers (is_same from host) [] _ tt (tt, (go_has riders counts.entries host, (tt, tt)))
+enters_have walked around counts from riders host (Some back) statements =
+    one_of_two EmitNumbers (is_same from host) [] _ tt
+    (tt, (tt, (push_has from back counts.entries, (go_has riders (counts.entries + 1) host, (tt, tt)))))
 
 moves_have : (walked : Walked) (around : Around) (counts : Counts) (lane : Lane) (next : Spot)
     (statements : List StmtId) → EmitNumbers (move_emissions walked around counts lane next statements)
 moves_have walked around counts lane next statements =
     one_of_two EmitNumbers (is_same lane.spot.host next.host) [] _ tt
-    (leaves_then around lane (enter_emissions walked around counts (end_of lane.spot) next statements)
-    (enters_have walked around counts (end_of lane.spot) next.host next.back statements))
+    (leaves_then around lane (enter_emissions walked around counts (end_of lane.spot) lane.riding next statements)
+    (enters_have walked around counts (end_of lane.spot) lane.riding next.host next.back statements))
 
 end_has : (around : Around) (lane : Lane) → EmitNumbers (end_emissions around lane)
 end_has around lane = leaves_then around lane _ (tt, tt)
 
 -- ---- calls
 
-arguments_have : (walked : Walked) (host : HostId) (pc : Label) (statement : StmtId) (params : List VarId)
+arguments_have : (walked : Walked) (host home : HostId) (pc : Label) (statement : StmtId) (params : List VarId)
     (arguments : List ExprTree) → AllByRecursion ExprHasNumbers arguments →
-    EmitNumbers (argument_emissions walked host pc statement params arguments)
-arguments_have walked host pc statement params [] small = tt
-arguments_have walked host pc statement [] (argument ∷ others) small = tt
-arguments_have walked host pc statement (param ∷ params) (argument ∷ others) small =
+    EmitNumbers (argument_emissions walked host home pc statement params arguments)
+arguments_have walked host home pc statement params [] small = tt
+arguments_have walked host home pc statement [] (argument ∷ others) small = tt
+arguments_have walked host home pc statement (param ∷ params) (argument ∷ others) small =
     both _ _
-    (both (expr_emissions host pc statement 0 argument) _ (expr_has host pc statement 0 argument small.0)
-    (nodes_have 0 argument small.0, passes_have host pc statement param (other_readers walked.planned host param)))
-    (arguments_have walked host pc statement params others small.1)
+    (both (expr_emissions host pc statement 0 argument) _ (expr_has host pc statement 0 argument small.0) (
+      nodes_have 0 argument small.0,
+      passes_have host pc statement param (told_readers walked.planned host param (Some home)),
+    ))
+    (arguments_have walked host home pc statement params others small.1)
 
-kept_has : (walked : Walked) (host : HostId) (pc : Label) (statement : StmtId) (result into : Option VarId) →
-    EmitNumbers (kept_emissions walked host pc statement result into)
-kept_has walked host pc statement (Some result) (Some into) =
-    (one_node (node.Var result) tt, sends_have host pc statement into (other_readers walked.planned host into))
-kept_has walked host pc statement (Some result) None = tt
-kept_has walked host pc statement None (Some into) = tt
-kept_has walked host pc statement None None = tt
+kept_has : (walked : Walked) (host : HostId) (pc : Label) (statement : StmtId) (result into : Option VarId)
+    (carried : Option HostId) → EmitNumbers (kept_emissions walked host pc statement result into carried)
+kept_has walked host pc statement (Some result) (Some into) carried =
+    (one_node (node.Var result) tt, sends_have host pc statement into (told_readers walked.planned host into carried))
+kept_has walked host pc statement (Some result) None carried = tt
+kept_has walked host pc statement None (Some into) carried = tt
+kept_has walked host pc statement None None carried = tt
+
+called_has : (riders : List VarId) (place : ℕ) (home : HostId) →
+    OperationHasNumbers (call_with riders (entry_id place) home)
+called_has [] place home = tt
+called_has (x ∷ riders) place home = tt
 
 call_has : (walked : Walked) (counts : Counts) (host : HostId) (pc : Label) (statement : StmtId) (site : SiteId)
-    (method : MethodId) (arguments : List ExprTree) (into : Option VarId) (left : List StmtId) →
-    AllByRecursion ExprHasNumbers arguments →
-    EmitNumbers (call_emissions walked counts host pc statement site method arguments into left)
-call_has walked counts host pc statement site method arguments into left small =
+    (method : MethodId) (arguments : List ExprTree) (into : Option VarId) (carried : Option HostId)
+    (left : List StmtId) → AllByRecursion ExprHasNumbers arguments →
+    EmitNumbers (call_emissions walked counts host pc statement site method arguments into carried left)
+call_has walked counts host pc statement site method arguments into carried left small =
     let called = method_at walked.labelled.program method in
     let params = params_of called in
-    let kept = kept_has walked host pc statement (result_of called) into in (
+    let home = called_home walked.planned called in
+    let kept = kept_has walked host pc statement (result_of called) into carried in (
       tt,
       (
         tt,
-        both (argument_emissions walked host pc statement params arguments) _
-            (arguments_have walked host pc statement params arguments small) (tt, (tt, (tt, kept))),
+        both (argument_emissions walked host home pc statement params arguments) _
+            (arguments_have walked host home pc statement params arguments small)
+            (tt, (called_has (riding_params walked.planned host home params arguments) (suc method.0) home, (tt, kept))),
       ),
     )
 
@@ -256,8 +273,10 @@ block_has walked around (set_local heading x value rest) small counts lane =
     let host = next.host in
     let pc = around.pc in
     three _ _ _ (moves_have walked around counts lane next (heading.id ∷ others))
-    (both (expr_emissions host pc heading.id 0 value) _ (expr_has host pc heading.id 0 value small.0)
-    (nodes_have 0 value small.0, sends_have host pc heading.id x (other_readers walked.planned host x)))
+    (both (expr_emissions host pc heading.id 0 value) _ (expr_has host pc heading.id 0 value small.0) (
+      nodes_have 0 value small.0,
+      sends_have host pc heading.id x (told_readers walked.planned host x (carried_to walked.planned next others)),
+    ))
     (block_has walked around rest small.1 _ _)
 block_has walked around (set_field heading field value rest) small counts lane =
     let others = own_statements rest in
@@ -309,7 +328,8 @@ block_has walked around (call heading site method arguments into rest) small cou
     let moved = move_emissions walked around counts lane next (heading.id ∷ others) in
     let left = under_token walked.planned next others in
     three moved _ _ (moves_have walked around counts lane next (heading.id ∷ others))
-    (call_has walked (counts_after counts moved) next.host around.pc heading.id site method arguments into left small.0)
+    (call_has walked (counts_after counts moved) next.host around.pc heading.id site method arguments into
+    (carried_to walked.planned next others) left small.0)
     (block_has walked around rest small.1 _ _)
 block_has walked around (give_back heading value rest) small counts lane =
     let others = own_statements rest in
