@@ -36,17 +36,14 @@ running_twice : (running : Option ThreadShape) →
 running_twice None = refl
 running_twice (Some thread) = ap Some (thread_twice thread)
 
-pub waiting_twice : (waiting : WaitingShape) → bare_waiting (bare_waiting waiting) ≡ bare_waiting waiting
+waiting_twice : (waiting : WaitingShape) → bare_waiting (bare_waiting waiting) ≡ bare_waiting waiting
 waiting_twice waiting = rw (thread_twice waiting.thread) refl
-
-pub all_waiting_twice : (waiting : List WaitingShape) →
-    map bare_waiting (map bare_waiting waiting) ≡ map bare_waiting waiting
-all_waiting_twice = map_twice bare_waiting waiting_twice
 
 pub host_twice : (host : HostShape) → bare_host (bare_host host) ≡ bare_host host
 host_twice host =
     rw (running_twice host.running)
-    (rw (all_waiting_twice host.waiting) (rw (map_twice bare_entry (λ entry. refl) host.entries) refl))
+    (rw (map_twice bare_waiting waiting_twice host.waiting)
+    (rw (map_twice bare_entry (λ entry. refl) host.entries) refl))
 
 -- ---- what a host leaves and sends
 

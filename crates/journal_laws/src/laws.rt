@@ -1,6 +1,6 @@
 //! Laws of hosts without tags. The calls do nothing: their contracts are the laws.
 
-ghost use Rattle.std.specs.Prelude.{◌≡◌, ◌≢◌, Bool, List, Option, Some, None};
+ghost use Rattle.std.specs.Prelude.{◌≡◌, ◌≢◌, Bool, List, Some, None};
 ghost use Rattle.js_base.specs.declared.ids.HostId.{HostId};
 ghost use Rattle.capability.specs.declared.token.Token.{Token};
 ghost use Rattle.host_code.specs.declared.instruction.Op.{Op};

@@ -7,7 +7,7 @@ use Rattle.js_base.specs.declared.ids.MethodId.{MethodId}
 use Rattle.js_base.specs.declared.ids.StmtId.{StmtId}
 use Rattle.label_lattice.specs.Lattice.{empty_label}
 use Rattle.label_lattice.specs.PrintedExamples.{alice_and_bob, keeps_bob_out}
-use Rattle.jif_tree.specs.Trees.{ExprTree, number, scalar, element, binary, declassified, endorsed, BlockTree}
+use Rattle.jif_tree.specs.Trees.{ExprTree, number, local, scalar, element, binary, declassified, endorsed, BlockTree}
 use Rattle.jif_tree.specs.Trees.{Heading, done, set_local, branch}
 use Rattle.jif_tree.specs.LabelRules.{MethodSetting, VariableLabels}
 use Rattle.label_reasons.specs.Traits.{Trait, keeps, distrusts}
@@ -107,6 +107,10 @@ chosen = element t (scalar a)
 abbrev pub released : ExprTree
 released = declassified (scalar a) empty_label
 
+-- `declassify(q, L)`, where L is the label of `a`
+abbrev pub released_again : ExprTree
+released_again = declassified (scalar q) keeps_bob_out
+
 -- `endorse(a, L)`, where L is the label of `a`
 abbrev pub endorsed_again : ExprTree
 endorsed_again = endorsed (scalar a) keeps_bob_out
@@ -118,6 +122,10 @@ copied = set_local (at 1) x (scalar a) done
 -- `if (a) { int x = 1; }`
 abbrev pub told : BlockTree
 told = branch (at 1) (scalar a) (set_local (at 2) x (number (pos 1)) done) done done
+
+-- `if (y) { int x = a; }`
+abbrev pub copied_inside : BlockTree
+copied_inside = branch (at 1) (local y) (set_local (at 2) x (scalar a) done) done done
 
 -- `y = q;`
 abbrev pub overwritten : BlockTree

@@ -11,9 +11,12 @@ use Rattle.label_lattice.specs.declared.label.TheConstants.{READERS}
 use Rattle.label_lattice.specs.Printed.{forbids, is_trusted_by}
 
 pub data Trait : Type 0 where
+  -- the owner keeps it from the reader
   keeps : (owner reader : ℕ) → Trait
+  -- the principal does not trust it
   distrusts : (principal : ℕ) → Trait
 
+-- whether it is held against a label
 abbrev pub has : Trait → Label → Bool
 has (keeps owner reader) label = forbids label owner reader
 has (distrusts principal) label = not (is_trusted_by label principal)

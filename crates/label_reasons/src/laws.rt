@@ -15,10 +15,10 @@ ghost use Rattle.label_reasons.specs.Traits.{Trait, has, IsTrait, IsDeclaredTrai
 ghost use Rattle.label_reasons.specs.Causes.{Cause, of_begin, of_field, of_variable, written, itself, by_local};
 ghost use Rattle.label_reasons.specs.Causes.{by_guard, begin_cause, declared_causes, expr_cause, guarded_cause};
 ghost use Rattle.label_reasons.specs.Causes.{causes_after, Tells, TellsVariables, IsMadeOfLabels, IsBlockOfLabels};
-ghost use Rattle.label_reasons.specs.CauseExamples.{from_bob, not_by_alice, not_by_bob, a, t, q, x, y, main};
+ghost use Rattle.label_reasons.specs.CauseExamples.{from_bob, not_by_alice, not_by_bob, a, q, x, y, main};
 ghost use Rattle.label_reasons.specs.CauseExamples.{statement, caused, cause_under, cause_of, cause_inside};
-ghost use Rattle.label_reasons.specs.CauseExamples.{cause_behind, told_before, sum, chosen, released, endorsed_again, copied, told};
-ghost use Rattle.label_reasons.specs.CauseExamples.{overwritten};
+ghost use Rattle.label_reasons.specs.CauseExamples.{cause_behind, told_before, sum, chosen, released, endorsed_again};
+ghost use Rattle.label_reasons.specs.CauseExamples.{copied, copied_inside, told, overwritten, released_again};
 
 use label_lattice::{label_laws, text_laws};
 
@@ -87,20 +87,23 @@ pub fn cause_examples()
     ensures first_of_sum { cause_of from_bob (sum (local y) (scalar a)) ≡ caused (of_variable y) itself }
     ensures second_of_sum { cause_of from_bob (sum (scalar q) (scalar a)) ≡ caused (of_field a) itself }
     ensures index_first { cause_of from_bob chosen ≡ caused (of_field a) itself }
-    // A release takes away what its operand keeps from Bob, and not what the program label does. Whoever does not trust
-    // the operand does not trust what is released.
+    // A release takes away what its operand keeps from Bob, and not what the program label does, before which the label
+    // that is written comes. Whoever does not trust the operand does not trust what is released.
     ensures release { cause_of from_bob released ≡ None }
     ensures release_inside { cause_under told_before from_bob released ≡ told_before }
+    ensures written_first { cause_under told_before from_bob released_again ≡ caused (written (statement 1)) itself }
     ensures release_trust { cause_of not_by_bob released ≡ caused (of_field a) itself }
     // An endorsed value keeps from Bob what its operand does. Whoever does not trust the label that is written does not
     // trust it, and Alice does.
     ensures endorse_keeps { cause_of from_bob endorsed_again ≡ caused (of_field a) itself }
     ensures endorse_trust { cause_of not_by_bob endorsed_again ≡ caused (written (statement 1)) itself }
     ensures endorsed_for { cause_of not_by_alice endorsed_again ≡ None }
-    // Inside a guard, and in a local without a label, it is the same field, through the guard or the local.
+    // Inside a guard, and in a local without a label, it is the same field, through the guard or the local. What the
+    // local is declared with comes before the guard.
     ensures through_guard { cause_inside None from_bob (scalar a) ≡ caused (of_field a) (by_guard (statement 1)) }
     ensures through_local { cause_behind from_bob copied x ≡ caused (of_field a) (by_local x (statement 1)) }
     ensures local_inside { cause_behind from_bob told x ≡ caused (of_field a) (by_local x (statement 2)) }
+    ensures value_first { cause_behind from_bob copied_inside x ≡ caused (of_field a) (by_local x (statement 2)) }
     // An outer guard comes first.
     ensures outer_guard { cause_inside told_before from_bob (scalar a) ≡ told_before }
     // A variable with a label keeps its cause, whatever is assigned to it.

@@ -19,6 +19,7 @@ returns c = record {
   index_first = refl;
   release = refl;
   release_inside = refl;
+  written_first = refl;
   release_trust = refl;
   endorse_keeps = refl;
   endorse_trust = refl;
@@ -26,6 +27,7 @@ returns c = record {
   through_guard = refl;
   through_local = refl;
   local_inside = refl;
+  value_first = refl;
   outer_guard = refl;
   labelled_kept = refl;
 }
