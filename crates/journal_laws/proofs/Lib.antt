@@ -1,0 +1,4 @@
+pub mod BareHosts
+pub mod BareTakings
+pub mod BareTurns
+pub mod BareSteps

@@ -1,0 +1,6 @@
+//! What the journal of a host tells of it: laws of hosts without the tags of their tokens.
+#![tactic(auto)]
+
+mod laws;
+
+pub use laws::{bare_examples, bare_laws};

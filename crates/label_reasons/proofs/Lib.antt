@@ -1,0 +1,3 @@
+pub mod TraitTests
+pub mod ExpressionCauses
+pub mod BlockCauses

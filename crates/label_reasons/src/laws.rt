@@ -1,0 +1,111 @@
+//! Laws of what is held against labels, and of what brings it in. The calls do nothing: their contracts are the laws.
+
+ghost use Rattle.std.specs.Prelude.{◌≡◌, ◌↔◌, ◌⊎◌, ℤ, Option, None, IsTrue};
+ghost use Rattle.js_base.specs.declared.ids.MethodId.{MethodId};
+ghost use Rattle.js_base.specs.declared.ids.StmtId.{StmtId};
+ghost use Rattle.js_base.specs.declared.ids.VarId.{VarId};
+ghost use Rattle.label_lattice.specs.declared.label.Label.{Label};
+ghost use Rattle.label_lattice.specs.Label.{IsLabel, Flows};
+ghost use Rattle.label_lattice.specs.Lattice.{empty_label, join_of};
+ghost use Rattle.label_lattice.specs.PrintedExamples.{keeps_bob_out};
+ghost use Rattle.jif_tree.specs.Trees.{ExprTree, BlockTree, local, number, scalar};
+ghost use Rattle.jif_tree.specs.LabelRules.{MethodSetting, VariableLabels, expr_label, guarded, labels_after};
+ghost use Rattle.jif_tree.specs.ValueLabels.{IsExprLabelled, AreValuesLabelled};
+ghost use Rattle.label_reasons.specs.Traits.{Trait, has, IsTrait, IsDeclaredTrait, Fails};
+ghost use Rattle.label_reasons.specs.Causes.{Cause, of_begin, of_field, of_variable, written, itself, by_local};
+ghost use Rattle.label_reasons.specs.Causes.{by_guard, begin_cause, declared_causes, expr_cause, guarded_cause};
+ghost use Rattle.label_reasons.specs.Causes.{causes_after, Tells, TellsVariables, IsMadeOfLabels, IsBlockOfLabels};
+ghost use Rattle.label_reasons.specs.CauseExamples.{from_bob, not_by_alice, not_by_bob, a, q, x, y, main};
+ghost use Rattle.label_reasons.specs.CauseExamples.{statement, caused, cause_under, cause_of, cause_inside};
+ghost use Rattle.label_reasons.specs.CauseExamples.{cause_behind, told_before, sum, chosen, released, endorsed_again};
+ghost use Rattle.label_reasons.specs.CauseExamples.{copied, copied_inside, told, overwritten, released_again};
+
+use label_lattice::{label_laws, text_laws};
+
+/// Laws of what is held against labels.
+pub fn trait_laws()
+    // A join has what one of its parts has.
+    ensures has_join { (trait : Trait) (first second : Label) → IsTrait trait → IsLabel first → IsLabel second →
+        (IsTrue (has trait (join_of first second)) ↔ (IsTrue (has trait first) ⊎ IsTrue (has trait second))) }
+    // What fails forbids the flow.
+    ensures fails_flow { (trait : Trait) (from to : Label) → IsTrait trait → Fails trait from to → ¬ Flows from to }
+    // What forbids a flow is something that fails.
+    ensures flows_else { (from to : Label) → ((trait : Trait) → IsTrait trait → ¬ Fails trait from to) → Flows from to }
+{
+    text_laws();
+    label_laws();
+}
+
+/// Laws of causes.
+pub fn cause_laws()
+    // The begin label of a method has a trait exactly where there is a cause.
+    ensures begins { (trait : Trait) (method : MethodId) (begin : Label) →
+        Tells trait (begin_cause trait method begin) begin }
+    // So has each variable that is declared with a label.
+    ensures declared { (trait : Trait) (labels : VariableLabels) →
+        TellsVariables trait (declared_causes trait labels) labels }
+    // Where this is so of the program label and of variables, it is so of an expression.
+    ensures expression { (trait : Trait) (setting : MethodSetting) (here : StmtId) (of_pc : Option Cause) (pc : Label)
+        (causes : VarId → Option Cause) (labels : VariableLabels) (value : ExprTree) →
+        IsDeclaredTrait setting.principals trait → IsLabel pc → IsMadeOfLabels setting pc labels value →
+        Tells trait of_pc pc → TellsVariables trait causes labels → IsExprLabelled labels value →
+        Tells trait (expr_cause trait setting here of_pc causes value) (expr_label setting pc labels value) }
+    // It is so of the program label inside a branch or a loop.
+    ensures guard { (trait : Trait) (setting : MethodSetting) (here : StmtId) (of_pc : Option Cause) (pc : Label)
+        (causes : VarId → Option Cause) (labels : VariableLabels) (guard : ExprTree) →
+        IsDeclaredTrait setting.principals trait → IsLabel pc → IsMadeOfLabels setting pc labels guard →
+        IsLabel (expr_label setting pc labels guard) → Tells trait of_pc pc → TellsVariables trait causes labels →
+        IsExprLabelled labels guard →
+        Tells trait (guarded_cause trait setting here of_pc causes guard) (guarded setting pc labels guard) }
+    // And it is so of the variables behind a block.
+    ensures block { (trait : Trait) (setting : MethodSetting) (pc : Label) (of_pc : Option Cause)
+        (labels : VariableLabels) (causes : VarId → Option Cause) (block : BlockTree) →
+        IsDeclaredTrait setting.principals trait → IsLabel pc → IsBlockOfLabels setting pc labels block →
+        AreValuesLabelled setting pc labels block → Tells trait of_pc pc → TellsVariables trait causes labels →
+        TellsVariables trait (causes_after trait setting pc of_pc labels causes block)
+        (labels_after setting pc labels block) }
+{
+    label_laws();
+    text_laws();
+}
+
+/// What brings a trait into the labels of a small program of Alice and Bob, in which Alice keeps a field from Bob.
+pub fn cause_examples()
+    // What Alice keeps from Bob fails towards the label `{}`, and does not fail the other way.
+    ensures fails { Fails from_bob keeps_bob_out empty_label }
+    ensures passes { ¬ Fails from_bob empty_label keeps_bob_out }
+    // There it is her trust that fails.
+    ensures distrusted { Fails not_by_alice empty_label keeps_bob_out }
+    // A number has no cause, a field is its own, and a variable with a label too.
+    ensures number_alone { (value : ℤ) → cause_of from_bob (number value) ≡ None }
+    ensures secret_field { cause_of from_bob (scalar a) ≡ caused (of_field a) itself }
+    ensures public_field { cause_of from_bob (scalar q) ≡ None }
+    ensures declared_variable { cause_of from_bob (local y) ≡ caused (of_variable y) itself }
+    // So is the label under which a method begins.
+    ensures begin_label { begin_cause from_bob main keeps_bob_out ≡ caused (of_begin main) itself }
+    // The cause of a sum is the first part that has the trait, and an index comes before its array.
+    ensures first_of_sum { cause_of from_bob (sum (local y) (scalar a)) ≡ caused (of_variable y) itself }
+    ensures second_of_sum { cause_of from_bob (sum (scalar q) (scalar a)) ≡ caused (of_field a) itself }
+    ensures index_first { cause_of from_bob chosen ≡ caused (of_field a) itself }
+    // A release takes away what its operand keeps from Bob, and not what the program label does, before which the label
+    // that is written comes. Whoever does not trust the operand does not trust what is released.
+    ensures release { cause_of from_bob released ≡ None }
+    ensures release_inside { cause_under told_before from_bob released ≡ told_before }
+    ensures written_first { cause_under told_before from_bob released_again ≡ caused (written (statement 1)) itself }
+    ensures release_trust { cause_of not_by_bob released ≡ caused (of_field a) itself }
+    // An endorsed value keeps from Bob what its operand does. Whoever does not trust the label that is written does not
+    // trust it, and Alice does.
+    ensures endorse_keeps { cause_of from_bob endorsed_again ≡ caused (of_field a) itself }
+    ensures endorse_trust { cause_of not_by_bob endorsed_again ≡ caused (written (statement 1)) itself }
+    ensures endorsed_for { cause_of not_by_alice endorsed_again ≡ None }
+    // Inside a guard, and in a local without a label, it is the same field, through the guard or the local. What the
+    // local is declared with comes before the guard.
+    ensures through_guard { cause_inside None from_bob (scalar a) ≡ caused (of_field a) (by_guard (statement 1)) }
+    ensures through_local { cause_behind from_bob copied x ≡ caused (of_field a) (by_local x (statement 1)) }
+    ensures local_inside { cause_behind from_bob told x ≡ caused (of_field a) (by_local x (statement 2)) }
+    ensures value_first { cause_behind from_bob copied_inside x ≡ caused (of_field a) (by_local x (statement 2)) }
+    // An outer guard comes first.
+    ensures outer_guard { cause_inside told_before from_bob (scalar a) ≡ told_before }
+    // A variable with a label keeps its cause, whatever is assigned to it.
+    ensures labelled_kept { cause_behind from_bob overwritten y ≡ caused (of_variable y) itself }
+{}

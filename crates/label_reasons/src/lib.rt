@@ -1,0 +1,6 @@
+//! What is held against labels, and what brings it into them: why labels are refused. Definitions and their laws.
+#![tactic(auto)]
+
+mod laws;
+
+pub use laws::{cause_examples, cause_laws, trait_laws};
