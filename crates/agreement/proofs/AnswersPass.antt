@@ -69,6 +69,8 @@ waiting_passes eyes state host from waiting flight (message.Sync request frame e
     answers = absurd (false≢true answers)
 waiting_passes eyes state host from waiting flight (message.Rgoto frame entry token) keeps hides asks mail answers =
     absurd (false≢true answers)
+waiting_passes eyes state host from waiting flight (message.RgotoWith frame entry token riders) keeps hides asks mail
+    answers = absurd (false≢true answers)
 waiting_passes eyes state host from waiting flight (message.Lgoto token) keeps hides asks mail answers =
     absurd (false≢true answers)
 
@@ -76,6 +78,7 @@ waiting_passes eyes state host from waiting flight (message.Lgoto token) keeps h
 flying_none : {A : Type 0} (eyes : Eyes) (to : HostId) (said : Message) (spot : Spot) → FliesTo eyes to said spot →
     IsSome (number_answered said) → A
 flying_none eyes to (message.Rgoto frame entry token) spot goes answers = absurd (false≢true answers)
+flying_none eyes to (message.RgotoWith frame entry token riders) spot goes answers = absurd (false≢true answers)
 flying_none eyes to (message.Lgoto token) spot goes answers = absurd (false≢true answers)
 flying_none eyes to (message.Get request field index) spot goes answers = absurd goes
 flying_none eyes to (message.Set request field index value) spot goes answers = absurd goes

@@ -73,6 +73,8 @@ asks_one code (op.Arg x value) one other on from first second = absurd first
 asks_one code (op.Push there) one other on from first second = absurd first
 asks_one code (op.Go there to) one other on from first second = absurd first
 asks_one code (op.Call there to) one other on from first second = absurd first
+asks_one code (op.GoWith there to riders) one other on from first second = absurd first
+asks_one code (op.CallWith there to riders) one other on from first second = absurd first
 asks_one code op.Back one other on from first second = absurd first
 asks_one code (op.Branch guard target) one other on from first second = absurd first
 
@@ -138,6 +140,8 @@ behind_asking eyes me place there (op.Arg x value) awaited on are is hidden with
 behind_asking eyes me place there (op.Push entry) awaited on are is hidden within law asks = absurd asks
 behind_asking eyes me place there (op.Go entry to) awaited on are is hidden within law asks = absurd asks
 behind_asking eyes me place there (op.Call entry to) awaited on are is hidden within law asks = absurd asks
+behind_asking eyes me place there (op.GoWith entry to riders) awaited on are is hidden within law asks = absurd asks
+behind_asking eyes me place there (op.CallWith entry to riders) awaited on are is hidden within law asks = absurd asks
 behind_asking eyes me place there op.Back awaited on are is hidden within law asks = absurd asks
 behind_asking eyes me place there (op.Branch guard target) awaited on are is hidden within law asks = absurd asks
 

@@ -7,6 +7,7 @@ use Rattle.std.proofs.lemmas.Bool.{false≢true}
 use Rattle.std.proofs.lemmas.Bool.Decides.{eqb_tells}
 use Rattle.std.proofs.lemmas.Option.{slice_get_cases}
 use Rattle.js_base.specs.declared.ids.HostId.{HostId}
+use Rattle.js_base.specs.declared.ids.FrameId.{FrameId}
 use Rattle.js_base.specs.declared.ids.VarId.{VarId}
 use Rattle.capability.specs.declared.token.Token.{Token}
 use Rattle.host_decl.specs.Hosts as declared_hosts
@@ -45,11 +46,11 @@ use Rattle.agreement.proofs.Transfers.{there_with}
 
 -- ---- each instruction
 
--- what an instruction of a host does that a thread runs with this token
-abbrev Kind : CodeShape → HostId → ThreadShape → Token → Op → Type 0
-Kind code me thread token it =
+-- what an instruction of a host with these variables does that a thread runs with this token
+abbrev Kind : CodeShape → (FrameId → VarId → ℤ) → HostId → ThreadShape → Token → Op → Type 0
+Kind code variables me thread token it =
     ChangesAlone code me (Some token) it
-    ⊎ (((to : HostId) × (said : Message) × (handed me thread token it ≡ Some (to, said)))
+    ⊎ (((to : HostId) × (said : Message) × (handed variables me thread token it ≡ Some (to, said)))
     ⊎ AsksElsewhere code me token it)
 
 host_or_not : (one other : HostId) → (one ≡ other) ⊎ ((one ≢ other) × ((one.0 == other.0) ≡ false))
@@ -94,7 +95,7 @@ return_kind code host token x value passes checks = elim (host_or_not token.host
 
 operation_kind : (code : CodeShape) (host : HostShape) (thread : ThreadShape) (token : Token) (count : ℕ) (it : Op)
     (passes : Bool) → OperationFits code host.me count it → (IsTrue passes ↔ PassesWith code host it (Some token)) →
-    Kind code host.me thread token it
+    Kind code host.variables host.me thread token it
 operation_kind code host thread token count (op.Read field index) passes fits checks =
     elim (field_kind code.fields field.0 host.me fits.0) [
       | inl own ↦ inl own
@@ -119,6 +120,8 @@ operation_kind code host thread token count (op.Call entry on) passes fits check
   | inl same ↦ inl same
   | inr apart ↦ inr (inl (sends_away host.me on (message.Rgoto thread.new_frame entry token) apart.1))
 ]
+operation_kind code host thread token count (op.GoWith entry on riders) passes fits checks = inr (inl (on, _, refl))
+operation_kind code host thread token count (op.CallWith entry on riders) passes fits checks = inr (inl (on, _, refl))
 operation_kind code host thread token count (op.Ret x value) passes fits checks =
     elim (return_kind code host token x value passes checks) [
       | inl alone ↦ inl alone
@@ -152,8 +155,8 @@ turn_kind eyes rows bad store events world after host reach step =
     (subst (λ one. IsTurnOf code old one step.outcome) thread.1 step.turns) in
     let checks : IsTrue runs_it.0 ↔ PassesWith code bare there.0.op (Some token.0) =
     subst (λ held. IsTrue runs_it.0 ↔ PassesWith code bare there.0.op held) token.1 runs_it.1 in
-    let kind : Kind code host thread.0 token.0 there.0.op =
-    subst (λ (h : HostId). Kind code h thread.0 token.0 there.0.op) own.me
+    let kind : Kind code old.variables host thread.0 token.0 there.0.op =
+    subst (λ (h : HostId). Kind code old.variables h thread.0 token.0 there.0.op) own.me
     (operation_kind code bare thread.0 token.0 _ there.0.op runs_it.0
     ((reach.sound.parts old.me own.fits.me).instructions thread.0.at there.0 there.1).operation checks) in
     elim kind [
@@ -229,14 +232,17 @@ own_letter me to on said sent own is =
     let never : None ≡ letter on sent = sym (ap (λ (b : Bool). if b then None else letter to said) here) ∙ is in
     cc
 
-alone_hands : (code : CodeShape) (me : HostId) (thread : ThreadShape) (token : Token) (it : Op) (to : HostId)
-    (said : Message) → ChangesAlone code me (Some token) it → handed me thread token it ≡ Some (to, said) → ⊥
-alone_hands code me thread token (op.Call entry on) to said alone is =
+alone_hands : (code : CodeShape) (variables : FrameId → VarId → ℤ) (me : HostId) (thread : ThreadShape) (token : Token)
+    (it : Op) (to : HostId) (said : Message) → ChangesAlone code me (Some token) it →
+    handed variables me thread token it ≡ Some (to, said) → ⊥
+alone_hands code variables me thread token (op.Call entry on) to said alone is =
     own_letter me on to (message.Rgoto thread.new_frame entry token) said alone is
-alone_hands code me thread token op.Back to said alone is =
+alone_hands code variables me thread token op.Back to said alone is =
     own_letter me token.host to (message.Lgoto token) said alone is
-alone_hands code me thread token (op.Go entry on) to said alone is = alone
-alone_hands code me thread token it to said alone is = cc
+alone_hands code variables me thread token (op.Go entry on) to said alone is = alone
+alone_hands code variables me thread token (op.GoWith entry on riders) to said alone is = alone
+alone_hands code variables me thread token (op.CallWith entry on riders) to said alone is = alone
+alone_hands code variables me thread token it to said alone is = cc
 
 field_apart : (found : Option CodeFieldShape) (me : HostId) → IsSomeAnd found (λ there. there.host ≡ me) →
     IsSomeAnd found (λ there. there.host ≢ me) → ⊥
@@ -256,12 +262,15 @@ alone_asks code me token (op.Pass x to) alone asks = alone
 alone_asks code me token (op.Ask entry on) alone asks = alone
 alone_asks code me token it alone asks = asks
 
-hands_asks : (code : CodeShape) (me : HostId) (thread : ThreadShape) (token other : Token) (it : Op) (to : HostId)
-    (said : Message) → handed me thread token it ≡ Some (to, said) → AsksElsewhere code me other it → ⊥
-hands_asks code me thread token other (op.Go entry on) to said is asks = asks
-hands_asks code me thread token other (op.Call entry on) to said is asks = asks
-hands_asks code me thread token other op.Back to said is asks = asks
-hands_asks code me thread token other it to said is asks = cc
+hands_asks : (code : CodeShape) (variables : FrameId → VarId → ℤ) (me : HostId) (thread : ThreadShape)
+    (token other : Token) (it : Op) (to : HostId) (said : Message) →
+    handed variables me thread token it ≡ Some (to, said) → AsksElsewhere code me other it → ⊥
+hands_asks code variables me thread token other (op.Go entry on) to said is asks = asks
+hands_asks code variables me thread token other (op.Call entry on) to said is asks = asks
+hands_asks code variables me thread token other (op.GoWith entry on riders) to said is asks = asks
+hands_asks code variables me thread token other (op.CallWith entry on riders) to said is asks = asks
+hands_asks code variables me thread token other op.Back to said is asks = asks
+hands_asks code variables me thread token other it to said is asks = cc
 
 -- a host runs one thread, at one instruction
 one_run : (code : CodeShape) (world : WorldShape) (host : HostId) (one other : HostShape) (thread twin : ThreadShape)
@@ -287,7 +296,8 @@ kinds_apart code world host = (
       subst (λ held. ChangesAlone code host held hands.instruction.op)
       (ap (λ (t : ThreadShape). t.held) same.0 ∙ hands.held)
       (subst (λ (i : Instr). ChangesAlone code host alone.thread.held i.op) same.1 alone.alone) in
-      alone_hands code host hands.thread hands.token hands.instruction.op hands.to hands.said it hands.hands,
+      alone_hands code hands.state.variables host hands.thread hands.token hands.instruction.op
+      hands.to hands.said it hands.hands,
   λ both.
       let alone = both.0 in
       let asking = both.1 in
@@ -303,6 +313,7 @@ kinds_apart code world host = (
       let asking = both.1 in
       let same = one_run code world host hands.state asking.state hands.thread asking.thread hands.instruction
       asking.instruction hands.there asking.there hands.running asking.running hands.is asking.is in
-      hands_asks code host hands.thread hands.token asking.token hands.instruction.op hands.to hands.said hands.hands
+      hands_asks code hands.state.variables host hands.thread hands.token asking.token
+      hands.instruction.op hands.to hands.said hands.hands
       (subst (λ (i : Instr). AsksElsewhere code host asking.token i.op) (sym same.1) asking.asks),
 )

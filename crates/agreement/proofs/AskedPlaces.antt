@@ -90,6 +90,8 @@ behind_op eyes me place (op.Arg x value) awaited on law asks = absurd asks
 behind_op eyes me place (op.Push entry) awaited on law asks = absurd asks
 behind_op eyes me place (op.Go entry to) awaited on law asks = absurd asks
 behind_op eyes me place (op.Call entry to) awaited on law asks = absurd asks
+behind_op eyes me place (op.GoWith entry to riders) awaited on law asks = absurd asks
+behind_op eyes me place (op.CallWith entry to riders) awaited on law asks = absurd asks
 behind_op eyes me place op.Back awaited on law asks = absurd asks
 behind_op eyes me place (op.Branch guard target) awaited on law asks = absurd asks
 

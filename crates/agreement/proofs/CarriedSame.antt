@@ -425,6 +425,8 @@ operation_same eyes me one other thread twin count (op.Push entry) are same seen
 operation_same eyes me one other thread twin count (op.Ask entry on) are same seen law fits none = refl
 operation_same eyes me one other thread twin count (op.Go entry on) are same seen law fits none = refl
 operation_same eyes me one other thread twin count (op.Call entry on) are same seen law fits none = refl
+operation_same eyes me one other thread twin count (op.GoWith entry on riders) are same seen law fits none = refl
+operation_same eyes me one other thread twin count (op.CallWith entry on riders) are same seen law fits none = refl
 operation_same eyes me one other thread twin count (op.Ret x value) are same seen law fits none =
     let_same eyes me one other thread twin count x value are same fits.1 none law.1.2
 operation_same eyes me one other thread twin count op.Back are same seen law fits none = refl

@@ -1,19 +1,24 @@
 -- A secret take leads to the same view.
 use Rattle.std.proofs.Common.{◌≡◌, ◌∙◌, ℕ, ◌+◌, ◌<◌, Bool, true, false, List, [], ◌∷◌, length, Some, None, inl}
 use Rattle.std.proofs.Common.{inr, refl, ap, sym, subst}
-use Rattle.std.specs.Prelude.{◌==◌, ◌&&◌, ◌↔◌, ◌⊎◌, if◌then◌else◌, not, IsSome, IsTrue, filter, remove, slice_get}
+use Rattle.std.specs.Prelude.{◌==◌, ◌&&◌, ◌↔◌, ◌⊎◌, if◌then◌else◌, not, ℤ, IsSome, IsTrue, filter, remove, slice_get}
 use Rattle.js_base.specs.declared.ids.HostId.{HostId}
+use Rattle.js_base.specs.declared.ids.FrameId.{FrameId}
+use Rattle.js_base.specs.declared.ids.VarId.{VarId}
+use Rattle.js_base.specs.declared.ids.EntryId.{EntryId}
 use Rattle.js_base.specs.declared.ids.RequestId.{RequestId}
 use Rattle.capability.specs.declared.token.Token.{Token}
 use Rattle.host_code.specs.declared.code.Entry.{Entry}
 use Rattle.host_code.specs.declared.message.Message.{Message}
 use Rattle.host_code.specs.declared.message.Message.TheVariants as message
-use Rattle.host_code.specs.Code.{part_of}
+use Rattle.host_code.specs.Code.{part_of, entry_at}
 use Rattle.host_code.specs.Sound.{IsSoundCode}
 use Rattle.host_code.specs.Thread.{ThreadShape, Awaited, WaitingShape}
 use Rattle.host_code.specs.Thread.Awaited.{value_of_field, acknowledgement, token_of_entry}
+use Rattle.entry_check.specs.declared.ask.Ask.TheVariants as ask
+use Rattle.entry_check.specs.Checks.{May}
 use Rattle.host_core.specs.Fits.{StateFits, WaitingFits}
-use Rattle.host_core.specs.Host.{HostShape, Outcome, with_temporary, with_token, after_entering}
+use Rattle.host_core.specs.Host.{HostShape, Outcome, with_variables_set, with_temporary, with_token, after_entering}
 use Rattle.host_core.specs.Taking.{Passes, IsTaking, after_taking, after_answer, place_of_awaiting}
 use Rattle.event_text.specs.declared.event.Event.TheVariants.{Take}
 use Rattle.net_world.specs.Fits.{ShapeFits}
@@ -22,11 +27,12 @@ use Rattle.net_world.specs.Secret.{IsSecret}
 use Rattle.net_world.specs.World.{WorldShape, state_at, without_flight, after_step, IsStep}
 use Rattle.net_world.proofs.Present.{same_id}
 use Rattle.token_laws.proofs.HeldLaws.{all_at}
+use Rattle.token_laws.proofs.Riding.{riding_is}
 use Rattle.token_laws.proofs.Tests.{parts_same, number_same}
 use Rattle.seen_world.specs.Eyes.{Eyes, AreEyes, Watches, sees_at}
 use Rattle.seen_world.specs.Points.{AsksAt, WaitsWell, HostKeeps, IsAskedBy, FliesWell, IsLabelledAs, IsRequest}
 use Rattle.seen_world.specs.Points.{IsInFlight}
-use Rattle.seen_world.specs.Points.{SetsHidden, EntersHidden, PointsHold}
+use Rattle.seen_world.specs.Points.{SetsHidden, IsDeepEntry, EntersHidden, PointsHold}
 use Rattle.seen_world.proofs.Answered.{answer_carries}
 use Rattle.seen_world.proofs.PointsAtStart.{own_state}
 use Rattle.seen_world.proofs.PointsKept.{request_passes}
@@ -38,14 +44,14 @@ use Rattle.seen_world.proofs.TakesKept.{on_me}
 use Rattle.agreement.specs.Leads.{Holder, nobody, runs, waits, flies, flies_on, Link, IsMailOf, token_with, FliesTo}
 use Rattle.agreement.specs.Leads.{HeldAt}
 use Rattle.agreement.specs.Leads.{Leads}
-use Rattle.agreement.specs.Views.{View, Spot, at, Owed, flies_open}
+use Rattle.agreement.specs.Views.{View, Spot, at, Owed, sees_variable, flies_open}
 use Rattle.agreement.proofs.AnswersTaken.{found_waiting, answer_ends}
 use Rattle.agreement.proofs.Ends.{Ends, own_waiting}
 use Rattle.agreement.proofs.HiddenTurns.{ends_leads}
 use Rattle.agreement.proofs.Lists.{kept_some, only_taken}
 use Rattle.agreement.proofs.Steps.{FliesAlone, taken_openly, taken_alike}
 use Rattle.agreement.proofs.Takes.{Taken, get_ends, set_ends, forward_ends, deep_entry, enters_unseen, lgoto_ends}
-use Rattle.agreement.proofs.Takes.{asking, sync_ends}
+use Rattle.agreement.proofs.Takes.{riders_stay, asking, sync_ends}
 
 -- ---- who it is that goes on unseen
 
@@ -239,12 +245,42 @@ waits_ends eyes state host from waiting flight links token owed now shown (messa
     fits carries (inl mail) says checks = no_request waiting.request mail.0
 waits_ends eyes state host from waiting flight links token owed now shown (message.Rgoto frame entry given) passes take
     fits carries (inr mail) says checks = no_request waiting.request mail.0
+waits_ends eyes state host from waiting flight links token owed now shown (message.RgotoWith frame entry given riders)
+    passes take fits carries (inl mail) says checks = no_request waiting.request mail.0
+waits_ends eyes state host from waiting flight links token owed now shown (message.RgotoWith frame entry given riders)
+    passes take fits carries (inr mail) says checks = no_request waiting.request mail.0
 waits_ends eyes state host from waiting flight links token owed now shown (message.Lgoto given) passes take fits carries
     (inl mail) says checks = no_request waiting.request mail.0
 waits_ends eyes state host from waiting flight links token owed now shown (message.Lgoto given) passes take fits carries
     (inr mail) says checks = no_request waiting.request mail.0
 
 -- ---- control that is handed over unseen
+
+-- a thread starts at the entry of a message, whichever variables that may not be seen were set before
+starts_ends : (eyes : Eyes) (state : HostShape) (from : HostId) (flight : Flight) (links : List Link) (spot : Spot)
+    (owed : Owed) (now shown : View) (variables : FrameId → VarId → ℤ) (frame : FrameId) (entry : EntryId)
+    (token : Token) → Taken eyes state (flies from state.me flight) links spot owed now shown from flight →
+    FliesTo eyes state.me (message.Rgoto frame entry token) spot → May eyes.code state.me (ask.Enter entry) from →
+    IsDeepEntry eyes entry.0 →
+    ((other : FrameId) (x : VarId) → sees_variable eyes x ≡ true → variables other x ≡ state.variables other x) →
+    Ends eyes state.me (flies from state.me flight) links now shown flight.label (record {
+      state = after_entering (record state { variables = variables }) (entry_at eyes.code entry) frame token;
+      sent = None;
+    })
+starts_ends eyes state from flight links spot owed now shown variables frame entry token take goes may enters stay =
+    let me = state.me in
+    let deep = deep_entry eyes me entry take.are take.sound may.0 (on_me eyes me from entry may) enters in
+    let same : goes.0 ≡ deep.there = some_is (sym goes.1 ∙ deep.is) in
+    let at_entry : Taken eyes state (flies from me flight) links (at me deep.there.at frame token) owed now shown from
+    flight =
+    subst (λ (there : Entry).
+    Taken eyes state (flies from me flight) links (at me there.at frame token) owed now shown from flight) same
+    (subst (λ (s : Spot). Taken eyes state (flies from me flight) links s owed now shown from flight) goes.3 take) in
+    subst (λ found. Ends eyes me (flies from me flight) links now shown flight.label (record {
+      state = after_entering (record state { variables = variables }) found frame token;
+      sent = None;
+    })) (sym deep.is)
+    (enters_unseen eyes state from flight links token owed now shown variables frame entry deep at_entry stay)
 
 flies_ends : (eyes : Eyes) (state : HostShape) (from : HostId) (flight : Flight) (links : List Link) (spot : Spot)
     (owed : Owed) (now shown : View) (said : Message) (passes : Bool) →
@@ -255,20 +291,23 @@ flies_ends : (eyes : Eyes) (state : HostShape) (from : HostId) (flight : Flight)
     (after_taking eyes.code state from said passes)
 flies_ends eyes state from flight links spot owed now shown (message.Rgoto frame entry token) passes take goes says
     checks =
+    let holds = says.passes tt in
+    passed eyes state _ links now shown flight.label from (message.Rgoto frame entry token) passes checks holds
+    (starts_ends eyes state from flight links spot owed now shown state.variables frame entry token take goes holds
+    says.enters (λ other x seen. refl))
+flies_ends eyes state from flight links spot owed now shown (message.RgotoWith frame entry token riders) passes take
+    goes says checks =
     let me = state.me in
     let holds = says.passes tt in
-    let deep = deep_entry eyes me entry take.are take.sound holds.0 (on_me eyes me from entry holds) says.enters in
-    let same : goes.0 ≡ deep.there = some_is (sym goes.1 ∙ deep.is) in
-    let at_entry : Taken eyes state (flies from me flight) links (at me deep.there.at frame token) owed now shown from
-    flight =
-    subst (λ (there : Entry).
-    Taken eyes state (flies from me flight) links (at me there.at frame token) owed now shown from flight) same
-    (subst (λ (s : Spot). Taken eyes state (flies from me flight) links s owed now shown from flight) goes.3 take) in
-    passed eyes state _ links now shown flight.label from (message.Rgoto frame entry token) passes checks holds
-    (subst (λ found. Ends eyes me (flies from me flight) links now shown flight.label (record {
-      state = after_entering state found frame token;
+    let ends = starts_ends eyes state from flight links spot owed now shown
+    (with_variables_set state frame riders).variables frame entry token take goes holds.0 says.enters
+    (riders_stay eyes state frame riders says.sets) in
+    passed eyes state _ links now shown flight.label from (message.RgotoWith frame entry token riders) passes checks
+    holds
+    (subst (λ (one : HostShape). Ends eyes me (flies from me flight) links now shown flight.label (record {
+      state = after_entering one (entry_at eyes.code entry) frame token;
       sent = None;
-    })) (sym deep.is) (enters_unseen eyes state from flight links token owed now shown frame entry deep at_entry))
+    })) (riding_is state frame riders) ends)
 flies_ends eyes state from flight links spot owed now shown (message.Lgoto token) passes take goes says checks =
     lgoto_ends eyes state from flight links token owed now shown passes
     (subst (λ (s : Spot). Taken eyes state (flies from state.me flight) links s owed now shown from flight) goes.1 take)

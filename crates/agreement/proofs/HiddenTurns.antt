@@ -40,7 +40,7 @@ use Rattle.agreement.proofs.GivesBack.{given_ends}
 use Rattle.agreement.proofs.Places.{instruction_within, deep_of}
 use Rattle.agreement.proofs.Steps.{moved_leads, FlyOpenly, FlyAlike, posted_alone, posted_alike, runs_apart}
 use Rattle.agreement.proofs.Steps.{holder_runs}
-use Rattle.agreement.proofs.Transfers.{push_ends, go_ends, call_ends, either_by}
+use Rattle.agreement.proofs.Transfers.{push_ends, go_ends, go_with_ends, call_ends, call_with_ends, either_by}
 use Rattle.agreement.proofs.Turns.{EndsIn, IsHere, same_seen, read_ends, put_ends, let_ends, send_ends, frame_ends}
 use Rattle.agreement.proofs.Turns.{return_ends, ask_ends}
 
@@ -135,6 +135,12 @@ operation_ends eyes old thread links token owed now shown label count there (op.
 operation_ends eyes old thread links token owed now shown label count there (op.Call entry on) passes run is law
     fits checks =
     call_ends eyes old thread links token owed now shown label there entry on run is law fits.0
+operation_ends eyes old thread links token owed now shown label count there (op.GoWith entry on riders) passes run is
+    law fits checks =
+    go_with_ends eyes old thread links token owed now shown label there entry on riders run is law fits.0
+operation_ends eyes old thread links token owed now shown label count there (op.CallWith entry on riders) passes run is
+    law fits checks =
+    call_with_ends eyes old thread links token owed now shown label there entry on riders run is law fits.0
 operation_ends eyes old thread links token owed now shown label count there (op.Ret x value) passes run is law
     fits checks =
     return_ends eyes old thread links token owed now shown label there x value passes run is law

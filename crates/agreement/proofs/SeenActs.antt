@@ -64,6 +64,7 @@ made_fresh eyes state from (message.Get request field index) are bad obeys passe
 made_fresh eyes state from (message.Set request field index value) are bad obeys passes = tt
 made_fresh eyes state from (message.Forward request frame x value) are bad obeys passes = tt
 made_fresh eyes state from (message.Rgoto frame entry token) are bad obeys passes = tt
+made_fresh eyes state from (message.RgotoWith frame entry token riders) are bad obeys passes = tt
 made_fresh eyes state from (message.Lgoto token) are bad obeys passes = tt
 made_fresh eyes state from (message.Value request value) are bad obeys passes = tt
 made_fresh eyes state from (message.Ack request) are bad obeys passes = tt
@@ -212,6 +213,7 @@ made_carries_same eyes one other from (message.Set request field index value) ba
 made_carries_same eyes one other from (message.Forward request frame x value) bad rows = refl
 made_carries_same eyes one other from (message.Sync request frame entry token) bad rows = refl
 made_carries_same eyes one other from (message.Rgoto frame entry token) bad rows = refl
+made_carries_same eyes one other from (message.RgotoWith frame entry token riders) bad rows = refl
 made_carries_same eyes one other from (message.Lgoto token) bad rows = refl
 made_carries_same eyes one other from (message.Value request value) bad rows = refl
 made_carries_same eyes one other from (message.Ack request) bad rows = refl

@@ -1,7 +1,6 @@
 -- Two quiet worlds that lead to one view still do after the same turn that may be seen.
-use Rattle.std.proofs.Common.{◌≡◌, ◌∙◌, ℕ, List, [], ◌∷◌, Option, Some, None, ap, sym, subst, refl}
+use Rattle.std.proofs.Common.{◌≡◌, ◌∙◌, ℕ, List, [], ◌∷◌, Option, Some, None, ap, sym, subst}
 use Rattle.std.specs.Prelude.{◌==◌, true, false, ℤ, Bool, if◌then◌else◌, IfSome}
-use Rattle.js_base.specs.declared.ids.FrameId.{FrameId}
 use Rattle.js_base.specs.declared.ids.HostId.{HostId}
 use Rattle.js_base.specs.declared.ids.VarId.{VarId}
 use Rattle.capability.specs.declared.token.Token.{Token}
@@ -10,7 +9,6 @@ use Rattle.host_code.specs.declared.code.Entry.{Entry}
 use Rattle.host_code.specs.declared.instruction.Instr.{Instr}
 use Rattle.host_code.specs.declared.instruction.Op.{Op}
 use Rattle.host_code.specs.declared.instruction.Op.TheVariants as op
-use Rattle.host_code.specs.declared.message.Message.TheVariants as message
 use Rattle.host_code.specs.Code.{instruction_at, entry_at}
 use Rattle.host_code.specs.Sound.{IsSoundCode, IsHost}
 use Rattle.host_code.specs.Thread.{ThreadShape}
@@ -26,7 +24,7 @@ use Rattle.split_shades.specs.ShadedCode.{ReleaseNothing}
 use Rattle.seen_world.specs.Eyes.{Eyes, AreEyes, Watches}
 use Rattle.seen_world.proofs.SeenPlaces.{some_is}
 use Rattle.seen_world.proofs.PointsKept.{points_kept}
-use Rattle.agreement.specs.Handing.{handed, RunsHanding}
+use Rattle.agreement.specs.Handing.{RunsHanding}
 use Rattle.agreement.specs.Leads.{Leads, Agree}
 use Rattle.agreement.specs.Turns.{ChangesAlone, RunsAlone, Carried, carried_in, ComesInto, ComesWithResult}
 use Rattle.agreement.specs.Turns.{SeenOperation}
@@ -36,7 +34,7 @@ use Rattle.agreement.proofs.CarriedSame.{Twins, operation_same}
 use Rattle.agreement.proofs.Coming.{comes_once}
 use Rattle.token_laws.proofs.Tests.{some_found}
 use Rattle.agreement.proofs.ViewLaws.{completed_once}
-use Rattle.agreement.proofs.SeenHandings.{letter, same_first, reached_hands, handing_once}
+use Rattle.agreement.proofs.SeenHandings.{same_first, reached_hands, handing_once, handed_too}
 use Rattle.agreement.proofs.SeenLeads.{Calm, quiet_calm, calm_open, reached_leads}
 
 -- ---- one view
@@ -79,6 +77,8 @@ operation_once eyes now host thread token (op.Ask entry on) carried first second
 operation_once eyes now host thread token (op.Go entry on) carried first second one two = absurd one
 operation_once eyes now host thread token (op.Call entry on) carried first second one two =
     into_once eyes now host thread token (entry_at eyes.code entry) first second one two
+operation_once eyes now host thread token (op.GoWith entry on riders) carried first second one two = absurd one
+operation_once eyes now host thread token (op.CallWith entry on riders) carried first second one two = absurd one
 operation_once eyes now host thread token (op.Ret x value) carried first second one two =
     result_once eyes now host thread token x carried.value (token.host.0 == host.0) first second one two
 operation_once eyes now host thread token op.Back carried first second one two =
@@ -239,26 +239,6 @@ turn_agrees eyes rows bad store start events others one other one_after other_af
 
 -- ---- control that is handed over
 
--- what is handed over is told by the frames of the thread
-handed_same : (me : HostId) (thread twin : ThreadShape) (token : Token) (it : Op) → twin.frame ≡ thread.frame →
-    twin.new_frame ≡ thread.new_frame → handed me twin token it ≡ handed me thread token it
-handed_same me thread twin token (op.Go entry on) frame new_frame =
-    ap (λ (f : FrameId). letter on (message.Rgoto f entry token)) frame
-handed_same me thread twin token (op.Call entry on) frame new_frame =
-    ap (λ (f : FrameId). if on.0 == me.0 then None else letter on (message.Rgoto f entry token)) new_frame
-handed_same me thread twin token (op.Read field index) frame new_frame = refl
-handed_same me thread twin token (op.Let x value) frame new_frame = refl
-handed_same me thread twin token (op.Arg x value) frame new_frame = refl
-handed_same me thread twin token (op.Put field index value) frame new_frame = refl
-handed_same me thread twin token (op.Send x to) frame new_frame = refl
-handed_same me thread twin token (op.Frame site) frame new_frame = refl
-handed_same me thread twin token (op.Pass x to) frame new_frame = refl
-handed_same me thread twin token (op.Push entry) frame new_frame = refl
-handed_same me thread twin token (op.Ask entry on) frame new_frame = refl
-handed_same me thread twin token (op.Ret x value) frame new_frame = refl
-handed_same me thread twin token op.Back frame new_frame = refl
-handed_same me thread twin token (op.Branch guard target) frame new_frame = refl
-
 -- the other hands control over alike
 handing_too : (eyes : Eyes) (one other after : WorldShape) (now : View) (host : HostId) → ShapeFits eyes.code one →
     ShapeFits eyes.code other → Calm eyes one now → Calm eyes other now → RunsHanding eyes.code one host →
@@ -267,6 +247,8 @@ handing_too eyes one other after now host fits fits_other calm calm_other run st
     let thread = some_found step.state.running step.runs in
     let twins = twins_of eyes one other now host run.state step.state run.thread thread.0 fits fits_other calm
     calm_other run.there step.obeys run.running thread.1 in
+    let hands = handed_too run.state.variables step.state.variables host run.thread thread.0 run.token
+    run.instruction.op run.to run.said run.hands in
     record {
       state = step.state;
       there = step.obeys;
@@ -277,8 +259,8 @@ handing_too eyes one other after now host fits fits_other calm calm_other run st
       instruction = run.instruction;
       is = ap (instruction_at eyes.code host) twins.place ∙ run.is;
       to = run.to;
-      said = run.said;
-      hands = handed_same host run.thread thread.0 run.token run.instruction.op twins.frame twins.new_frame ∙ run.hands;
+      said = hands.0;
+      hands = hands.1;
     }
 
 pub hands_agree : (eyes : Eyes) (rows : List declared_hosts.HostShape) (bad : ℕ) (store start : List (List ℤ))
@@ -294,7 +276,8 @@ hands_agree eyes rows bad store start events others one other one_after other_af
     let calm = reached_calm eyes rows bad store events one now are watch reach quiet agree.first in
     let calm_other =
     reached_calm eyes rows bad start others other now are watch_other reach_other quiet_other agree.second in
-    let twin = handing_too eyes one other other_after now host calm.0 calm_other.0 calm.1 calm_other.1 run step_other in
+    let twin = handing_too eyes one other other_after now host calm.0 calm_other.0 calm.1 calm_other.1 run step_other
+    in
     let first = reached_hands eyes rows bad store events one one_after host now run are watch reach step quiet
     agree.first in
     let second = reached_hands eyes rows bad start others other other_after host now twin are watch_other

@@ -106,7 +106,7 @@ index_told eyes old thread field index there are law is bad =
     (may_both own asks (label_of_host eyes.code there.host) may_own may_ask)
 
 -- the value of a variable
-variable_told : (eyes : Eyes) → AreEyes eyes → (to : HostId) (x : VarId) → IsVariable eyes.code x →
+pub variable_told : (eyes : Eyes) → AreEyes eyes → (to : HostId) (x : VarId) → IsVariable eyes.code x →
     MaySee (Some (label_of eyes.scene.basis.labelled x)) (label_of_host eyes.code to) → eyes.bad to ≡ true →
     sees_variable eyes x ≡ true
 variable_told eyes are to x within may bad =
@@ -349,13 +349,13 @@ operation_asked eyes old thread there token now count (op.Send x to) passes run 
   _,
   refl,
   send_asked eyes old thread there token now thread.frame x to run fits.0
-      (run.are.known.hosts to (label_of eyes.scene.basis.labelled x) law.1.1.3),
+      (run.are.known.hosts to (label_of eyes.scene.basis.labelled x) law.1.1.2.1),
 )
 operation_asked eyes old thread there token now count (op.Pass x to) passes run elsewhere law fits checks = (
   _,
   refl,
   send_asked eyes old thread there token now thread.new_frame x to run fits.0
-      (run.are.known.hosts to (label_of eyes.scene.basis.labelled x) law.1.1.3),
+      (run.are.known.hosts to (label_of eyes.scene.basis.labelled x) law.1.1.2.1),
 )
 operation_asked eyes old thread there token now count (op.Ask entry on) passes run elsewhere law fits checks =
     (_, refl, ask_asked eyes old thread there token now entry on run)
@@ -373,6 +373,10 @@ operation_asked eyes old thread there token now count (op.Go entry on) passes ru
     absurd elsewhere
 operation_asked eyes old thread there token now count (op.Call entry on) passes run elsewhere law fits checks =
     absurd elsewhere
+operation_asked eyes old thread there token now count (op.GoWith entry on riders) passes run elsewhere law fits checks =
+    absurd elsewhere
+operation_asked eyes old thread there token now count (op.CallWith entry on riders) passes run elsewhere law fits
+    checks = absurd elsewhere
 operation_asked eyes old thread there token now count op.Back passes run elsewhere law fits checks = absurd elsewhere
 operation_asked eyes old thread there token now count (op.Branch guard target) passes run elsewhere law fits checks =
     absurd elsewhere

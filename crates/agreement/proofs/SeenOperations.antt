@@ -364,6 +364,10 @@ operation_turned eyes old thread there token now count (op.Ask entry on) passes 
     absurd alone
 operation_turned eyes old thread there token now count (op.Go entry on) passes run alone law fit checks fits =
     absurd alone
+operation_turned eyes old thread there token now count (op.GoWith entry on riders) passes run alone law fit checks
+    fits = absurd alone
+operation_turned eyes old thread there token now count (op.CallWith entry on riders) passes run alone law fit checks
+    fits = absurd alone
 operation_turned eyes old thread there token now count op.Back passes run alone law fit checks fits =
     let done = back_turned eyes old thread there token now passes run alone checks in
     (done.0, done.1, inr done.2)

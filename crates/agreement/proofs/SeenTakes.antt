@@ -19,16 +19,20 @@ use Rattle.ics_stack.specs.Stack.{top_token}
 use Rattle.host_code.specs.declared.code.Entry.{Entry}
 use Rattle.host_code.specs.declared.message.Message.{Message}
 use Rattle.host_code.specs.declared.message.Message.TheVariants as message
+use Rattle.host_code.specs.Riders.{Rider, names_of}
 use Rattle.host_code.specs.Code.{CodeFieldShape, field_at, entry_at}
 use Rattle.host_code.specs.Thread.{ThreadShape, Awaited, WaitingShape}
 use Rattle.host_code.specs.Thread.Awaited.{value_of_field, acknowledgement, token_of_entry}
 use Rattle.entry_check.specs.declared.ask.Ask.TheVariants as ask
-use Rattle.entry_check.specs.Checks.{May, MaySee, label_at, label_of_host}
+use Rattle.host_stores.specs.Stores.{with_variable}
+use Rattle.entry_check.specs.Checks.{May, MayRide, MaySee, label_at, label_of_host}
 use Rattle.host_core.specs.Fits.{RunningFits, StateFits}
 use Rattle.host_core.specs.Host.{HostShape, Outcome, with_running, with_temporary, with_token, thread_at}
-use Rattle.host_core.specs.Host.{after_entering, without_message, with_one_ignored}
+use Rattle.host_core.specs.Host.{after_entering, without_message, with_one_ignored, with_variable_set}
+use Rattle.host_core.specs.Host.{with_variables_set}
 use Rattle.host_core.specs.Taking.{Passes, after_passing, after_taking, after_answer, place_of_awaiting}
 use Rattle.token_laws.proofs.HeldLaws.{all_at}
+use Rattle.token_laws.proofs.Riding.{riding_is}
 use Rattle.seen_world.specs.Eyes.{Eyes, AreEyes, sees_at, is_hidden}
 use Rattle.seen_world.specs.Points.{IsHiddenToken, MayHold, RunsWell, StandsWell, HostKeeps, ShowsNoHidden}
 use Rattle.seen_world.specs.Points.{AsksForNoHidden}
@@ -38,10 +42,10 @@ use Rattle.agreement.specs.Comes.{Comes}
 use Rattle.agreement.specs.Leads.{nobody, hidden_running, hidden_waiting}
 use Rattle.agreement.specs.Taken.{carried_taken, host_checked, host_without, sees_answer, ComesAnswered, ComesToEntry}
 use Rattle.agreement.specs.Taken.{answer_view, SeenPassing, SeenMessage}
-use Rattle.agreement.specs.Turns.{variable_shown, element_shown, token_shown, entry_shown}
+use Rattle.agreement.specs.Turns.{variable_shown, with_riders, riders_shown, element_shown, token_shown, entry_shown}
 use Rattle.agreement.specs.Views.{View, HostView, ShowsHost, nowhere, nothing, gives, GivenBack, masked}
 use Rattle.agreement.specs.Views.{masked_all, last_seen, sees_field, sees_variable, sees_read, message_view}
-use Rattle.agreement.specs.Views.{thread_view, waits_open, waiter_view, running_view, is_shown, with_host}
+use Rattle.agreement.specs.Views.{riders_view, thread_view, waits_open, waiter_view, running_view, is_shown, with_host}
 use Rattle.agreement.proofs.AskedPlaces.{Woken, woken_at, awaiting_seen, acknowledged, given_token}
 use Rattle.agreement.proofs.GivesBack.{Given, given_ends, same_view, shows_ignored}
 use Rattle.agreement.proofs.Lists.{not_left, all_kept}
@@ -83,6 +87,11 @@ resting_shows eyes state shown shows rests = record {
 
 -- ---- the check
 
+-- the variables that ride are seen
+names_seen : (eyes : Eyes) (riders : List Rider) → names_of (riders_view eyes riders) ≡ names_of riders
+names_seen eyes [] = refl
+names_seen eyes (rider ∷ riders) = ap (λ names. rider.0 ∷ names) (names_seen eyes riders)
+
 -- it says the same of what is seen of the host and of the message
 checked_same : (eyes : Eyes) (state : HostShape) (from : HostId) (said : Message) (now : View) →
     Receives eyes state from said now →
@@ -93,6 +102,11 @@ checked_same eyes state from (message.Set request field index value) now got = (
 checked_same eyes state from (message.Forward request frame x value) now got = (λ may. may, λ may. may)
 checked_same eyes state from (message.Sync request frame entry token) now got = (λ may. may, λ may. may)
 checked_same eyes state from (message.Rgoto frame entry token) now got = (λ may. may, λ may. may)
+checked_same eyes state from (message.RgotoWith frame entry token riders) now got =
+    let same = names_seen eyes riders in (
+      λ may. (may.0, subst (MayRide eyes.code state.me from) (sym same) may.1),
+      λ may. (may.0, subst (MayRide eyes.code state.me from) same may.1),
+    )
 checked_same eyes state from (message.Lgoto token) now got =
     let same : (now.hosts state.me).entries ≡ state.entries = sym got.shows.entries ∙ sym got.entries in
     (λ top. ap top_token same ∙ top, λ top. sym (ap top_token same) ∙ top)
@@ -333,20 +347,24 @@ sync_seen eyes state from label now request frame entry token got passes =
 
 -- ---- a thread starts at an entry
 
-enters_seen : (eyes : Eyes) (state : HostShape) (from : HostId) (said : Message) (now : View) (frame : FrameId)
-    (token : Token) (P : Entry → Type 0) → Receives eyes state from said now → ¬ IsHiddenToken eyes token →
+-- where the host's variables, of which this is seen, are these by then
+enters_seen : (eyes : Eyes) (state : HostShape) (from : HostId) (said : Message) (now : View)
+    (variables : FrameId → VarId → ℤ) (shown : HostView) (frame : FrameId) (token : Token) (P : Entry → Type 0) →
+    Receives eyes state from said now → ¬ IsHiddenToken eyes token →
+    ShowsHost eyes state.me (with_running (record state { variables = variables }) None) shown →
     (found : Option Entry) → IsSomeAnd found P →
     (after : View)
-    × ComesToEntry eyes now state.me found frame token after
-    × Arrives eyes state now (without_message (after_entering state found frame token)) after
-enters_seen eyes state from said now frame token P got plain None some = absurd some
-enters_seen eyes state from said now frame token P got plain (Some there) some =
+    × ComesToEntry eyes (with_host now state.me shown) state.me found frame token after
+    × Arrives eyes state now
+    (without_message (after_entering (record state { variables = variables }) found frame token)) after
+enters_seen eyes state from said now variables shown frame token P got plain own None some = absurd some
+enters_seen eyes state from said now variables shown frame token P got plain own (Some there) some =
     let later = thread_at there frame token in
-    let done = comes_some eyes now state.me later token in (
+    let done = comes_some eyes (with_host now state.me shown) state.me later token in (
       done.0,
       done.1,
       record {
-        shown = now.hosts state.me;
+        shown = shown;
         later = later;
         token = token;
         silent = refl;
@@ -356,9 +374,68 @@ enters_seen eyes state from said now frame token P got plain (Some there) some =
         plain = plain;
         waiting = got.waits;
         entries = got.entries;
-        own = resting_shows eyes state (now.hosts state.me) got.shows got.rests;
-        comes = subst (λ (v : View). Comes eyes v state.me later token done.0) (sym (same_view now state.me)) done.1;
+        own = own;
+        comes = done.1;
       },
+    )
+
+rgoto_seen : (eyes : Eyes) (state : HostShape) (from : HostId) (label : ℕ) (now : View) (frame : FrameId)
+    (entry : EntryId) (token : Token) → Receives eyes state from (message.Rgoto frame entry token) now →
+    Passes eyes.code state from (message.Rgoto frame entry token) →
+    PassesSeen eyes state from label now (message.Rgoto frame entry token)
+rgoto_seen eyes state from label now frame entry token got passes =
+    let me = state.me in
+    let done = enters_seen eyes state from (message.Rgoto frame entry token) now state.variables (now.hosts me) frame
+    token (λ (there : Entry). there.host ≡ me) got got.plain
+    (resting_shows eyes state (now.hosts me) got.shows got.rests) (entry_at eyes.code entry)
+    (on_me eyes me from entry passes) in (
+      done.0,
+      subst (λ (v : View). ComesToEntry eyes v me (entry_at eyes.code entry) frame token done.0) (same_view now me)
+          done.1,
+      inl done.2,
+    )
+
+-- values ride to the host and its view alike, each masked by the label of its variable
+riders_alike : (eyes : Eyes) (host : HostShape) (others : FrameId → VarId → ℤ) (frame : FrameId)
+    (riders : List Rider) →
+    ((other : FrameId) (y : VarId) → sees_variable eyes y ≡ true → host.variables other y ≡ others other y) →
+    (other : FrameId) (y : VarId) → sees_variable eyes y ≡ true →
+    (with_variables_set host frame riders).variables other y
+    ≡ with_riders others frame (riders_view eyes riders) other y
+riders_alike eyes host others frame [] same other y seen = same other y seen
+riders_alike eyes host others frame (rider ∷ riders) same other y seen =
+    riders_alike eyes (with_variable_set host frame rider.0 rider.1)
+    (with_variable others frame rider.0 (masked (sees_variable eyes rider.0) rider.1)) frame riders
+    (λ another z sees. variable_alike eyes host.variables others frame rider.0 rider.1 another z sees (same another z))
+    other y seen
+
+rgoto_with_seen : (eyes : Eyes) (state : HostShape) (from : HostId) (label : ℕ) (now : View) (frame : FrameId)
+    (entry : EntryId) (token : Token) (riders : List Rider) →
+    Receives eyes state from (message.RgotoWith frame entry token riders) now →
+    Passes eyes.code state from (message.RgotoWith frame entry token riders) →
+    PassesSeen eyes state from label now (message.RgotoWith frame entry token riders)
+rgoto_with_seen eyes state from label now frame entry token riders got passes =
+    let me = state.me in
+    let rest = resting_shows eyes state (now.hosts me) got.shows got.rests in
+    let done = enters_seen eyes state from (message.RgotoWith frame entry token riders) now
+    (with_variables_set state frame riders).variables
+    (riders_shown (now.hosts me) frame (riders_view eyes riders)) frame token (λ (there : Entry). there.host ≡ me) got
+    got.plain (record {
+      key = rest.key;
+      rows = rest.rows;
+      variables = riders_alike eyes state (now.hosts me).variables frame riders got.shows.variables;
+      running = rest.running;
+      waiting = rest.waiting;
+      entries = rest.entries;
+      serials = rest.serials;
+      frames = rest.frames;
+      requests = rest.requests;
+    }) (entry_at eyes.code entry) (on_me eyes me from entry passes.0) in (
+      done.0,
+      done.1,
+      inl (subst (λ (one : HostShape). Arrives eyes state now
+          (without_message (after_entering one (entry_at eyes.code entry) frame token)) done.0)
+          (riding_is state frame riders) done.2),
     )
 
 -- ---- a token is given back
@@ -634,10 +711,9 @@ passing_seen eyes state from label now (message.Forward request frame x value) g
 passing_seen eyes state from label now (message.Sync request frame entry token) got passes fits keeps =
     sync_seen eyes state from label now request frame entry token got passes
 passing_seen eyes state from label now (message.Rgoto frame entry token) got passes fits keeps =
-    let done = enters_seen eyes state from (message.Rgoto frame entry token) now frame token
-    (λ (there : Entry). there.host ≡ state.me) got got.plain (entry_at eyes.code entry)
-    (on_me eyes state.me from entry passes) in
-    (done.0, done.1, inl done.2)
+    rgoto_seen eyes state from label now frame entry token got passes
+passing_seen eyes state from label now (message.RgotoWith frame entry token riders) got passes fits keeps =
+    rgoto_with_seen eyes state from label now frame entry token riders got passes
 passing_seen eyes state from label now (message.Lgoto token) got passes fits keeps =
     lgoto_seen eyes state from label now token got passes
 passing_seen eyes state from label now (message.Value request value) got passes fits keeps =

@@ -1,7 +1,8 @@
 -- What the taking of a request, or of a message that hands control over, leaves of what goes on unseen.
-use Rattle.std.proofs.Common.{◌≡◌, ◌≢◌, ◌∙◌, ℕ, ◌<◌, Bool, true, false, List, ◌∷◌, length, Option, Some, None, inr}
-use Rattle.std.proofs.Common.{refl, ap, sym, subst}
+use Rattle.std.proofs.Common.{◌≡◌, ◌≢◌, ◌∙◌, ℕ, ◌<◌, Bool, true, false, List, [], ◌∷◌, length, Option, Some, None}
+use Rattle.std.proofs.Common.{inr, refl, ap, sym, subst}
 use Rattle.std.specs.Prelude.{◌++◌, if◌then◌else◌, not, ℤ, IfSome, IsSomeAnd, filter}
+use Rattle.std.specs.List.{AllByRecursion}
 use Rattle.std.proofs.lemmas.Bool.{false≢true}
 use Rattle.js_base.specs.declared.ids.HostId.{HostId}
 use Rattle.js_base.specs.declared.ids.FieldId.{FieldId}
@@ -15,11 +16,12 @@ use Rattle.host_code.specs.declared.code.Entry.{Entry}
 use Rattle.host_code.specs.declared.instruction.Op.TheVariants as op
 use Rattle.host_code.specs.declared.message.Message.{Message}
 use Rattle.host_code.specs.declared.message.Message.TheVariants as message
+use Rattle.host_code.specs.Riders.{Rider}
 use Rattle.host_code.specs.Code.{CodeFieldShape, CodeVariableShape, halt, part_of, field_at, variable_at, entry_at}
 use Rattle.host_code.specs.Sound.{IsSoundCode, EntryFits}
 use Rattle.host_code.specs.Thread.{WaitingShape}
 use Rattle.host_core.specs.Host.{HostShape, with_running, with_row_written, with_variable_set, after_push}
-use Rattle.host_core.specs.Host.{new_token, thread_at, with_one_ignored, after_pop}
+use Rattle.host_core.specs.Host.{with_variables_set, new_token, thread_at, with_one_ignored, after_pop}
 use Rattle.host_core.specs.Taking.{Passes, after_passing, after_taking}
 use Rattle.net_world.specs.Flying.{Flight}
 use Rattle.split_shades.specs.ShadedCode.{IsShadedOp}
@@ -237,16 +239,31 @@ deep_entry eyes host entry are sound apart on hidden =
 
 -- ---- control is handed over
 
+-- values that ride leave what is seen of a host, where none of their variables may be seen
+pub riders_stay : (eyes : Eyes) (host : HostShape) (frame : FrameId) (riders : List Rider) →
+    AllByRecursion (λ rider. IfSome (variable_at eyes.code rider.0) (λ there. sees_at eyes there.label ≡ false))
+    riders → (other : FrameId) (y : VarId) → sees_variable eyes y ≡ true →
+    (with_variables_set host frame riders).variables other y ≡ host.variables other y
+riders_stay eyes host frame [] hidden other y seen = refl
+riders_stay eyes host frame (rider ∷ riders) hidden other y seen =
+    riders_stay eyes (with_variable_set host frame rider.0 rider.1) frame riders hidden.1 other y seen
+    ∙ variable_stays eyes host.variables frame other rider.0 y rider.1 (variable_set eyes rider.0 hidden.0) seen
+
+-- a thread starts where the variables that may be seen are as they were
 pub enters_unseen : (eyes : Eyes) (state : HostShape) (from : HostId) (flight : Flight) (links : List Link)
-    (token : Token) (owed : Owed) (now shown : View) (frame : FrameId) (entry : EntryId)
-    (deep : Deep eyes state.me entry) →
+    (token : Token) (owed : Owed) (now shown : View) (variables : FrameId → VarId → ℤ) (frame : FrameId)
+    (entry : EntryId) (deep : Deep eyes state.me entry) →
     Taken eyes state (flies from state.me flight) links (at state.me deep.there.at frame token) owed now shown from
-    flight → Ends eyes state.me (flies from state.me flight) links now shown flight.label
-    (record { state = with_running state (Some (thread_at deep.there frame token)); sent = None })
-enters_unseen eyes state from flight links token owed now shown frame entry deep take =
+    flight →
+    ((other : FrameId) (x : VarId) → sees_variable eyes x ≡ true → variables other x ≡ state.variables other x) →
+    Ends eyes state.me (flies from state.me flight) links now shown flight.label (record {
+      state = with_running (record state { variables = variables }) (Some (thread_at deep.there frame token));
+      sent = None;
+    })
+enters_unseen eyes state from flight links token owed now shown variables frame entry deep take stay =
     let me = state.me in
     let thread = thread_at deep.there frame token in
-    let new = with_running state (Some thread) in
+    let new = with_running (record state { variables = variables }) (Some thread) in
     record {
       later = runs me thread;
       sends = λ i j. refl;
@@ -270,7 +287,7 @@ enters_unseen eyes state from flight links token owed now shown frame entry deep
         shows = still_shows eyes me state new (now.hosts me) take.shows (record {
           key = refl;
           rows = λ field seen. refl;
-          variables = λ other x seen. refl;
+          variables = stay;
           waiting = refl;
           serials = λ number shows. refl;
           frames = λ site label is seen. refl;

@@ -34,7 +34,7 @@ use Rattle.seen_world.proofs.SeenPlaces.{some_is}
 use Rattle.agreement.specs.Comes.{Comes}
 use Rattle.agreement.specs.Leads.{Leads, Agree}
 use Rattle.agreement.specs.Taken.{sees_answer, carried_taken, host_without, ComesAnswered, ComesToEntry}
-use Rattle.agreement.specs.Taken.{SeenPassing, SeenMessage, SeenTake, view_without}
+use Rattle.agreement.specs.Taken.{SeenPassing, SeenMessage, SeenTake, view_riding, view_without}
 use Rattle.agreement.specs.Views.{View, masked, sees_field, sees_read, message_view, flight_view, with_host}
 use Rattle.agreement.proofs.CarriedSame.{field_seen, masks_same}
 use Rattle.agreement.proofs.Coming.{comes_once}
@@ -85,6 +85,8 @@ passing_once eyes now from to label (message.Sync request frame entry token) car
     one ∙ sym two
 passing_once eyes now from to label (message.Rgoto frame entry token) carried first second one two =
     entry_once eyes now to (entry_at eyes.code entry) frame token first second one two
+passing_once eyes now from to label (message.RgotoWith frame entry token riders) carried first second one two =
+    entry_once eyes (view_riding now to frame riders) to (entry_at eyes.code entry) frame token first second one two
 passing_once eyes now from to label (message.Lgoto token) carried first second one two =
     given_once eyes now token (now.hosts to).entries first second one two
 passing_once eyes now from to label (message.Value request value) carried first second one two =
@@ -133,6 +135,7 @@ carried_view eyes state from to (message.Set request field index value) good = r
 carried_view eyes state from to (message.Forward request frame x value) good = refl
 carried_view eyes state from to (message.Sync request frame entry token) good = refl
 carried_view eyes state from to (message.Rgoto frame entry token) good = refl
+carried_view eyes state from to (message.RgotoWith frame entry token riders) good = refl
 carried_view eyes state from to (message.Lgoto token) good = refl
 carried_view eyes state from to (message.Value request value) good = refl
 carried_view eyes state from to (message.Ack request) good = refl
@@ -169,6 +172,7 @@ message_carries eyes one other from to (message.Set request field index value) a
 message_carries eyes one other from to (message.Forward request frame x value) are good asked rows = refl
 message_carries eyes one other from to (message.Sync request frame entry token) are good asked rows = refl
 message_carries eyes one other from to (message.Rgoto frame entry token) are good asked rows = refl
+message_carries eyes one other from to (message.RgotoWith frame entry token riders) are good asked rows = refl
 message_carries eyes one other from to (message.Lgoto token) are good asked rows = refl
 message_carries eyes one other from to (message.Value request value) are good asked rows = refl
 message_carries eyes one other from to (message.Ack request) are good asked rows = refl

@@ -5,6 +5,7 @@ use Rattle.std.specs.Prelude.{◌==◌, if◌then◌else◌, not, IsSomeAnd, sli
 use Rattle.std.proofs.lemmas.Bool.{false≢true}
 use Rattle.js_base.specs.declared.ids.HostId.{HostId}
 use Rattle.js_base.specs.declared.ids.EntryId.{EntryId}
+use Rattle.js_base.specs.declared.ids.VarId.{VarId}
 use Rattle.capability.specs.declared.token.Token.{Token}
 use Rattle.ics_stack.specs.declared.stack.StackEntry.{StackEntry}
 use Rattle.host_code.specs.declared.code.Entry.{Entry}
@@ -16,11 +17,12 @@ use Rattle.host_code.specs.Sound.{IsEntryOn, EntryFits}
 use Rattle.host_code.specs.Thread.{ThreadShape}
 use Rattle.host_core.specs.Host.{HostShape, Outcome, with_running, after_push, new_token, after_step}
 use Rattle.host_core.specs.Host.{with_token}
-use Rattle.host_core.specs.Turn.{after_own_push, after_own_call, after_go, after_call, with_thread}
+use Rattle.host_core.specs.Turn.{after_own_push, after_own_call, after_go, after_go_with, after_call, with_thread}
+use Rattle.host_core.specs.Turn.{riders_of}
 use Rattle.net_world.proofs.Present.{same_id}
 use Rattle.split_shades.specs.ShadedCode.{IsShadedOp}
 use Rattle.split_shades.specs.Shades.{EntryShade, Ahead, Meets, ahead_of}
-use Rattle.split_shades.specs.Shading.{Names, PushesAt, Pushes}
+use Rattle.split_shades.specs.Shading.{Names, PushesAt, Pushes, GoesTo, CallsOn}
 use Rattle.token_laws.proofs.HeldLaws.{all_at}
 use Rattle.token_laws.proofs.Tests.{different, number_same}
 use Rattle.seen_world.specs.Eyes.{Eyes, is_open, is_deep, is_hidden}
@@ -244,6 +246,36 @@ pub either_by : (P : Outcome → Type 0) (b : Bool) (one other : Outcome) → (b
 either_by P true one other first second = first refl
 either_by P false one other first second = second refl
 
+-- where control goes to a place of the block, and what is owed there
+goes_unseen : (eyes : Eyes) (old : HostShape) (thread : ThreadShape) (links : List Link) (token : Token) (owed : Owed)
+    (now shown : View) (here_is : Instr) (entry : EntryId) (on : HostId) →
+    Unseen eyes old thread links token owed now shown → IsHere eyes old thread here_is →
+    GoesTo eyes.scene eyes.shades.entries (eyes.shades.at old.me thread.at) entry.0 on →
+    (stand : Standing eyes.code on entry) →
+    Owes eyes (at on stand.there.at thread.frame token) links owed
+goes_unseen eyes old thread links token owed now shown here_is entry on run is goes stand =
+    let here = eyes.shades.at old.me thread.at in
+    let deep = deep_of eyes run.are old.me thread.at here_is is goes.2 run.hidden in
+    let hands = goes.3 in
+    let place = entry_meets eyes old thread links token owed now shown on entry hands.it run stand hands.is in
+    let deep_there : is_deep eyes on stand.there.at ≡ true =
+    deep_as eyes here.block on stand.there.at (place.block ∙ hands.block) (block_hidden eyes old.me thread.at deep) in
+    deep_moved eyes links owed old.me on thread.at stand.there.at thread.frame thread.frame token deep deep_there
+    run.owes
+
+-- where a method is entered
+calls_unseen : (eyes : Eyes) (old : HostShape) (thread : ThreadShape) (links : List Link) (token : Token) (owed : Owed)
+    (now shown : View) (entry : EntryId) (on : HostId) → Unseen eyes old thread links token owed now shown →
+    CallsOn eyes.scene eyes.shades.entries (eyes.shades.at old.me thread.at) entry.0 on →
+    (stand : Standing eyes.code on entry) → is_deep eyes old.me thread.at ≡ true →
+    is_deep eyes on stand.there.at ≡ true
+calls_unseen eyes old thread links token owed now shown entry on run calls stand deep =
+    let here = eyes.shades.at old.me thread.at in
+    let enters = calls.3 in
+    let place = entry_meets eyes old thread links token owed now shown on entry enters.it run stand enters.is in
+    deep_as eyes enters.it.block on stand.there.at place.block
+    (flow_hidden eyes run.are here.block enters.it.block enters.below (block_hidden eyes old.me thread.at deep))
+
 pub go_ends : (eyes : Eyes) (old : HostShape) (thread : ThreadShape) (links : List Link) (token : Token) (owed : Owed)
     (now shown : View) (label : ℕ) (here_is : Instr) (entry : EntryId) (on : HostId) →
     Unseen eyes old thread links token owed now shown → IsHere eyes old thread here_is →
@@ -251,20 +283,29 @@ pub go_ends : (eyes : Eyes) (old : HostShape) (thread : ThreadShape) (links : Li
     EndsIn eyes old thread links now shown label (after_go (with_running old None) thread thread.frame entry on
     thread.held)
 go_ends eyes old thread links token owed now shown label here_is entry on run is law on_host =
-    let here = eyes.shades.at old.me thread.at in
     let stand = standing eyes.code on entry on_host in
-    let deep = deep_of eyes run.are old.me thread.at here_is is law.2 run.hidden in
-    let hands = law.3 in
-    let place = entry_meets eyes old thread links token owed now shown on entry hands.it run stand hands.is in
-    let deep_there : is_deep eyes on stand.there.at ≡ true =
-    deep_as eyes here.block on stand.there.at (place.block ∙ hands.block) (block_hidden eyes old.me thread.at deep) in
     subst (λ held. EndsIn eyes old thread links now shown label
     (after_go (with_running old None) thread thread.frame entry on held)) (sym run.held)
     (λ fits. hands_unseen eyes old thread links token owed now shown label on
     (message.Rgoto thread.frame entry token) (at on stand.there.at thread.frame token) run
     (stand.there, stand.is, stand.host_is, refl)
-    (deep_moved eyes links owed old.me on thread.at stand.there.at thread.frame thread.frame token deep deep_there
-    run.owes))
+    (goes_unseen eyes old thread links token owed now shown here_is entry on run is law stand))
+
+pub go_with_ends : (eyes : Eyes) (old : HostShape) (thread : ThreadShape) (links : List Link) (token : Token)
+    (owed : Owed) (now shown : View) (label : ℕ) (here_is : Instr) (entry : EntryId) (on : HostId)
+    (riders : List VarId) → Unseen eyes old thread links token owed now shown → IsHere eyes old thread here_is →
+    IsShadedOp eyes.scene eyes.shades old.me thread.at (op.GoWith entry on riders) → IsEntryOn eyes.code on entry →
+    EndsIn eyes old thread links now shown label
+    (after_go_with (with_running old None) thread thread.frame entry on riders thread.held)
+go_with_ends eyes old thread links token owed now shown label here_is entry on riders run is law on_host =
+    let bare = with_running old None in
+    let stand = standing eyes.code on entry on_host in
+    subst (λ held. EndsIn eyes old thread links now shown label
+    (after_go_with bare thread thread.frame entry on riders held)) (sym run.held)
+    (λ fits. hands_unseen eyes old thread links token owed now shown label on
+    (message.RgotoWith thread.frame entry token (riders_of bare thread.frame riders))
+    (at on stand.there.at thread.frame token) run (stand.there, stand.is, stand.host_is, refl)
+    (goes_unseen eyes old thread links token owed now shown here_is entry on run is law.0 stand))
 
 pub call_ends : (eyes : Eyes) (old : HostShape) (thread : ThreadShape) (links : List Link) (token : Token) (owed : Owed)
     (now shown : View) (label : ℕ) (here_is : Instr) (entry : EntryId) (on : HostId) →
@@ -272,14 +313,9 @@ pub call_ends : (eyes : Eyes) (old : HostShape) (thread : ThreadShape) (links : 
     IsShadedOp eyes.scene eyes.shades old.me thread.at (op.Call entry on) → IsEntryOn eyes.code on entry →
     EndsIn eyes old thread links now shown label (after_call eyes.code (with_running old None) thread entry on)
 call_ends eyes old thread links token owed now shown label here_is entry on run is law on_host =
-    let here = eyes.shades.at old.me thread.at in
     let stand = standing eyes.code on entry on_host in
     let deep = deep_of eyes run.are old.me thread.at here_is is law.2 run.hidden in
-    let enters = law.3 in
-    let place = entry_meets eyes old thread links token owed now shown on entry enters.it run stand enters.is in
-    let deep_there : is_deep eyes on stand.there.at ≡ true =
-    deep_as eyes enters.it.block on stand.there.at place.block
-    (flow_hidden eyes run.are here.block enters.it.block enters.below (block_hidden eyes old.me thread.at deep)) in
+    let deep_there = calls_unseen eyes old thread links token owed now shown entry on run law stand deep in
     either_by (EndsIn eyes old thread links now shown label) (on.0 == old.me.0) _ _
     (λ same.
     let later : ThreadShape = record thread { at = stand.there.at; frame = thread.new_frame } in
@@ -297,3 +333,21 @@ call_ends eyes old thread links token owed now shown label here_is entry on run 
     (stand.there, stand.is, stand.host_is, refl)
     (deep_moved eyes links owed old.me on thread.at stand.there.at thread.frame thread.new_frame token deep deep_there
     run.owes)))
+
+pub call_with_ends : (eyes : Eyes) (old : HostShape) (thread : ThreadShape) (links : List Link) (token : Token)
+    (owed : Owed) (now shown : View) (label : ℕ) (here_is : Instr) (entry : EntryId) (on : HostId)
+    (riders : List VarId) → Unseen eyes old thread links token owed now shown → IsHere eyes old thread here_is →
+    IsShadedOp eyes.scene eyes.shades old.me thread.at (op.CallWith entry on riders) → IsEntryOn eyes.code on entry →
+    EndsIn eyes old thread links now shown label
+    (after_go_with (with_running old None) thread thread.new_frame entry on riders thread.held)
+call_with_ends eyes old thread links token owed now shown label here_is entry on riders run is law on_host =
+    let bare = with_running old None in
+    let stand = standing eyes.code on entry on_host in
+    let deep = deep_of eyes run.are old.me thread.at here_is is law.0.2 run.hidden in
+    subst (λ held. EndsIn eyes old thread links now shown label
+    (after_go_with bare thread thread.new_frame entry on riders held)) (sym run.held)
+    (λ fits. hands_unseen eyes old thread links token owed now shown label on
+    (message.RgotoWith thread.new_frame entry token (riders_of bare thread.new_frame riders))
+    (at on stand.there.at thread.new_frame token) run (stand.there, stand.is, stand.host_is, refl)
+    (deep_moved eyes links owed old.me on thread.at stand.there.at thread.frame thread.new_frame token deep
+    (calls_unseen eyes old thread links token owed now shown entry on run law.0 stand deep) run.owes))

@@ -90,6 +90,8 @@ token_with other held = held
 abbrev pub FliesTo : Eyes → HostId → Message → Spot → Type 0
 FliesTo eyes to (message.Rgoto frame entry token) spot =
     (there : Entry) × (entry_at eyes.code entry ≡ Some there) × (there.host ≡ to) × (spot ≡ at to there.at frame token)
+FliesTo eyes to (message.RgotoWith frame entry token riders) spot =
+    (there : Entry) × (entry_at eyes.code entry ≡ Some there) × (there.host ≡ to) × (spot ≡ at to there.at frame token)
 FliesTo eyes to (message.Lgoto token) spot = (to ≡ token.host) × (spot ≡ given_back token)
 FliesTo eyes to other spot = ⊥
 

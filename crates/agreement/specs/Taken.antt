@@ -1,6 +1,6 @@
 -- What is seen of a message that a host takes, where the message may be seen.
 use Rattle.std.specs.Prelude.{◌≡◌, ◌⊎◌, ℕ, ℤ, pos, Bool, true, false, if◌then◌else◌, [], Option, Some, None, remove}
-use Rattle.std.specs.Prelude.{slice_get}
+use Rattle.std.specs.Prelude.{List, slice_get}
 use Rattle.js_base.specs.declared.ids.HostId.{HostId}
 use Rattle.js_base.specs.declared.ids.FieldId.{FieldId}
 use Rattle.js_base.specs.declared.ids.FrameId.{FrameId}
@@ -10,6 +10,7 @@ use Rattle.capability.specs.declared.token.Token.{Token}
 use Rattle.host_code.specs.declared.code.Entry.{Entry}
 use Rattle.host_code.specs.declared.message.Message.{Message}
 use Rattle.host_code.specs.declared.message.Message.TheVariants as message
+use Rattle.host_code.specs.Riders.{Rider}
 use Rattle.host_code.specs.Code.{entry_at}
 use Rattle.host_code.specs.Thread.{ThreadShape, WaitingShape}
 use Rattle.host_code.specs.Thread.Awaited.{value_of_field, acknowledgement, token_of_entry}
@@ -21,7 +22,7 @@ use Rattle.net_world.specs.Told.{tokens_in, message_made}
 use Rattle.seen_world.specs.Eyes.{Eyes}
 use Rattle.agreement.specs.Comes.{Comes}
 use Rattle.agreement.specs.Handing.{sent_view}
-use Rattle.agreement.specs.Turns.{variable_shown, element_shown, token_shown, entry_shown}
+use Rattle.agreement.specs.Turns.{variable_shown, riders_shown, element_shown, token_shown, entry_shown}
 use Rattle.agreement.specs.Views.{View, HostView, GivenBack, masked, sees_field, sees_read, message_view, with_host}
 
 -- ---- what it carries
@@ -87,6 +88,10 @@ ComesToEntry eyes view host None frame token after = ⊥
 ComesToEntry eyes view host (Some there) frame token after =
     Comes eyes view host (thread_at there frame token) token after
 
+-- values ride to a host, for variables of a frame
+abbrev pub view_riding : View → HostId → FrameId → List Rider → View
+view_riding view to frame riders = with_host view to (riders_shown (view.hosts to) frame riders)
+
 -- who asked is answered with the label of what was asked
 abbrev pub answer_view : Eyes → View → HostId → HostId → ℕ → Message → View
 answer_view eyes view from to label answer =
@@ -108,6 +113,8 @@ SeenPassing eyes view from to label (message.Sync request frame entry token) car
     (message.Token request (token_shown to (view.hosts to) entry frame))
 SeenPassing eyes view from to label (message.Rgoto frame entry token) carried after =
     ComesToEntry eyes view to (entry_at eyes.code entry) frame token after
+SeenPassing eyes view from to label (message.RgotoWith frame entry token riders) carried after =
+    ComesToEntry eyes (view_riding view to frame riders) to (entry_at eyes.code entry) frame token after
 SeenPassing eyes view from to label (message.Lgoto token) carried after =
     GivenBack eyes view token (view.hosts to).entries after
 SeenPassing eyes view from to label (message.Value request value) carried after =

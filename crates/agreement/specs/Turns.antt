@@ -1,6 +1,6 @@
 -- What is seen of a turn that may be seen, and that changes its host alone.
 use Rattle.std.specs.Prelude.{◌≡◌, ◌⊎◌, ℕ, ◌+◌, ℤ, pos, Bool, true, false, not, ◌==◌, if◌then◌else◌, [], ◌∷◌}
-use Rattle.std.specs.Prelude.{Option, Some, None, ⊤}
+use Rattle.std.specs.Prelude.{List, Option, Some, None, ⊤}
 use Rattle.std.specs.Option.{IsSomeAnd}
 use Rattle.std.specs.Ordering.{int_eq}
 use Rattle.js_base.specs.declared.ids.HostId.{HostId}
@@ -16,6 +16,7 @@ use Rattle.host_code.specs.declared.code.Entry.{Entry}
 use Rattle.host_code.specs.declared.instruction.Instr.{Instr}
 use Rattle.host_code.specs.declared.instruction.Op.{Op}
 use Rattle.host_code.specs.declared.instruction.Op.TheVariants as op
+use Rattle.host_code.specs.Riders.{Rider}
 use Rattle.host_code.specs.Code.{CodeShape, instruction_at, field_at, variable_at, entry_at}
 use Rattle.host_code.specs.Thread.{ThreadShape}
 use Rattle.host_stores.specs.Stores.{with_variable}
@@ -94,6 +95,16 @@ host_idle view = record view { running = [] }
 
 abbrev pub variable_shown : HostView → FrameId → VarId → ℤ → HostView
 variable_shown view frame x value = record view { variables = with_variable view.variables frame x value }
+
+-- variables of a frame become these values, in order; of a variable that comes twice the last one counts
+abbrev pub with_riders : (FrameId → VarId → ℤ) → FrameId → List Rider → FrameId → VarId → ℤ
+with_riders variables frame [] = variables
+with_riders variables frame (rider ∷ riders) =
+    with_riders (with_variable variables frame rider.0 rider.1) frame riders
+
+-- a host has the values that ride to it
+abbrev pub riders_shown : HostView → FrameId → List Rider → HostView
+riders_shown view frame riders = record view { variables = with_riders view.variables frame riders }
 
 abbrev pub element_shown : HostView → FieldId → ℤ → ℤ → HostView
 element_shown view field index value = record view {

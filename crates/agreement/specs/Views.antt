@@ -14,6 +14,7 @@ use Rattle.ics_stack.specs.declared.stack.StackEntry.{StackEntry}
 use Rattle.host_code.specs.declared.code.Entry.{Entry}
 use Rattle.host_code.specs.declared.message.Message.{Message}
 use Rattle.host_code.specs.declared.message.Message.TheVariants as message
+use Rattle.host_code.specs.Riders.{Rider}
 use Rattle.host_code.specs.Code.{CodeFieldShape, CodeVariableShape, halt, part_of, field_at, variable_at, entry_at}
 use Rattle.host_code.specs.Thread.{ThreadShape, WaitingShape}
 use Rattle.host_core.specs.Host.{HostShape}
@@ -102,6 +103,10 @@ last_seen eyes (first ∷ label ∷ labels) = last_seen eyes (label ∷ labels)
 abbrev pub sees_read : Eyes → HostId → RequestId → Bool
 sees_read eyes host request = last_seen eyes (eyes.shades.at host (request.at + 1)).temps
 
+-- each value that rides under the label of its variable; which variables ride is seen
+abbrev pub riders_view : Eyes → List Rider → List Rider
+riders_view eyes riders = map (λ rider. (rider.0, masked (sees_variable eyes rider.0) rider.1)) riders
+
 abbrev pub message_view : Eyes → HostId → HostId → Message → Message
 message_view eyes from to (message.Get request field index) =
     message.Get request field (masked (sees_read eyes from request) index)
@@ -111,6 +116,8 @@ message_view eyes from to (message.Set request field index value) =
     message.Set request field (masked (sees_field eyes field) index) (masked (sees_field eyes field) value)
 message_view eyes from to (message.Forward request frame x value) =
     message.Forward request frame x (masked (sees_variable eyes x) value)
+message_view eyes from to (message.RgotoWith frame entry token riders) =
+    message.RgotoWith frame entry token (riders_view eyes riders)
 message_view eyes from to other = other
 
 abbrev pub flies_open : Eyes → Flight → Bool

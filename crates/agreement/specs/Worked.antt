@@ -1,5 +1,5 @@
 -- A small code of which a loop may not be seen, and views of it.
-use Rattle.std.specs.Prelude.{ℕ, ◌==◌, if◌then◌else◌, nat_lt, false, ℤ, pos, List, [], ◌∷◌, Option, Some, None}
+use Rattle.std.specs.Prelude.{ℕ, ◌==◌, if◌then◌else◌, nat_lt, false, ℤ, pos, List, [], ◌∷◌, Option, Some, None, codes}
 use Rattle.js_base.specs.declared.ids.VarId.{VarId}
 use Rattle.label_lattice.specs.declared.label.Label.{Label}
 use Rattle.ics_stack.specs.declared.stack.StackEntry.{StackEntry}
@@ -71,6 +71,18 @@ popped_at place =
 
 abbrev pub a_variable : VarId
 a_variable = record { 0 = 0 }
+
+abbrev pub other_variable : VarId
+other_variable = record { 0 = 1 }
+
+-- of two variables the first may not be seen, and the other may
+abbrev pub riding_eyes : Eyes
+riding_eyes = record small_eyes {
+  code = record small {
+    labels = guarding ∷ outer ∷ [];
+    variables = record { name = codes "main.x"; label = 0 } ∷ record { name = codes "main.y"; label = 1 } ∷ [];
+  };
+}
 
 -- ---- turns
 

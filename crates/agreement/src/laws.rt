@@ -40,7 +40,7 @@ ghost use Rattle.agreement.specs.Alike.{AreStartsAlike};
 ghost use Rattle.agreement.specs.Asking.{AsksElsewhere, RunsAsking, carried_index, carried_asking, asked, SeenAsking};
 ghost use Rattle.agreement.specs.AskingExamples.{other_frame, other_token, asked_for};
 ghost use Rattle.agreement.specs.Comes.{Comes, HasCome};
-ghost use Rattle.agreement.specs.Handing.{handed, RunsHanding, SeenHanding, sent_view};
+ghost use Rattle.agreement.specs.Handing.{handed, RunsHanding, shown_variables, SeenHanding, sent_view};
 ghost use Rattle.agreement.specs.Leads.{Link, links_on, hidden_waiting, Leads, Agree};
 ghost use Rattle.agreement.specs.Turns.{ChangesAlone, RunsAlone, Carried, carried_value, carried_in};
 ghost use Rattle.agreement.specs.Turns.{SeenOperation, SeenTurn};
@@ -49,7 +49,7 @@ ghost use Rattle.agreement.specs.Views.{View, HostView, ShowsHost, Shows, runnin
 ghost use Rattle.agreement.specs.Views.{Completed, at, owed_at};
 ghost use Rattle.agreement.specs.Views.{flies_open, flights_view, message_view, is_shown, exit_of};
 ghost use Rattle.agreement.specs.Worked.{small_eyes, one_entry, popped_at, a_variable, idle, runs_at, set_at};
-ghost use Rattle.agreement.specs.Worked.{came_to, seven};
+ghost use Rattle.agreement.specs.Worked.{came_to, seven, other_variable, riding_eyes};
 
 /// What may be seen of a world, where something goes on unseen.
 pub fn view_laws()
@@ -314,6 +314,11 @@ pub fn worked_laws()
     ensures masked_value { message_view small_eyes (host_id 0) (host_id 1) (message.Forward first_request main_frame
         a_variable (pos 7))
         ≡ message.Forward first_request main_frame a_variable (pos 0) }
+    // Of values that ride those are not seen whose variables may not be, wherever they stand in the message.
+    ensures masked_riders { message_view riding_eyes (host_id 0) (host_id 1) (message.RgotoWith main_frame (entry_id 1)
+        second_token ((a_variable, pos 7) ∷ (other_variable, pos 8) ∷ (a_variable, pos 9) ∷ []))
+        ≡ message.RgotoWith main_frame (entry_id 1) second_token
+        ((a_variable, pos 0) ∷ (other_variable, pos 8) ∷ (a_variable, pos 0) ∷ []) }
     // A turn that sets a variable makes it this value and no other, and its thread goes on behind it.
     ensures sets { SeenOperation small_eyes idle (host_id 0) (runs_at 3) second_token (op.Let a_variable seven)
         (carried_value (pos 7)) (set_at 4 (pos 7)) }
@@ -331,9 +336,25 @@ pub fn worked_laws()
     ensures own_call { ChangesAlone small (host_id 0) None (op.Call (entry_id 1) (host_id 0)) }
     ensures other_call { ¬ (ChangesAlone small (host_id 0) None (op.Call (entry_id 1) (host_id 1))) }
     // Control is handed over to another host alone.
-    ensures goes { handed (host_id 0) (runs_at 3) second_token (op.Go (entry_id 1) (host_id 1))
+    ensures goes { (variables : FrameId → VarId → ℤ) →
+        handed variables (host_id 0) (runs_at 3) second_token (op.Go (entry_id 1) (host_id 1))
         ≡ Some (host_id 1, message.Rgoto main_frame (entry_id 1) second_token) }
-    ensures stays_here { handed (host_id 0) (runs_at 3) second_token (op.Call (entry_id 1) (host_id 0)) ≡ None }
+    ensures stays_here { (variables : FrameId → VarId → ℤ) →
+        handed variables (host_id 0) (runs_at 3) second_token (op.Call (entry_id 1) (host_id 0)) ≡ None }
+    // Values that ride with it are those of the thread's frame, and with a call those of the new frame.
+    ensures goes_with { handed (λ frame x. pos frame.count) (host_id 0)
+        (record (runs_at 3) { new_frame = other_frame }) second_token
+        (op.GoWith (entry_id 1) (host_id 1) (a_variable ∷ []))
+        ≡ Some (host_id 1, message.RgotoWith main_frame (entry_id 1) second_token ((a_variable, pos 0) ∷ [])) }
+    ensures calls_with { handed (λ frame x. pos frame.count) (host_id 0)
+        (record (runs_at 3) { new_frame = other_frame }) second_token
+        (op.CallWith (entry_id 1) (host_id 1) (a_variable ∷ []))
+        ≡ Some (host_id 1, message.RgotoWith other_frame (entry_id 1) second_token ((a_variable, pos 5) ∷ [])) }
+    // Of what rides the value is not seen of a variable that may not be, and that of another is.
+    ensures unseen_rider { (view : HostView) (frame : FrameId) →
+        shown_variables riding_eyes view frame a_variable ≡ pos 0 }
+    ensures seen_rider { (view : HostView) (frame : FrameId) →
+        shown_variables riding_eyes view frame other_variable ≡ view.variables frame other_variable }
     // What is handed over is told to a misbehaving host, and in flight to another.
     ensures told { (flight : Flight) → (sent_view idle (host_id 0) (host_id 1) flight true).sent
         ≡ (host_id 0, host_id 1, flight.message) ∷ [] }

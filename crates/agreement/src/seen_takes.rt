@@ -14,13 +14,13 @@ ghost use Rattle.net_world.specs.Fits.{HasOwnToken};
 ghost use Rattle.net_world.specs.Secret.{IsQuiet};
 ghost use Rattle.net_world.specs.World.{WorldShape, world_at_start, IsStep};
 ghost use Rattle.token_laws.specs.Reached.{IsReached};
-ghost use Rattle.token_laws.specs.TokenExamples.{host_id, a_field, first_request, first_token, second_token};
+ghost use Rattle.token_laws.specs.TokenExamples.{host_id, entry_id, a_field, first_request, first_token, second_token};
 ghost use Rattle.seen_world.specs.Eyes.{Eyes, AreEyes, Watches};
 ghost use Rattle.agreement.specs.Leads.{Leads, Agree};
 ghost use Rattle.agreement.specs.Taken.{carried_taken, view_without, SeenPassing, SeenMessage, SeenTake, SeenAct};
 ghost use Rattle.agreement.specs.TakenExamples.{an_ack, waits_seen, woken_on, set_for};
 ghost use Rattle.agreement.specs.Views.{View};
-ghost use Rattle.agreement.specs.Worked.{small_eyes, one_entry, popped_at, a_variable, idle};
+ghost use Rattle.agreement.specs.Worked.{small_eyes, one_entry, popped_at, a_variable, idle, set_at};
 
 /// What is seen of a message that a host takes in a quiet world, where all that is in flight may be seen.
 pub fn taken_laws()
@@ -112,6 +112,16 @@ pub fn taken_examples()
     ensures sets_more { ¬ (SeenPassing small_eyes idle (host_id 1) (host_id 0) 0
         (message.Forward first_request main_frame a_variable (pos 7)) (pos 0) (set_for (pos 8))) }
     ensures answered { (set_for (pos 7)).flying (host_id 0) (host_id 1) ≡ an_ack ∷ [] }
+    // A thread that starts finds the value that rode with it, and of two values for one variable the last.
+    ensures rides { SeenPassing small_eyes idle (host_id 1) (host_id 0) 0
+        (message.RgotoWith main_frame (entry_id 2) second_token ((a_variable, pos 7) ∷ [])) (pos 0)
+        (set_at 3 (pos 7)) }
+    ensures rides_more { ¬ (SeenPassing small_eyes idle (host_id 1) (host_id 0) 0
+        (message.RgotoWith main_frame (entry_id 2) second_token ((a_variable, pos 7) ∷ [])) (pos 0)
+        (set_at 3 (pos 8))) }
+    ensures rides_first { ¬ (SeenPassing small_eyes idle (host_id 1) (host_id 0) 0
+        (message.RgotoWith main_frame (entry_id 2) second_token ((a_variable, pos 7) ∷ (a_variable, pos 8) ∷ []))
+        (pos 0) (set_at 3 (pos 7))) }
     // An element that may not be seen is not carried.
     ensures unseen_element { (state : host_state.HostShape) (index : ℤ) →
         carried_taken small_eyes state (host_id 0) (message.Get first_request a_field index) ≡ pos 0 }

@@ -1,7 +1,7 @@
 //! Events and settings are printed as scripts say them.
 
 use crate::read_code::read_code;
-use event_text::{Script, event_line, read_events, read_values, setting_line};
+use event_text::{EventsError, Script, event_line, read_events, read_values, setting_line};
 use host_code::{Code, CodeField};
 use std::alloc::Global;
 use std::test::Fail;
@@ -18,6 +18,9 @@ const EVENTS: &str = "\
     act A B sync 0.18446744073709551615 0.0 e5 #0\n\
     act A B rgoto 0.0 e3 #0\n\
     act B A rgoto 0.0 e2 own:B:0.0:e0:0\n\
+    act A B rgoto 0.0 e3 #0 with main.v 9\n\
+    act B A rgoto 0.0 e2 own:B:0.0:e0:0 with main.v -9223372036854775808 main.v 0\n\
+    act A B rgoto 7.1 e2 #2 with main.v 1 main.v 2 main.v 3 main.v 4 main.v 5 main.v 6 main.v 7 main.v 8\n\
     act A B lgoto #0\n\
     act A B lgoto #3\n\
     act B A lgoto own:A:4.3:e4294967295:18446744073709551615\n\
@@ -82,5 +85,29 @@ fn settings_are_printed_as_they_are_set(rt: HostRuntime) -> Result<(), Fail> {
         add_settings(alloc, &mut lines, field, row.elements())?;
     }
     assert_eq!(rt; lines.as_str(), SETTINGS);
+    Ok(())
+}
+
+/// What stands behind the token of an `rgoto` and is no list of 1 to 8 variables with values.
+const NO_RIDERS: &str = "\
+    with\n\
+    with main.v\n\
+    with main.v 1 main.v\n\
+    with 1 main.v\n\
+    with main.w 1\n\
+    with main.v 01\n\
+    with main.v 9223372036854775808\n\
+    and main.v 1\n\
+    with main.v 1 main.v 2 main.v 3 main.v 4 main.v 5 main.v 6 main.v 7 main.v 8 main.v 9";
+
+#[test]
+fn no_riders_have_no_form(rt: HostRuntime) -> Result<(), Fail> {
+    let alloc = rt.alloc();
+    let code = read_code(&rt, alloc)?;
+    for behind in NO_RIDERS.lines() {
+        let text = format!(in alloc; "bad A\nact A B rgoto 0.0 e3 #0 {behind}\n")?;
+        let found = read_events(alloc, &code, text.as_str().as_bytes()).err();
+        assert_eq!(rt; found, Some(EventsError::BadLine(2)), "{behind}");
+    }
     Ok(())
 }

@@ -16,6 +16,7 @@ const TABLES: &str = "\
     BadVersion | 8 1 | version\n\
     BadVersion | 9 3 | version\n\
     BadVersion | 9 0 | version\n\
+    BadField(8) | 9 2 | version\n\
     BadField(10) | 10 1 | hosts\n\
     BadField(10) | 13 0 | hosts\n\
     Short | 13 1 | hosts\n\
@@ -146,6 +147,9 @@ const PAIRS: &str = "\
     BadField(2237) | 2241 2, 2237 1 | main, root\n\
     BadField(2541) | 2549 9, 2544 2 | i14 op, i14\n\
     BadMagic | 9 2, 0 0 | version, magic\n\
+    BadField(8) | 9 2, 2185 15 | version, e1 at\n\
+    Trailing | 9 2, 2558 0 | version, B\n\
+    BadField(2255) | 9 2, 2254 15 | version, i0 op\n\
     BadVersion | 13 0, 9 9 | hosts, version";
 
 /// What a file is refused for, or `read`.
@@ -158,7 +162,7 @@ fn outcome(rt: &impl Abort, alloc: Global, bytes: &[u8]) -> Result<String, Fail>
 }
 
 /// The bytes have this outcome.
-fn have_outcome(
+pub fn have_outcome(
     rt: &impl Abort,
     alloc: Global,
     bytes: &[u8],
@@ -176,9 +180,8 @@ fn change(bytes: &mut [u8], said: &str) -> Result<(), Fail> {
     put(bytes, place.parse::<usize>()?, byte.parse::<u8>()?)
 }
 
-/// The whole file with the changes.
-fn changed_file(alloc: Global, changes: &str) -> Result<Vec<u8>, Fail> {
-    let mut bytes = whole_file(alloc)?;
+/// The bytes with the changes.
+pub fn changed(mut bytes: Vec<u8>, changes: &str) -> Result<Vec<u8>, Fail> {
     for said in changes.split(", ") {
         change(&mut bytes, said)?;
     }
@@ -189,7 +192,7 @@ fn changed_file(alloc: Global, changes: &str) -> Result<Vec<u8>, Fail> {
 fn have_outcomes(rt: &impl Abort, alloc: Global, rows: &str) -> Result<(), Fail> {
     for row in rows.lines() {
         let (wanted, changes, _changed) = columns(row);
-        let bytes = changed_file(alloc, changes)?;
+        let bytes = changed(whole_file(alloc)?, changes)?;
         have_outcome(rt, alloc, &bytes, wanted, row)?;
     }
     Ok(())

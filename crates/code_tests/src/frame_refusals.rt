@@ -2,6 +2,7 @@
 
 use crate::frame_samples::{FRAMES, frame_bytes};
 use crate::tables::{bytes, columns, put};
+use host_code::Message;
 use std::alloc::{AllocError, Global};
 use std::process::Abort;
 use std::test::Fail;
@@ -33,12 +34,13 @@ const SMALL: &str = "\
     BadField | 0 0 0 2 16 10 0 | and with a byte behind the frame\n\
     BadField | 0 0 0 3 16 10 0 | and with a byte too many\n\
     BadKind | 0 0 0 2 15 0 | before the first kind\n\
-    BadKind | 0 0 0 2 15 11 | behind the last\n\
+    BadKind | 0 0 0 2 15 12 | behind the last\n\
     BadKind | 0 0 0 2 15 255 | the last byte\n\
-    BadKind | 0 0 0 3 15 11 0 | and with a byte too many\n\
-    BadKind | 0 0 0 2 15 11 0 | and with a byte behind the frame\n\
+    BadKind | 0 0 0 3 15 12 0 | and with a byte too many\n\
+    BadKind | 0 0 0 2 15 12 0 | and with a byte behind the frame\n\
     Short | 0 0 0 2 15 1 | a get without fields\n\
     Short | 0 0 0 2 15 9 | a token without fields\n\
+    Short | 0 0 0 2 15 11 | an rgoto with riders, without fields\n\
     Short | 0 0 0 2 15 8 0 0 0 0 0 0 0 0 0 0 0 0 | an ack, all fields behind it\n\
     Trailing | 0 0 0 3 15 10 0 | done, with a byte too many\n\
     Trailing | 0 0 0 2 15 10 0 | done, with a byte behind the frame\n\
@@ -53,6 +55,8 @@ const TOKEN_HOSTS: &str = "\
 
 /// Why bytes are refused, or that they are a frame.
 fn refusal(alloc: Global, bytes: &[u8]) -> Result<String, AllocError> {
+    // The kit's borrow checker has to be told of each type that a frame holds, so the function names one.
+    let _no_message: Option<Message> = None;
     match read(bytes).err() {
         None => format!(in alloc; "a frame"),
         Some(error) => format!(in alloc; "{error:?}"),
@@ -154,4 +158,64 @@ fn hosts_of_tokens(rt: HostRuntime) -> Result<(), Fail> {
         }
     }
     Ok(())
+}
+
+/// What stands behind the token of an `rgoto` with riders: the outcome where the token is of host 0, and where it is of
+/// host 16; the count and the pairs; and what is wrong with them.
+const RIDERS: &str = "\
+    a frame, BadField | 1 0 0 0 0 0 0 0 0 0 0 0 7 | nothing\n\
+    Short, Short |  | no count\n\
+    BadField, BadField | 0 | a count of 0\n\
+    BadField, BadField | 9 | a count of 9\n\
+    BadField, BadField | 255 | the greatest count\n\
+    BadField, BadField | 0 0 | a count of 0, and a byte behind it\n\
+    Short, BadField | 1 | no pair\n\
+    Short, BadField | 1 0 0 0 0 0 0 0 0 0 0 0 | part of a pair\n\
+    Short, BadField | 2 0 0 0 0 0 0 0 0 0 0 0 7 | one pair of two\n\
+    Trailing, BadField | 1 0 0 0 0 0 0 0 0 0 0 0 7 0 | a byte more\n\
+    a frame, BadField | 2 0 0 0 0 0 0 0 0 0 0 0 7 0 0 0 0 0 0 0 0 0 0 0 8 | a variable twice";
+
+/// The frame from host 0 of `rgoto 0.0 e2` with a token whose numbers are all 0 but for its host, and these bytes.
+fn riding(alloc: Global, host: u8, behind: &str) -> Result<Vec<u8>, Fail> {
+    let mut body = Vec::new(alloc);
+    body.extend_from_slice(&[0, 11])?;
+    body.resize(14, 0)?;
+    body.extend_from_slice(&[0, 0, 0, 2, host])?;
+    body.resize(59, 0)?;
+    body.extend_from_slice(bytes(alloc, behind)?.as_slice())?;
+    let mut frame = Vec::new(alloc);
+    frame.extend_from_slice(&[0, 0, 0, (body.len() % 256) as u8])?;
+    frame.extend_from_slice(body.as_slice())?;
+    Ok(frame)
+}
+
+#[test]
+fn riders(rt: HostRuntime) -> Result<(), Fail> {
+    for row in RIDERS.lines() {
+        let (outcomes, behind, why) = columns(row);
+        let (wanted, wanted_too) = outcomes.split_once(", ").unwrap_or((outcomes, ""));
+        is_refused(
+            &rt,
+            rt.alloc(),
+            &riding(rt.alloc(), 0, behind)?,
+            wanted,
+            why,
+        )?;
+        is_refused(
+            &rt,
+            rt.alloc(),
+            &riding(rt.alloc(), 16, behind)?,
+            wanted_too,
+            why,
+        )?;
+    }
+    Ok(())
+}
+
+/// An ack, and so many zeros behind it that its body is as long as a body may be.
+#[test]
+fn longest(rt: HostRuntime) -> Result<(), Fail> {
+    let mut frame = bytes(rt.alloc(), "0 0 16 0 1 8 0 0 0 1")?;
+    frame.resize(4100, 0)?;
+    is_refused(&rt, rt.alloc(), &frame, "Trailing", "4096 bytes")
 }

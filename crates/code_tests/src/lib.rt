@@ -21,6 +21,8 @@ mod frame_samples;
 #[cfg(test)]
 mod read_code;
 #[cfg(test)]
+mod riding_file;
+#[cfg(test)]
 mod stores;
 #[cfg(test)]
 mod tables;

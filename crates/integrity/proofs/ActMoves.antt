@@ -67,6 +67,7 @@ answer_open threat (message.Set request field index value) number is = absurd (c
 answer_open threat (message.Forward request frame x value) number is = absurd (cc)
 answer_open threat (message.Sync request frame entry token) number is = absurd (cc)
 answer_open threat (message.Rgoto frame entry token) number is = absurd (cc)
+answer_open threat (message.RgotoWith frame entry token riders) number is = absurd (cc)
 answer_open threat (message.Lgoto token) number is = tt
 answer_open threat (message.Value request value) number is = tt
 answer_open threat (message.Ack request) number is = tt
@@ -90,6 +91,9 @@ made_value tokens (bad.Sync other frame entry token) request value numbers is =
     (λ known same. cc) is)
 made_value tokens (bad.Rgoto frame entry token) request value numbers is =
     absurd (none_made (λ known. message.Rgoto frame entry known) (token_presented tokens token) _ (λ known same. cc) is)
+made_value tokens (bad.RgotoWith frame entry token riders) request value numbers is =
+    absurd (none_made (λ known. message.RgotoWith frame entry known riders) (token_presented tokens token) _
+    (λ known same. cc) is)
 made_value tokens (bad.Lgoto token) request value numbers is =
     absurd (none_made (λ known. message.Lgoto known) (token_presented tokens token) _ (λ known same. cc) is)
 made_value tokens (bad.Token other token) request value numbers is =
@@ -103,6 +107,7 @@ answer_numbers tokens made (message.Set other field index value) request numbers
 answer_numbers tokens made (message.Forward other frame x value) request numbers is number = absurd (cc)
 answer_numbers tokens made (message.Sync other frame entry token) request numbers is number = tt
 answer_numbers tokens made (message.Rgoto frame entry token) request numbers is number = tt
+answer_numbers tokens made (message.RgotoWith frame entry token riders) request numbers is number = absurd (cc)
 answer_numbers tokens made (message.Lgoto token) request numbers is number = tt
 answer_numbers tokens made (message.Value other value) request numbers is number =
     made_value tokens made other value numbers is
@@ -326,6 +331,7 @@ module _ (split : Split) (c : Configuration) (view : View) (host : HostId) (w : 
   takes (message.Forward request frame x value) is number numbers true check taken = absurd (cc)
   takes (message.Sync request frame entry token) is number numbers true check taken = absurd (cc)
   takes (message.Rgoto frame entry token) is number numbers true check taken = absurd (cc)
+  takes (message.RgotoWith frame entry token riders) is number numbers true check taken = absurd (cc)
   takes (message.Lgoto token) is number numbers true check taken = absurd (cc)
 
   pub acted_goes : Goes split c after ⊎ StandsBy split c view (stuck host w) after

@@ -1,6 +1,6 @@
 -- What obeying hosts have of a configuration where a misbehaving host is told to write a field or to set a variable:
 -- none of them has it.
-use Rattle.std.proofs.Common.{◌≡◌, ◌∙◌, ◌⊎◌, inl, inr, ℕ, ℤ, ◌<◌, ◌≤◌, Bool, true, List, [], ◌∷◌, length, Option}
+use Rattle.std.proofs.Common.{◌≡◌, ◌∙◌, ◌⊎◌, inl, inr, ℕ, ℤ, ◌<◌, ◌≤◌, Bool, true, List, [], length, Option}
 use Rattle.std.proofs.Common.{Some, refl, sym, ap, subst}
 use Rattle.std.specs.Prelude.{slice_get, unwrap_or, if◌then◌else◌, ◌==◌}
 use Rattle.std.proofs.lemmas.Bool.Decides.{eqb_tells}
@@ -10,21 +10,21 @@ use Rattle.js_base.specs.declared.ids.VarId.{VarId}
 use Rattle.jif_tree.specs.SourceRun as plain
 use Rattle.jif_tree.specs.SourceRun.{Configuration, calls_after}
 use Rattle.jif_tree.specs.Store.{row_of, store_after_write}
-use Rattle.jif_tree.specs.Trees.{BlockTree}
 use Rattle.host_code.specs.Code.{CodeFieldShape}
 use Rattle.host_core.specs.Host.{HostShape}
 use Rattle.msg_cost.specs.Terms.{reads_on}
 use Rattle.net_world.specs.World.{WorldShape, state_at, misbehaves}
 use Rattle.net_world.proofs.Fitting.{bad_differs}
 use Rattle.net_world.proofs.Present.{get_other}
-use Rattle.split_rules.specs.Positions.{Forward}
+use Rattle.split_rules.specs.Positions.{Forward, IsOut, without_forward}
 use Rattle.typed_steps.specs.Threads.{NoneKept}
 use Rattle.typed_steps.specs.Values.{AreRowsAlike}
-use Rattle.typed_steps.specs.Variables.{Agree, HaveFields, Holds, IsOut}
+use Rattle.typed_steps.specs.Variables.{HaveFields, Holds}
 use Rattle.typed_steps.specs.Requests.{IsFieldOn}
 use Rattle.typed_steps.specs.Views.{Split, View, values_set, with_out}
 use Rattle.typed_steps.proofs.Alike.{alike_on}
 use Rattle.typed_steps.proofs.Calls.{long_set, value_set, named_set}
+use Rattle.typed_steps.proofs.Holding.{out_without}
 
 -- ---- a field
 
@@ -79,20 +79,18 @@ holds_elsewhere split c now view world field to index value holds on bad store c
 -- ---- a variable
 
 -- what is still to be sent, but for what was sent to a misbehaving host
-out_elsewhere : (world : WorldShape) (x y : VarId) (to host : HostId) (state : HostShape) (source : BlockTree)
-    (left : List Forward) (A B : Type 0) → misbehaves world to ≡ true → state_at world host ≡ Some state →
-    (A × IsOut (record { variable = x; host = to; source = source } ∷ left) y host) ⊎ B →
-    (A × IsOut left y host) ⊎ B
-out_elsewhere world x y to host state source left A B bad there (inl (is, inl both)) =
-    absurd (bad_differs world to host state bad there both.1)
-out_elsewhere world x y to host state source left A B bad there (inl (is, inr later)) = inl (is, later)
-out_elsewhere world x y to host state source left A B bad there (inr alike) = inr alike
+out_elsewhere : (world : WorldShape) (x y : VarId) (to host : HostId) (state : HostShape) (out : List Forward)
+    (A B : Type 0) → misbehaves world to ≡ true → state_at world host ≡ Some state →
+    (A × IsOut out y host) ⊎ B → (A × IsOut (without_forward x to out) y host) ⊎ B
+out_elsewhere world x y to host state out A B bad there (inl (is, is_out)) =
+    inl (is, out_without x to y host out (λ var here. bad_differs world to host state bad there (sym here)) is_out)
+out_elsewhere world x y to host state out A B bad there (inr alike) = inr alike
 
 -- a misbehaving host was sent a variable
-pub holds_sent : (split : Split) (c : Configuration) (view : View) (left : List Forward) (world : WorldShape)
-    (to : HostId) (x : VarId) (source : BlockTree) → Holds split c view world → misbehaves world to ≡ true →
-    view.out ≡ record { variable = x; host = to; source = source } ∷ left → Holds split c (with_out view left) world
-holds_sent split c view left world to x source holds bad first = record {
+pub holds_sent : (split : Split) (c : Configuration) (view : View) (world : WorldShape) (to : HostId) (x : VarId) →
+    Holds split c view world → misbehaves world to ≡ true →
+    Holds split c (with_out view (without_forward x to view.out)) world
+holds_sent split c view world to x holds bad = record {
   fields = holds.fields;
   known = holds.known;
   apart = holds.apart;
@@ -100,9 +98,7 @@ holds_sent split c view left world to x source holds bad first = record {
   fresh = holds.fresh;
   valued = holds.valued;
   agree = λ call host state y made there reads.
-      out_elsewhere world x y to host state source left _ _ bad there
-      (subst (λ out. Agree split view.naming view.values out view.sender world) first holds.agree call host state y
-      made there reads);
+      out_elsewhere world x y to host state view.out _ _ bad there (holds.agree call host state y made there reads);
   result = holds.result;
 }
 

@@ -1,5 +1,5 @@
 -- What an instruction sends: a token goes to the host that it enters, or back to the host that the token names.
-use Rattle.std.proofs.Common.{◌≡◌, ◌∙◌, ◌⊎◌, inl, inr, Bool, true, false, List, Option, Some, None, refl}
+use Rattle.std.proofs.Common.{◌≡◌, ◌∙◌, ◌⊎◌, inl, inr, Bool, true, false, List, [], Option, Some, None, refl}
 use Rattle.std.proofs.Common.{sym, ap}
 use Rattle.std.specs.Prelude.{◌==◌, if◌then◌else◌, pos}
 use Rattle.std.specs.Ordering.{int_eq}
@@ -20,14 +20,30 @@ use Rattle.host_code.specs.Thread.{ThreadShape}
 use Rattle.host_core.specs.Host.{HostShape, Outcome, with_message, without_message}
 use Rattle.host_core.specs.Host.{value_in_thread}
 use Rattle.host_core.specs.Turn.{after_operation, after_read, after_put, after_own_push, after_ask, after_go}
-use Rattle.host_core.specs.Turn.{after_own_call, after_return, after_back}
+use Rattle.host_core.specs.Turn.{after_go_with, after_own_call, after_return, after_back}
 use Rattle.net_world.specs.Told.{token_in}
+use Rattle.split_rules.specs.Handing.{Arrival, arrival_in}
+
+-- a message that hands a thread over has its token
+pub arrival_token : (said : Message) (arrival : Arrival) → arrival_in said ≡ Some arrival →
+    token_in said ≡ Some arrival.token
+arrival_token (message.Rgoto frame entry token) arrival is =
+    let own : Arrival = record { frame = frame; entry = entry; token = token; riders = [] } in
+    let same : own ≡ arrival = cc in
+    ap (λ (a : Arrival). Some a.token) same
+arrival_token (message.RgotoWith frame entry token riders) arrival is =
+    let own : Arrival = record { frame = frame; entry = entry; token = token; riders = riders } in
+    let same : own ≡ arrival = cc in
+    ap (λ (a : Arrival). Some a.token) same
+arrival_token _ arrival is = absurd (cc)
 
 -- the host that an instruction hands control over to, or asks to push an entry
 abbrev pub entered_host : Op → Option HostId
 entered_host (op.Ask entry on) = Some on
 entered_host (op.Go entry on) = Some on
 entered_host (op.Call entry on) = Some on
+entered_host (op.GoWith entry on riders) = Some on
+entered_host (op.CallWith entry on riders) = Some on
 entered_host other = None
 
 -- A token goes to the host that the instruction enters, or back to its own host.
@@ -71,6 +87,12 @@ go_sends : (it : Op) (host : HostShape) (thread : ThreadShape) (frame : FrameId)
     (held : Option Token) → entered_host it ≡ Some on → Sends it (after_go host thread frame entry on held)
 go_sends it host thread frame entry on None enters = silent _ refl
 go_sends it host thread frame entry on (Some held) enters = sends _ on _ refl (λ token is. inl enters)
+
+go_with_sends : (it : Op) (host : HostShape) (thread : ThreadShape) (frame : FrameId) (entry : EntryId) (on : HostId)
+    (riders : List VarId) (held : Option Token) → entered_host it ≡ Some on →
+    Sends it (after_go_with host thread frame entry on riders held)
+go_with_sends it host thread frame entry on riders None enters = silent _ refl
+go_with_sends it host thread frame entry on riders (Some held) enters = sends _ on _ refl (λ token is. inl enters)
 
 own_call_sends : (it : Op) (host : HostShape) (thread : ThreadShape) (found : Option Entry) →
     Sends it (after_own_call host thread found)
@@ -117,3 +139,7 @@ operation_sends code bare thread op.Back passes = back_sends op.Back code bare t
 operation_sends code bare thread (op.Branch guard target) passes =
     either_sends (op.Branch guard target) (int_eq (value_in_thread bare thread guard) (pos 0)) _ _ (silent _ refl)
     (silent _ refl)
+operation_sends code bare thread (op.GoWith entry on riders) passes =
+    go_with_sends (op.GoWith entry on riders) bare thread thread.frame entry on riders thread.held refl
+operation_sends code bare thread (op.CallWith entry on riders) passes =
+    go_with_sends (op.CallWith entry on riders) bare thread thread.new_frame entry on riders thread.held refl

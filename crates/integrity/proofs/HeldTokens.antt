@@ -262,6 +262,9 @@ given_back world (bad.Sync request frame entry made) token own is =
 given_back world (bad.Rgoto frame entry made) token own is =
     absurd (not_mapped (λ known. message.Rgoto frame entry known) (token_presented (tokens_sent world) made) token
     (λ t same. cc) is)
+given_back world (bad.RgotoWith frame entry made riders) token own is =
+    absurd (not_mapped (λ known. message.RgotoWith frame entry known riders)
+    (token_presented (tokens_sent world) made) token (λ t same. cc) is)
 given_back world (bad.Lgoto made) token own is =
     own_or_sent world made token own (mapped (token_presented (tokens_sent world) made) token is)
 given_back world (bad.Value request value) token own is = absurd (cc)

@@ -31,7 +31,9 @@ use Rattle.jif_tree.specs.Altered.{Exposure, FieldIsAffected, StatementIsAffecte
 use Rattle.jif_tree.specs.SourceRun.{Configuration}
 use Rattle.need_labels.proofs.Somewhere.{any_here, any_first, any_none}
 use Rattle.msg_cost.specs.Moves.{PlannedShape, is_trusted_by}
+use Rattle.capability.specs.declared.token.Token.{Token}
 use Rattle.host_code.specs.declared.message.Message.TheVariants as message
+use Rattle.host_code.specs.Riders.{Rider}
 use Rattle.host_code.specs.Code.{halt}
 use Rattle.host_code.specs.Thread.{WaitingShape}
 use Rattle.host_code.specs.Thread.Awaited.{acknowledgement}
@@ -121,6 +123,18 @@ enters = (
 
 pub halt_denied : (threat : Threat) → ¬ EntryIsOpen threat halt
 halt_denied threat may = may.0 refl
+
+pub riding_denied : (frame : FrameId) (token : Token) (value : ℤ) (others : List Rider) →
+    ¬ MessageIsOpen (sent_threat 2) (message.RgotoWith frame (entry_id 2) token ((var_id 0, value) ∷ others))
+riding_denied frame token value others may = denied_variable may.1.0
+
+pub riding_behind_denied : (frame : FrameId) (token : Token) (value : ℤ) (first : Rider) (others : List Rider) →
+    ¬ MessageIsOpen (sent_threat 2) (message.RgotoWith frame (entry_id 2) token (first ∷ (var_id 0, value) ∷ others))
+riding_behind_denied frame token value first others may = denied_variable may.1.1.0
+
+pub riding_entry_denied : (frame : FrameId) (token : Token) (riders : List Rider) →
+    ¬ MessageIsOpen (sent_threat 2) (message.RgotoWith frame (entry_id 1) token riders)
+riding_entry_denied frame token riders may = main_denied may.0
 
 -- ---- a world
 

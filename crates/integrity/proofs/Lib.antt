@@ -1,4 +1,5 @@
 pub mod OpenSteps
+pub mod OpenTakes
 pub mod OpenWorlds
 pub mod OutsideLaws
 pub mod Starts

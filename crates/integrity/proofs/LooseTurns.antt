@@ -10,6 +10,7 @@ use Rattle.std.proofs.lemmas.List.Elements.{All-push}
 use Rattle.js_base.specs.declared.ids.EntryId.{EntryId}
 use Rattle.js_base.specs.declared.ids.HostId.{HostId}
 use Rattle.js_base.specs.declared.ids.StmtId.{StmtId}
+use Rattle.js_base.specs.declared.ids.VarId.{VarId}
 use Rattle.label_lattice.specs.declared.label.Label.{Label}
 use Rattle.label_lattice.specs.Label.{IsTrustedBy}
 use Rattle.jif_tree.specs.SourceRun.{Configuration}
@@ -29,8 +30,8 @@ use Rattle.host_code.specs.Thread.{ThreadShape, WaitingShape}
 use Rattle.host_code.specs.Thread.Awaited.{token_of_entry}
 use Rattle.host_core.specs.Host.{HostShape, Outcome, with_message, with_running, with_token}
 use Rattle.host_core.specs.Host.{after_step, after_asking, next_request}
-use Rattle.host_core.specs.Turn.{after_operation, after_ask, after_go, after_own_call, label_of_turn, IsTurnOf}
-use Rattle.host_core.specs.Turn.{IsRunning}
+use Rattle.host_core.specs.Turn.{after_operation, after_ask, after_go, after_go_with, after_own_call, riders_of}
+use Rattle.host_core.specs.Turn.{label_of_turn, IsTurnOf, IsRunning}
 use Rattle.entry_check.specs.Checks.{label_of_host}
 use Rattle.event_text.specs.declared.event.Event.{Event}
 use Rattle.msg_cost.specs.Moves.{is_trusted_for}
@@ -44,9 +45,10 @@ use Rattle.split_rules.specs.Placed.{PlacedProgram}
 use Rattle.split_rules.specs.Opening.{IsOpenTo, MayRun, MayRunAll}
 use Rattle.split_rules.specs.Allowed.{IsAllowed}
 use Rattle.split_rules.specs.Held.{IsHeld}
-use Rattle.split_rules.specs.Positions.{Position, Calling, entering, calm, statement_due, Entrance}
+use Rattle.split_rules.specs.Positions.{Position, Calling, entering, calm, under, statement_due, Entrance, Forward}
+use Rattle.split_rules.specs.Positions.{with_forwards}
 use Rattle.split_rules.specs.Splittable.{IsSplittable}
-use Rattle.split_rules.specs.Typing.{EntryIs, AreDueOn, Cuts, Enters}
+use Rattle.split_rules.specs.Typing.{EntryIs, AreDueOn, Cuts, EntersWith}
 use Rattle.split_rules.specs.TypedCode.{IsTypedOp}
 use Rattle.split_rules.proofs.TypedSplit.{same_there}
 use Rattle.token_laws.specs.Holders.{IsSent, kept_on}
@@ -56,18 +58,19 @@ use Rattle.typed_steps.specs.Chains.{chain_due}
 use Rattle.typed_steps.specs.Threads.{IsAt, IsCalling}
 use Rattle.typed_steps.specs.Turns as turns
 use Rattle.typed_steps.specs.Turns.{waiting_for}
-use Rattle.typed_steps.specs.Views.{Split, View, entries_of, place_of}
+use Rattle.typed_steps.specs.Views.{Split, View, entries_of, place_of, with_out}
 use Rattle.typed_steps.proofs.Basics.{all_left}
-use Rattle.typed_steps.proofs.HeldSteps.{holds_same}
+use Rattle.typed_steps.proofs.CallsMade.{enters_bare}
+use Rattle.typed_steps.proofs.HeldSteps.{holds_same, holds_told}
 use Rattle.typed_steps.proofs.Holding.{host_within}
-use Rattle.typed_steps.proofs.Transfers.{calm_calling}
+use Rattle.typed_steps.proofs.Transfers.{calm_calling, none_rides}
 use Rattle.integrity.specs.Holding.{IsAmong, runs, lost, halted, first_of, OwnsWaiting}
 use Rattle.integrity.specs.Holding.{AreLinked, StateIsOutside, FlightIsOutside, IsStanding, IsOutsideBut}
 use Rattle.integrity.specs.Loose.{AreUnsentBelow, Loosens}
 use Rattle.integrity.specs.Outside.{Threat, threat_of, PlaceIsOpen, ThreadIsOpen, EntryIsOpen}
 use Rattle.integrity.specs.Standing.{threat_in, StandsBy, Goes, Stalls}
 use Rattle.integrity.proofs.Among.{all_among}
-use Rattle.integrity.proofs.Entering.{entered_host, Sends, silent, sends, operation_sends}
+use Rattle.integrity.proofs.Entering.{arrival_token, entered_host, Sends, silent, sends, operation_sends}
 use Rattle.integrity.proofs.HeldTokens.{StandsThere, later_held}
 use Rattle.integrity.proofs.HolderLaws.{turn_of, holder_turned}
 use Rattle.integrity.proofs.HolderStays.{on_some, unsent_held}
@@ -113,7 +116,8 @@ module _ (split : Split) (on : HostId) (position : Position) (need : ℕ) where
 
 -- ---- what the turn leaves
 
--- What a turn leaves that hands a host a token: it is trusted for all that is due, and nothing is still to be sent.
+-- What a turn leaves that hands a host a token: the host is trusted for all that is due, and all that is still to be
+-- sent goes to it.
 record HandsToken (split : Split) (c : Configuration) (view : View) (host : HostId) (old : HostShape)
     (thread : ThreadShape) (to : HostId) (m : Message) (outcome : Outcome) : Type 0 where
   new : HostShape
@@ -128,30 +132,30 @@ record HandsToken (split : Split) (c : Configuration) (view : View) (host : Host
   waiting : All (λ w. ThreadIsOpen (threat_in split) host w.thread) old.waiting →
       All (λ w. ThreadIsOpen (threat_in split) host w.thread) new.waiting
   due : AreDueOn split.planned to (place_of split host thread.at).due
-  none_out : view.out ≡ []
+  gone : AllByRecursion (λ forward. forward.host ≡ to) view.out
   count : view.naming.count ≡ length c.calls
 
--- what is known of a call that enters a method
+-- what is known of a thread that goes to a host
 record Called (split : Split) (c : Configuration) (view : View) (on : HostId) (here : Position) : Type 0 where
   due : AreDueOn split.planned on here.due
-  none_out : here.forwards ≡ []
+  gone : AllByRecursion (λ forward. forward.host ≡ on) here.forwards
   count : view.naming.count ≡ length c.calls
 
 module _ (split : Split) (c : Configuration) (view : View) (host : HostId) (thread : ThreadShape)
     (at : IsAt split c view host thread) (on : HostId) (entry : EntryId) (is_entry : IsEntryOn split.code on entry)
   where
-    called : (calling : Calling) → (place_of split host thread.at).calling ≡ calling →
-        Enters split.planned split.table.entries (place_of split host thread.at) calling entry.0 →
+    called : (riders : List VarId) (calling : Calling) → (place_of split host thread.at).calling ≡ calling →
+        EntersWith split.planned split.table.entries (place_of split host thread.at) calling entry.0 riders on →
         Called split c view on (place_of split host thread.at)
-    called (entering (trees.call heading site method arguments into rest)) is law =
+    called riders (entering (trees.call heading site method arguments into rest)) is law =
         let here = place_of split host thread.at in
         record {
           due = entry_trusted split on (calm here.level here.due) _ entry is_entry law.4;
-          none_out = law.3;
+          gone = law.3.1;
           count = (subst (IsCalling split c view.naming view.values view.sender host thread.frame thread.new_frame
               at.call here.due) is at.calling).0;
         }
-    called _ is law = absurd law
+    called riders _ is law = absurd law
 
 module _ (split : Split) (c : Configuration) (view : View) (host : HostId) (thread : ThreadShape)
     (world after : WorldShape) (to : HostId) (m : Message) (t : Telling split c view host thread world after to m)
@@ -180,7 +184,7 @@ module _ (split : Split) (c : Configuration) (view : View) (host : HostId) (thre
       absurd (no_token _ same.1 refl)
   sent_top (turns.hands h) =
       let same = sent_is split c view host thread world after to m t _ _ _ h.is in
-      h.top ∙ ap token_in same.1 ∙ has
+      h.top ∙ sym (arrival_token h.said h.arrival h.arrives) ∙ ap token_in same.1 ∙ has
   sent_top (turns.returns r) =
       let same = sent_is split c view host thread world after to m t _ _ _ r.is in
       r.top ∙ ap token_in same.1 ∙ has
@@ -197,9 +201,9 @@ module _ (split : Split) (c : Configuration) (view : View) (host : HostId) (thre
   -- what is due behind an ask was due before it
   behind_ask : (entry : EntryId) → AreDueOn split.planned to (place_of split host thread.at).due →
       Cuts split.planned split.table.entries (place_of split host thread.at) entry.0
-      (place_of split host (suc thread.at)) →
+      (place_of split host (suc thread.at)) → (place_of split host thread.at).forwards ≡ [] →
       PlaceIsOpen (threat_in split) host (thread.at + 1)
-  behind_ask entry due law =
+  behind_ask entry due law none =
       let bad = t.lawful.bad to t.bad in
       let next = place_of split host (suc thread.at) in
       let may =
@@ -209,7 +213,8 @@ module _ (split : Split) (c : Configuration) (view : View) (host : HostId) (thre
       let same : suc thread.at ≡ thread.at + 1 = omega arith in
       subst (PlaceIsOpen (threat_in split) host) same
       (open_to (λ label. IsOpenTo split.planned label next) bad.label bad.among
-      (subst (IsOpenTo split.planned bad.label) (sym law.goes)
+      (subst (IsOpenTo split.planned bad.label)
+      (sym (law.goes ∙ ap (with_forwards (calm (under entry.0) next.due)) none))
       (record { due = may; sent = tt; calls = tt; params = tt })))
 
   -- the thread ends, and its token goes to the host
@@ -232,7 +237,8 @@ module _ (split : Split) (c : Configuration) (view : View) (host : HostId) (thre
         halted = refl;
         waiting = λ all. all;
         due = subst (λ h. AreDueOn split.planned h here.due) same.0 law.due;
-        none_out = sym t.stands.does.1.forwards ∙ law.none_out;
+        gone = subst (λ h. AllByRecursion (λ (forward : Forward). forward.host ≡ h) view.out) same.0
+            (subst (AllByRecursion (λ (forward : Forward). forward.host ≡ on)) t.stands.does.1.forwards law.gone);
         count = law.count;
       }
 
@@ -263,10 +269,10 @@ module _ (split : Split) (c : Configuration) (view : View) (host : HostId) (thre
         halted = refl;
         waiting = λ all.
             All-push (λ w. ThreadIsOpen (threat_in split) host w.thread) t.step.state.waiting _ all
-            (behind_ask entry due law.0);
+            (behind_ask entry due law.0 law.2);
         due = due;
-        none_out = sym at.forwards ∙ ap (λ (p : Position). p.forwards) law.0.is_calm;
-        count = (calm_calling split c view host thread at (ap (λ (p : Position). p.calling) law.0.is_calm)).0;
+        gone = (none_rides to view.out (sym at.forwards ∙ law.2)).1;
+        count = (calm_calling split c view host thread at law.0.idle.1).0;
       }
   by_operation count (op.Go entry on) passes law fits enters is held =
       let here = place_of split host thread.at in
@@ -275,7 +281,7 @@ module _ (split : Split) (c : Configuration) (view : View) (host : HostId) (thre
       sym (ap (after_go bare thread thread.frame entry on) held) ∙ is in
       ended on (message.Rgoto thread.frame entry token) one (record {
         due = entry_trusted split on here _ entry fits.0 law.1;
-        none_out = ap (λ (p : Position). p.forwards) law.0;
+        gone = (none_rides on here.forwards (ap (λ (p : Position). p.forwards) law.0)).1;
         count = (calm_calling split c view host thread at (ap (λ (p : Position). p.calling) law.0)).0;
       })
   by_operation count (op.Call entry on) passes law fits enters is held =
@@ -291,7 +297,21 @@ module _ (split : Split) (c : Configuration) (view : View) (host : HostId) (thre
       sym (ap (after_go bare thread thread.new_frame entry on) held)
       ∙ sym (ap (λ (b : Bool). if b then near else far) (ne_eqb on.0 bare.me.0 apart)) ∙ is in
       ended on (message.Rgoto thread.new_frame entry token) one
-      (called split c view host thread t.stands.does.1 on entry fits.0 (place_of split host thread.at).calling refl law)
+      (called split c view host thread t.stands.does.1 on entry fits.0 [] (place_of split host thread.at).calling refl
+      (enters_bare split (place_of split host thread.at) (place_of split host thread.at).calling entry.0 on law))
+  by_operation count (op.GoWith entry on riders) passes law fits enters is held =
+      let here = place_of split host thread.at in
+      let said = message.RgotoWith thread.frame entry token (riders_of bare thread.frame riders) in
+      ended on said (sym (ap (after_go_with bare thread thread.frame entry on riders) held) ∙ is) (record {
+        due = entry_trusted split on (calm here.level here.due) _ entry fits.0 law.2;
+        gone = law.1.1;
+        count = (calm_calling split c view host thread t.stands.does.1 law.0.1).0;
+      })
+  by_operation count (op.CallWith entry on riders) passes law fits enters is held =
+      let said = message.RgotoWith thread.new_frame entry token (riders_of bare thread.new_frame riders) in
+      ended on said (sym (ap (after_go_with bare thread thread.new_frame entry on riders) held) ∙ is)
+      (called split c view host thread t.stands.does.1 on entry fits.0 riders (place_of split host thread.at).calling
+      refl law)
   by_operation count _ passes law fits enters is held = (let never : None ≡ Some to = enters in absurd (cc))
 
   -- the instruction enters the host, which is not that of the token
@@ -407,18 +427,22 @@ module _ (split : Split) (c : Configuration) (view : View) (host : HostId) (thre
       let bad = t.lawful.bad to t.bad in
       let at = t.stands.does.1 in
       let due = (place_of split host thread.at).due in
+      let seen = with_out view [] in
+      let told =
+      holds_told split c view world to t.stands.holds (λ state there. bad_differs world to to state t.bad there refl)
+      hands.gone in
       let holds =
-      holds_same split c view world after host t.step.state hands.new world.flying t.stands.holds t.step.obeys moved
-      hands.rows hands.variables hands.frames in
+      holds_same split c seen world after host t.step.state hands.new world.flying told t.step.obeys moved hands.rows
+      hands.variables hands.frames in
       let out =
-      left_out split trusting bad.label bad.among view after c at.call due (chain_due split view.chain) at.left
+      left_out split trusting bad.label bad.among seen after c at.call due (chain_due split view.chain) at.left
       holds.result (all_run split trusting to bad.label bad.of_host due hands.due) in
       let there = all_among (StandsThere after) chain stands_there in
       record {
         now = out.now;
         more = out.more;
         altered = out.altered;
-        view = record view { keeper = out.keeper };
+        view = record seen { keeper = out.keeper };
         stands = record {
           loose = record {
             linked = t.stands.tight.linked;
@@ -428,9 +452,9 @@ module _ (split : Split) (c : Configuration) (view : View) (host : HostId) (thre
             outside = outside;
           };
           chain = t.stands.does.0;
-          holds = holds_left split c view after (chain_due split view.chain) holds out;
+          holds = holds_left split c seen after (chain_due split view.chain) holds out;
           gives_up = record {
-            none_out = hands.none_out;
+            none_out = refl;
             count = hands.count ∙ ap length (sym out.calls);
             left = out.left;
           };

@@ -1,10 +1,10 @@
--- What a step of one host leaves and sends that could be the doing of misbehaving hosts: nothing that they may not
+-- What a turn of one host leaves and sends that could be the doing of misbehaving hosts: nothing that they may not
 -- affect, and nothing that could not be their doing too.
-use Rattle.std.proofs.Common.{◌≡◌, ◌∙◌, ℕ, zero, suc, ◌+◌, inl, inr, ℤ, Bool, true, false, List, [], ◌∷◌}
+use Rattle.std.proofs.Common.{◌≡◌, ◌≢◌, ◌∙◌, ℕ, zero, suc, ◌+◌, inl, inr, ℤ, Bool, true, false, List, [], ◌∷◌}
 use Rattle.std.proofs.Common.{Option, Some, None, refl, sym, ap, subst, arith}
 use Rattle.std.specs.Prelude.{◌⊎◌, ◌==◌, if◌then◌else◌, slice_get, unwrap_or, All, Any, IfSome, IsSomeAnd}
 use Rattle.std.specs.Prelude.{IsTrue, ◌≤◌, length, slice_index, slice_set, ⊤}
-use Rattle.std.specs.Option.{option_map}
+use Rattle.std.specs.List.{AllByRecursion}
 use Rattle.std.proofs.lemmas.Bool.Decides.{eqb_tells, leb_tells}
 use Rattle.std.proofs.lemmas.Grind.{get_or-set_at}
 use Rattle.std.proofs.lemmas.List.{get_or_past, get_or-set_other}
@@ -28,26 +28,24 @@ use Rattle.host_code.specs.declared.instruction.Instr.{Instr}
 use Rattle.host_code.specs.declared.instruction.Op.{Op}
 use Rattle.host_code.specs.declared.instruction.Op.TheVariants as op
 use Rattle.host_code.specs.declared.message.Message.{Message}
-use Rattle.host_code.specs.declared.message.Message.TheVariants as message
+use Rattle.host_code.specs.Riders.{Rider}
 use Rattle.host_code.specs.Sound.{IsSoundCode, OperationFits, temporaries_at}
 use Rattle.host_code.specs.Thread.{ThreadShape, WaitingShape, Awaited}
 use Rattle.host_code.specs.Thread.Awaited.{value_of_field, acknowledgement, token_of_entry}
-use Rattle.host_code.specs.Code.{CodeFieldShape, CodeVariableShape, halt, field_at, variable_at, entry_at}
+use Rattle.host_code.specs.Code.{CodeFieldShape, halt, field_at, entry_at}
 use Rattle.host_code.specs.Code.{part_of, instruction_at}
 use Rattle.host_stores.specs.Stores.{is_same_variable}
-use Rattle.entry_check.specs.Checks.{MayAffect, MayEnter, IsTrustedFor, MaySee, label_at, label_of_host}
 use Rattle.host_core.specs.Fits.{StateFits, EntryFits, IsEntryOf}
-use Rattle.host_core.specs.Host.{HostShape, Outcome, with_running, with_one_ignored, with_token, with_temporary}
+use Rattle.host_core.specs.Host.{HostShape, Outcome, with_running, with_one_ignored}
 use Rattle.host_core.specs.Host.{after_pop, after_entering, after_asking, value_in_thread, without_message, thread_at}
-use Rattle.host_core.specs.Host.{with_row_written, with_variable_set, after_push, after_clearing}
-use Rattle.host_core.specs.Taking.{place_of_awaiting, IsTaking, Passes, after_taking, after_answer}
+use Rattle.host_core.specs.Host.{with_row_written, with_variable_set, with_variables_set, after_clearing}
 use Rattle.host_core.specs.Turn.{PassesWith, after_frame}
 use Rattle.host_core.specs.Turn.{IsTurn, IsTurnOf, IsRunning, after_operation, after_read, after_put, after_own_push}
-use Rattle.host_core.specs.Turn.{after_ask, after_go, after_own_call, after_return, after_back, with_thread}
+use Rattle.host_core.specs.Turn.{after_ask, after_go, after_go_with, riders_of, after_own_call, after_return}
+use Rattle.host_core.specs.Turn.{after_back, with_thread}
 use Rattle.host_core.proofs.Kept.{kept_at_rest}
 use Rattle.net_world.proofs.Present.{get_other, same_id}
 use Rattle.split_rules.specs.Opening.{IsOpenTo, IsOpenCode, OpensOp, MayChange, MayChangeField, HasNeed}
-use Rattle.token_laws.proofs.HostNumbers.{all_but}
 use Rattle.token_laws.proofs.Tests.{parts_same, number_same}
 use Rattle.integrity.specs.Exposed.{IsAsBefore}
 use Rattle.integrity.specs.Outside.{Threat, PlaceIsOpen, ThreadIsOpen, EntryIsOpen, MessageIsOpen}
@@ -76,7 +74,7 @@ some_affected : (o : Option Label) (bad : List Label) → Any (λ host. IsSomeAn
 some_affected None bad any = any.4
 some_affected (Some label) bad any = any
 
-field_affected : (threat : Threat) → IsKnown threat → (field : FieldId) →
+pub field_affected : (threat : Threat) → IsKnown threat → (field : FieldId) →
     Any (λ label. MayChangeField threat.code label field) threat.exposure.bad → FieldIsAffected threat.exposure field
 field_affected threat known field any =
     let there = slice_get threat.exposure.fields field.0 in
@@ -91,6 +89,20 @@ variable_affected threat known x any =
     some_affected there threat.exposure.bad
     (any_each (λ label. MayChange threat.code label x) (λ label. IsSomeAnd there (IntegFlows label))
     threat.exposure.bad (λ label. known.variables label x) any)
+
+-- each of several variables may be affected
+variables_affected : (threat : Threat) → IsKnown threat → (variables : List VarId) →
+    Any (λ label. AllByRecursion (MayChange threat.code label) variables) threat.exposure.bad →
+    AllByRecursion (VariableIsAffected threat.exposure) variables
+variables_affected threat known [] any = tt
+variables_affected threat known (x ∷ others) any =
+    let Changes : Label → Type 0 = λ label. AllByRecursion (MayChange threat.code label) (x ∷ others) in (
+      variable_affected threat known x
+          (any_each Changes (λ label. MayChange threat.code label x) threat.exposure.bad (λ label each. each.0) any),
+      variables_affected threat known others
+          (any_each Changes (λ label. AllByRecursion (MayChange threat.code label) others) threat.exposure.bad
+          (λ label each. each.1) any),
+    )
 
 -- ---- what a step leaves and sends
 
@@ -117,12 +129,12 @@ pub record LeavesOpen (threat : Threat) (kinds : Kinds threat) (old : HostShape)
   pub frames : FramesStay old outcome.state
   pub sent : IfSome outcome.sent (λ letter. MessageIsOpen threat letter.1)
 
-same_frames : (old new : HostShape) → new.frames ≡ old.frames → FramesStay old new
+pub same_frames : (old new : HostShape) → new.frames ≡ old.frames → FramesStay old new
 same_frames old new same site =
     let is = ap (λ (counts : List ℕ). slice_index counts site) same in
     omega (arith, is)
 
-as_before : (exposure : Exposure) (old new : HostShape) → new.rows ≡ old.rows → new.variables ≡ old.variables →
+pub as_before : (exposure : Exposure) (old new : HostShape) → new.rows ≡ old.rows → new.variables ≡ old.variables →
     IsAsBefore exposure old new
 as_before exposure old new rows variables = record {
   rows = λ field. inl (ap (λ (all : List (List ℤ)). row_of all field.0) rows);
@@ -150,7 +162,7 @@ from_same threat kinds old bare outcome rows variables frames part = record {
   sent = part.sent;
 }
 
-stands : (threat : Threat) (kinds : Kinds threat) (old new : HostShape) → new.rows ≡ old.rows →
+pub stands : (threat : Threat) (kinds : Kinds threat) (old new : HostShape) → new.rows ≡ old.rows →
     new.variables ≡ old.variables →
     new.frames ≡ old.frames → HasOpen threat kinds new → LeavesOpen threat kinds old (without_message new)
 stands threat kinds old new rows variables frames was = record {
@@ -206,7 +218,7 @@ written exposure rows to index value field affected = elim (eqb_tells field.0 to
       inl (ap (λ (o : Option (List ℤ)). unwrap_or o []) (get_other rows to.0 field.0 _ apart.1))
 ]
 
-writes : (exposure : Exposure) (host : HostShape) (field : FieldId) (index value : ℤ) →
+pub writes : (exposure : Exposure) (host : HostShape) (field : FieldId) (index value : ℤ) →
     FieldIsAffected exposure field → IsAsBefore exposure host (with_row_written host field index value)
 writes exposure host field index value affected = record {
   rows = λ other. written exposure host.rows field index value other affected;
@@ -217,7 +229,7 @@ set_if : (b : Bool) (value other : ℤ) (A : Type 0) → (b ≡ true → A) → 
 set_if true value other A also = inr (also refl)
 set_if false value other A also = inl refl
 
-sets : (exposure : Exposure) (host : HostShape) (frame : FrameId) (x : VarId) (value : ℤ) →
+pub sets : (exposure : Exposure) (host : HostShape) (frame : FrameId) (x : VarId) (value : ℤ) →
     VariableIsAffected exposure x → IsAsBefore exposure host (with_variable_set host frame x value)
 sets exposure host frame x value affected = record {
   rows = λ field. inl refl;
@@ -227,6 +239,30 @@ sets exposure host frame x value affected = record {
       subst (λ (n : ℕ). IsSomeAnd (slice_get exposure.variables n) (IsAffected exposure.bad))
       (number_same x.0 another.0 (parts_same _ _ is).1) affected);
 }
+
+-- what is as it was after each of two changes, or may be affected
+pub same_then : {X : Type 0} (first second third : X) (A : Type 0) → (second ≡ first) ⊎ A → (third ≡ second) ⊎ A →
+    (third ≡ first) ⊎ A
+same_then first second third A (inl is) (inl also) = inl (also ∙ is)
+same_then first second third A (inl is) (inr may) = inr may
+same_then first second third A (inr may) later = inr may
+
+-- what is open behind a change of a variable that may be affected is open with that change
+behind_set : (threat : Threat) (kinds : Kinds threat) (host : HostShape) (frame : FrameId) (x : VarId) (value : ℤ)
+    (outcome : Outcome) → VariableIsAffected threat.exposure x →
+    LeavesOpen threat kinds (with_variable_set host frame x value) outcome → LeavesOpen threat kinds host outcome
+behind_set threat kinds host frame x value outcome affected part =
+    let changed = sets threat.exposure host frame x value affected in
+    record {
+      state = part.state;
+      stays = record {
+        rows = part.stays.rows;
+        variables = λ other another.
+            same_then _ _ _ _ (changed.variables other another) (part.stays.variables other another);
+      };
+      frames = part.frames;
+      sent = part.sent;
+    }
 
 -- ---- entries
 
@@ -247,12 +283,12 @@ entered threat known me there (suc number) is may (Some entry) at on =
     (subst (λ (o : Option Entry). IsSomeAnd o (λ e. IsTrustedBy label e.need))
     (ap (slice_get threat.code.entries) is ∙ at) has))) may.1
 
-opened : (threat : Threat) → IsKnown threat → (me : HostId) (there : EntryId) → EntryIsOpen threat there →
+pub opened : (threat : Threat) → IsKnown threat → (me : HostId) (there : EntryId) → EntryIsOpen threat there →
     IsEntryOf threat.code me there → IfSome (entry_at threat.code there) (λ entry. PlaceIsOpen threat me entry.at)
 opened threat known me there may on =
     entered threat known me there there.0 refl may (entry_at threat.code there) refl on
 
-enters : (threat : Threat) (kinds : Kinds threat) (host : HostShape) (found : Option Entry) (frame : FrameId)
+pub enters : (threat : Threat) (kinds : Kinds threat) (host : HostShape) (found : Option Entry) (frame : FrameId)
     (token : Token) →
     HasOpen threat kinds host → IfSome found (λ entry. PlaceIsOpen threat host.me entry.at) →
     LeavesOpen threat kinds host (without_message (after_entering host found frame token))
@@ -262,6 +298,19 @@ enters threat kinds host (Some entry) frame token was at =
     let thread = thread_at entry frame token in
     stands threat kinds host (with_running host (Some thread)) refl refl refl (runs threat kinds host
     (Some thread) was at)
+
+-- it starts likewise where values ride for variables that may be affected
+pub enters_with : (threat : Threat) (kinds : Kinds threat) (host : HostShape) (found : Option Entry) (frame : FrameId)
+    (token : Token) (riders : List Rider) →
+    HasOpen threat kinds host → IfSome found (λ entry. PlaceIsOpen threat host.me entry.at) →
+    AllByRecursion (λ rider. VariableIsAffected threat.exposure rider.0) riders →
+    LeavesOpen threat kinds host
+    (without_message (after_entering (with_variables_set host frame riders) found frame token))
+enters_with threat kinds host found frame token [] was at may = enters threat kinds host found frame token was at
+enters_with threat kinds host found frame token (rider ∷ riders) was at may =
+    behind_set threat kinds host frame rider.0 rider.1 _ may.0
+    (enters_with threat kinds (with_variable_set host frame rider.0 rider.1) found frame token riders
+    (record { running = was.running; waiting = was.waiting; entries = was.entries }) at may.1)
 
 popped : (threat : Threat) (kinds : Kinds threat) (host : HostShape) (found : Option Entry) (frame : FrameId)
     (kept : Token) (halts : Bool) →
@@ -278,7 +327,7 @@ abbrev pub TopIsOpen : Threat → List StackEntry → Type 0
 TopIsOpen threat [] = ⊤
 TopIsOpen threat (top ∷ below) = EntryIsOpen threat top.entry
 
-pops : (threat : Threat) (kinds : Kinds threat) → IsKnown threat → (host : HostShape) (entries : List StackEntry) →
+pub pops : (threat : Threat) (kinds : Kinds threat) → IsKnown threat → (host : HostShape) (entries : List StackEntry) →
     HasOpen threat kinds host → All kinds.keeps entries → TopIsOpen threat entries →
     All (EntryFits threat.code host.me) entries →
     LeavesOpen threat kinds host (without_message (after_pop threat.code host entries))
@@ -425,6 +474,39 @@ goes threat kinds host thread frame there on (Some held) was here may = record {
   sent = may;
 }
 
+-- these values ride, each for its variable
+riders_affected : (exposure : Exposure) (host : HostShape) (frame : FrameId) (variables : List VarId) →
+    AllByRecursion (VariableIsAffected exposure) variables →
+    AllByRecursion (λ rider. VariableIsAffected exposure rider.0) (riders_of host frame variables)
+riders_affected exposure host frame [] may = tt
+riders_affected exposure host frame (x ∷ others) may = (may.0, riders_affected exposure host frame others may.1)
+
+goes_with : (threat : Threat) (kinds : Kinds threat) → IsKnown threat → (host : HostShape) (thread : ThreadShape)
+    (frame : FrameId) (there : EntryId) (on : HostId) (riders : List VarId)
+    (held : Option Token) → HasOpen threat kinds host → ThreadIsOpen threat host.me thread → there ≢ halt →
+    Any (λ label. HasNeed threat.code label there × AllByRecursion (MayChange threat.code label) riders)
+    threat.exposure.bad → LeavesOpen threat kinds host (after_go_with host thread frame there on riders held)
+goes_with threat kinds known host thread frame there on riders None was here not_halt law =
+    goes_on threat kinds host thread was here
+goes_with threat kinds known host thread frame there on riders (Some held) was here not_halt law =
+    let Opens : Label → Type 0 =
+    λ label. HasNeed threat.code label there × AllByRecursion (MayChange threat.code label) riders in
+    let Changes : Label → Type 0 = λ label. AllByRecursion (MayChange threat.code label) riders in
+    record {
+      state = runs threat kinds host None was tt;
+      stays = as_before threat.exposure host (with_running host None) refl refl;
+      frames = same_frames host (with_running host None) refl;
+      sent = (
+        (
+          not_halt,
+          any_each Opens (λ label. HasNeed threat.code label there) threat.exposure.bad (λ label one. one.0) law,
+        ),
+        riders_affected threat.exposure host frame riders
+            (variables_affected threat known riders
+            (any_each Opens Changes threat.exposure.bad (λ label one. one.1) law)),
+      );
+    }
+
 calls_own : (threat : Threat) (kinds : Kinds threat) (host : HostShape) (thread : ThreadShape) (found : Option Entry) →
     HasOpen threat kinds host → ThreadIsOpen threat host.me thread →
     IfSome found (λ entry. PlaceIsOpen threat host.me entry.at) →
@@ -568,6 +650,10 @@ operation threat kinds known host thread (op.Branch guard target) count passes w
     (λ label. IsOpenTo threat.planned label (threat.table.at host.me.0 target)) (λ label one. one.1) law))
     (goes_on threat kinds host _ was (behind threat host.me thread.at (op.Branch guard target)
     (λ label one. one.0) law))
+operation threat kinds known host thread (op.GoWith there on riders) count passes was here fits names check may law =
+    goes_with threat kinds known host thread thread.frame there on riders thread.held was here names.0.0 law
+operation threat kinds known host thread (op.CallWith there on riders) count passes was here fits names check may law =
+    goes_with threat kinds known host thread thread.new_frame there on riders thread.held was here names.0.0 law
 
 -- ---- a turn
 
@@ -609,148 +695,3 @@ pub open_turn : (threat : Threat) (kinds : Kinds threat) → IsKnown threat → 
     LeavesOpen threat kinds host outcome
 open_turn threat kinds known host outcome was fits may step =
     turn_of threat kinds known host host.running outcome was was.running fits may step
-
--- ---- a message
-
--- the thread is open that waits for an answer
-abbrev pub WakesOpen : Threat → HostShape → Option ℕ → Type 0
-WakesOpen threat host place = (at : ℕ) (waiting : WaitingShape) → place ≡ Some at →
-    slice_get host.waiting at ≡ Some waiting → ThreadIsOpen threat host.me waiting.thread
-
--- what a message asks for is open, and so is the entry or the thread that it starts
-abbrev pub DoesOpen : Threat → HostShape → HostId → Message → Type 0
-DoesOpen threat host from (message.Lgoto token) = TopIsOpen threat host.entries
-DoesOpen threat host from (message.Value request value) =
-    WakesOpen threat host (place_of_awaiting host value_of_field request from)
-DoesOpen threat host from (message.Ack request) =
-    WakesOpen threat host (place_of_awaiting host acknowledgement request from)
-DoesOpen threat host from (message.Token request token) =
-    WakesOpen threat host (place_of_awaiting host token_of_entry request from)
-DoesOpen threat host from m = MessageIsOpen threat m
-
-woken : (threat : Threat) (me : HostId) (there : Option WaitingShape) (answered : ThreadShape → ThreadShape) →
-    ((thread : ThreadShape) → ThreadIsOpen threat me thread → ThreadIsOpen threat me (answered thread)) →
-    ((waiting : WaitingShape) → there ≡ Some waiting → ThreadIsOpen threat me waiting.thread) →
-    IfSome (option_map (λ waiting. answered waiting.thread) there) (ThreadIsOpen threat me)
-woken threat me None answered keeps may = tt
-woken threat me (Some waiting) answered keeps may = keeps waiting.thread (may waiting refl)
-
-wakes : (threat : Threat) (kinds : Kinds threat) (host : HostShape) (place : Option ℕ)
-    (answered : ThreadShape → ThreadShape) → HasOpen threat kinds host → WakesOpen threat host place →
-    ((thread : ThreadShape) → ThreadIsOpen threat host.me thread → ThreadIsOpen threat host.me (answered thread)) →
-    LeavesOpen threat kinds host (without_message (after_answer host place answered))
-wakes threat kinds host None answered was may keeps = stands threat kinds host host refl refl refl was
-wakes threat kinds host (Some place) answered was may keeps =
-    stands threat kinds host (after_answer host (Some place) answered) refl refl refl (record {
-      running = woken threat host.me (slice_get host.waiting place) answered keeps (λ waiting. may place waiting refl);
-      waiting = all_but (kinds.waits host.me) host.waiting place was.waiting;
-      entries = was.entries;
-    })
-
-takes : (threat : Threat) (kinds : Kinds threat) → IsKnown threat →
-    (host : HostShape) (from : HostId) (m : Message) (passes : Bool) →
-    HasOpen threat kinds host → StateFits threat.code host → (IsTrue passes → Passes threat.code host from m) →
-    (Passes threat.code host from m → DoesOpen threat host from m) →
-    LeavesOpen threat kinds host (after_taking threat.code host from m passes)
-takes threat kinds known host from m false was fits check said =
-    stands threat kinds host (with_one_ignored host) refl refl refl
-    (record { running = was.running; waiting = was.waiting; entries = was.entries })
-takes threat kinds known host from (message.Get request field index) true was fits check said =
-    record {
-      state = was;
-      stays = as_before threat.exposure host host refl refl;
-      frames = same_frames host host refl;
-      sent = tt;
-    }
-takes threat kinds known host from (message.Set request field index value) true was fits check said = record {
-  state = record { running = was.running; waiting = was.waiting; entries = was.entries };
-  stays = writes threat.exposure host field index value (said (check refl));
-  frames = λ site. omega arith;
-  sent = tt;
-}
-takes threat kinds known host from (message.Forward request frame x value) true was fits check said = record {
-  state = record { running = was.running; waiting = was.waiting; entries = was.entries };
-  stays = sets threat.exposure host frame x value (said (check refl));
-  frames = λ site. omega arith;
-  sent = tt;
-}
-takes threat kinds known host from (message.Sync request frame there token) true was fits check said = record {
-  state = record {
-    running = was.running;
-    waiting = was.waiting;
-    entries = All-cons kinds.keeps _ _ (kinds.open_keeps _ (said (check refl))) was.entries;
-  };
-  stays = as_before threat.exposure host (after_push host there frame token) refl refl;
-  frames = same_frames host (after_push host there frame token) refl;
-  sent = tt;
-}
-takes threat kinds known host from (message.Rgoto frame there token) true was fits check said =
-    enters threat kinds host (entry_at threat.code there) frame token was
-    (opened threat known host.me there (said (check refl))
-    (some_each (λ (entry : Entry). (entry.host ≡ host.me)
-    × IsTrustedFor (label_of_host threat.code from) entry.need
-    × MaySee (label_at threat.code entry.label) (label_of_host threat.code from))
-    (λ entry. entry.host ≡ host.me) (entry_at threat.code there) (λ entry may. may.0) (check refl).1))
-takes threat kinds known host from (message.Lgoto token) true was fits check said =
-    pops threat kinds known host host.entries was was.entries (said (check refl)) fits.entries
-takes threat kinds known host from (message.Value request number) true was fits check said =
-    wakes threat kinds host _ (with_temporary number) was (said (check refl)) (λ thread may. may)
-takes threat kinds known host from (message.Ack request) true was fits check said =
-    wakes threat kinds host _ (λ thread. thread) was (said (check refl)) (λ thread may. may)
-takes threat kinds known host from (message.Token request token) true was fits check said =
-    wakes threat kinds host _ (with_token (Some token)) was (said (check refl)) (λ thread may. may)
-
--- a message is taken that is open where it passes its check
-pub open_taking : (threat : Threat) (kinds : Kinds threat) → IsKnown threat →
-    (host : HostShape) (from : HostId) (m : Message)
-    (outcome : Outcome) → HasOpen threat kinds host → StateFits threat.code host →
-    (Passes threat.code host from m → DoesOpen threat host from m) → IsTaking threat.code host from m outcome →
-    LeavesOpen threat kinds host outcome
-open_taking threat kinds known host from m outcome was fits said step =
-    subst (LeavesOpen threat kinds host) step.2 (takes threat kinds known host from m step.0 was fits step.1.0 said)
-
--- ---- what misbehaving hosts send
-
-enters_open : (threat : Threat) (me from : HostId) (label : Label) (there : EntryId) →
-    label_of_host threat.code from ≡ Some label → Any (λ other. other ≡ label) threat.exposure.bad →
-    MayEnter threat.code me there (label_of_host threat.code from) → EntryIsOpen threat there
-enters_open threat me from label there is among may = (
-  may.0,
-  any_each (λ other. other ≡ label) (λ other. HasNeed threat.code other there) threat.exposure.bad (λ other same.
-      some_each (λ (entry : Entry). (entry.host ≡ me) × IsTrustedFor (label_of_host threat.code from) entry.need
-      × MaySee (label_at threat.code entry.label) (label_of_host threat.code from))
-      (λ entry. IsTrustedBy other entry.need) (entry_at threat.code there)
-      (λ entry both. subst (λ o. IsTrustedFor o entry.need) (is ∙ ap Some (sym same)) both.1) may.1) among,
-)
-
--- what passes the check of a misbehaving host is open to it
-pub passes_open : (threat : Threat) → IsKnown threat → (host : HostShape) (from : HostId) (label : Label)
-    (m : Message) → label_of_host threat.code from ≡ Some label →
-    Any (λ other. other ≡ label) threat.exposure.bad → Passes threat.code host from m → MessageIsOpen threat m
-passes_open threat known host from label (message.Get request field index) is among may = tt
-passes_open threat known host from label (message.Set request field index value) is among may =
-    field_affected threat known field
-    (any_each (λ other. other ≡ label) (λ other. MayChangeField threat.code other field) threat.exposure.bad
-    (λ other same.
-    some_each (λ (there : CodeFieldShape). (there.host ≡ host.me)
-    × MayAffect (label_of_host threat.code from) (label_at threat.code there.label))
-    (λ there. MayAffect (Some other) (label_at threat.code there.label)) (field_at threat.code field)
-    (λ there both. subst (λ o. MayAffect o (label_at threat.code there.label)) (is ∙ ap Some (sym same)) both.1) may)
-    among)
-passes_open threat known host from label (message.Forward request frame x value) is among may =
-    variable_affected threat known x
-    (any_each (λ other. other ≡ label) (λ other. MayChange threat.code other x) threat.exposure.bad
-    (λ other same.
-    some_each (λ (there : CodeVariableShape). MayAffect (label_of_host threat.code from)
-    (label_at threat.code there.label))
-    (λ there. MayAffect (Some other) (label_at threat.code there.label)) (variable_at threat.code x)
-    (λ there one. subst (λ o. MayAffect o (label_at threat.code there.label)) (is ∙ ap Some (sym same)) one) may)
-    among)
-passes_open threat known host from label (message.Sync request frame there token) is among may =
-    enters_open threat host.me from label there is among may
-passes_open threat known host from label (message.Rgoto frame there token) is among may =
-    enters_open threat host.me from label there is among may
-passes_open threat known host from label (message.Lgoto token) is among may = tt
-passes_open threat known host from label (message.Value request number) is among may = tt
-passes_open threat known host from label (message.Ack request) is among may = tt
-passes_open threat known host from label (message.Token request token) is among may = tt

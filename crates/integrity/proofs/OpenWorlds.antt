@@ -1,6 +1,6 @@
 -- Every event keeps that all that goes on could be the doing of misbehaving hosts, and changes nothing that they may
 -- not affect.
-use Rattle.std.specs.Prelude.{◌==◌, ◌⊎◌, if◌then◌else◌, slice_get, slice_set, All, Any, IfSome, IsSomeAnd}
+use Rattle.std.specs.Prelude.{◌==◌, if◌then◌else◌, slice_get, slice_set, All, Any, IfSome, IsSomeAnd}
 use Rattle.std.specs.Option.{option_map}
 use Rattle.std.specs.Int.{bit_at}
 use Rattle.std.proofs.Common.{◌≡◌, ◌∙◌, ℕ, zero, suc, ◌+◌, inl, inr, ℤ, Bool, true, false, List, [], ◌∷◌, ◌++◌}
@@ -45,8 +45,8 @@ use Rattle.token_laws.proofs.Walks.{same_bad, fits_there, one_more}
 use Rattle.integrity.specs.Exposed.{IsAsBefore, AreAsBefore, bad_labels}
 use Rattle.integrity.specs.Outside.{ThreadIsOpen, EntryIsOpen}
 use Rattle.integrity.specs.Outside.{Threat, StateIsOpen, MessageIsOpen, IsOutside}
-use Rattle.integrity.proofs.OpenSteps.{IsKnown, Kinds, HasOpen, TopIsOpen, BacksOpen, WakesOpen, DoesOpen}
-use Rattle.integrity.proofs.OpenSteps.{open_turn, open_taking, passes_open}
+use Rattle.integrity.proofs.OpenSteps.{IsKnown, Kinds, HasOpen, TopIsOpen, BacksOpen, open_turn, same_then}
+use Rattle.integrity.proofs.OpenTakes.{WakesOpen, DoesOpen, open_taking, passes_open}
 
 -- ---- who misbehaves
 
@@ -128,12 +128,6 @@ before_itself : (exposure : Exposure) (world : WorldShape) → AreAsBefore expos
 before_itself exposure world host new at =
     subst (λ (o : Option HostShape). IsSomeAnd o (λ was. IsAsBefore exposure was new)) (sym at) (unchanged exposure new)
 
-same_then : {X : Type 0} (first second third : X) (A : Type 0) → (second ≡ first) ⊎ A → (third ≡ second) ⊎ A →
-    (third ≡ first) ⊎ A
-same_then first second third A (inl is) (inl also) = inl (also ∙ is)
-same_then first second third A (inl is) (inr may) = inr may
-same_then first second third A (inr may) later = inr may
-
 before_on : (exposure : Exposure) (new : HostShape) (middle first : Option HostShape) →
     IsSomeAnd middle (λ state. IsAsBefore exposure state new) →
     ((state : HostShape) → middle ≡ Some state → IsSomeAnd first (λ old. IsAsBefore exposure old state)) →
@@ -191,6 +185,7 @@ does_open threat state from (message.Set request field index value) was said = s
 does_open threat state from (message.Forward request frame x value) was said = said
 does_open threat state from (message.Sync request frame there token) was said = said
 does_open threat state from (message.Rgoto frame there token) was said = said
+does_open threat state from (message.RgotoWith frame there token riders) was said = said
 does_open threat state from (message.Lgoto token) was said = top_open threat state.entries was.entries
 does_open threat state from (message.Value request value) was said = wakes_open threat state _ was
 does_open threat state from (message.Ack request) was said = wakes_open threat state _ was

@@ -38,8 +38,8 @@ use Rattle.integrity.proofs.Among.{among_push, among_without, one_of_some, some_
 use Rattle.integrity.proofs.FliesOn.{FlyAs, flies_without, sends_on, all_without, all_sent}
 use Rattle.integrity.proofs.HeldTokens.{IsKeptBy, StandsThere, chain_kept, not_running, not_flying, given_back}
 use Rattle.integrity.proofs.HolderStays.{LeavesAlone}
-use Rattle.integrity.proofs.OpenSteps.{IsKnown, Kinds, HasOpen, LeavesOpen, FramesStay, TopIsOpen, BacksOpen, WakesOpen}
-use Rattle.integrity.proofs.OpenSteps.{DoesOpen, open_turn, open_taking, passes_open}
+use Rattle.integrity.proofs.OpenSteps.{IsKnown, Kinds, HasOpen, LeavesOpen, FramesStay, TopIsOpen, BacksOpen, open_turn}
+use Rattle.integrity.proofs.OpenTakes.{WakesOpen, DoesOpen, open_taking, passes_open}
 use Rattle.integrity.proofs.OpenWorlds.{state_fits}
 use Rattle.integrity.proofs.StackMoves as stacks
 use Rattle.integrity.proofs.StackMoves.{Restacks, RunsWith, RunsBack, GivesBack, restacks_by, back_restacks}
@@ -169,6 +169,7 @@ does_open threat state from (message.Set request field index value) said tops wo
 does_open threat state from (message.Forward request frame x value) said tops woken passes = said
 does_open threat state from (message.Sync request frame there token) said tops woken passes = said
 does_open threat state from (message.Rgoto frame there token) said tops woken passes = said
+does_open threat state from (message.RgotoWith frame there token riders) said tops woken passes = said
 does_open threat state from (message.Lgoto token) said tops woken passes = tops token refl passes
 does_open threat state from (message.Value request value) said tops woken passes = woken value_of_field request refl
 does_open threat state from (message.Ack request) said tops woken passes = woken acknowledgement request refl

@@ -3,8 +3,6 @@
 use Rattle.std.proofs.Common.{◌≡◌, ◌≢◌, ◌∙◌, ◌⊎◌, inl, ℕ, zero, suc, Bool, true, false, List, [], ◌∷◌, Some}
 use Rattle.std.proofs.Common.{refl, sym, ap, subst, arith}
 use Rattle.std.specs.Prelude.{◌==◌, slice_get, remove, IsSomeAnd}
-use Rattle.js_base.specs.declared.ids.EntryId.{EntryId}
-use Rattle.js_base.specs.declared.ids.FrameId.{FrameId}
 use Rattle.js_base.specs.declared.ids.HostId.{HostId}
 use Rattle.jif_tree.specs.SourceRun.{Configuration}
 use Rattle.capability.specs.declared.token.Token.{Token}
@@ -12,7 +10,7 @@ use Rattle.ics_stack.specs.Stack.{top_token}
 use Rattle.host_code.specs.declared.message.Message.{Message}
 use Rattle.host_code.specs.declared.message.Message.TheVariants as message
 use Rattle.host_code.specs.Thread.{ThreadShape}
-use Rattle.host_core.specs.Host.{HostShape, with_running, with_one_ignored, after_pop, thread_at}
+use Rattle.host_core.specs.Host.{HostShape, with_one_ignored, after_pop, thread_at}
 use Rattle.host_core.specs.Taking.{IsTaking, after_taking}
 use Rattle.net_world.specs.Flying.{Flight, Flying}
 use Rattle.net_world.specs.Told.{token_in}
@@ -20,14 +18,14 @@ use Rattle.net_world.specs.World.{WorldShape, state_at, without_flight}
 use Rattle.net_world.proofs.Moved.{Moved, mover_state, moved_silent, silent_sent}
 use Rattle.token_laws.specs.Holders.{Place, running_on, waiting_on, kept_on, in_flight, HoldsAt}
 use Rattle.typed_steps.specs.Variables.{Sends}
-use Rattle.typed_steps.specs.Views.{Split, View, entries_of}
-use Rattle.typed_steps.proofs.HeldSteps.{holds_same}
-use Rattle.typed_steps.proofs.Takes.{token_goes}
-use Rattle.typed_steps.proofs.Turns.{sends_nothing}
+use Rattle.split_rules.specs.Handing.{Arrival, arrival_in}
+use Rattle.typed_steps.specs.Requests.{GoesTo}
+use Rattle.typed_steps.specs.Views.{Split, View, entries_of, with_out}
+use Rattle.typed_steps.proofs.Takes.{arrived, arrived_is, arrived_keeps}
 use Rattle.integrity.specs.Holding.{IsAmong, runs, passes, OwnsMessage, OwnsWaiting}
 use Rattle.integrity.specs.Outside.{ThreadIsOpen, MessageIsOpen}
 use Rattle.integrity.specs.Standing as standing
-use Rattle.integrity.specs.Standing.{threat_in, GoesTo, GoesBack, IsPassing, Goes}
+use Rattle.integrity.specs.Standing.{threat_in, GoesBack, IsPassing, Goes}
 use Rattle.integrity.proofs.Among.{one_of_some, some_of}
 use Rattle.integrity.proofs.FliesOn.{FlyAs}
 use Rattle.integrity.proofs.HolderStays.{on_some}
@@ -82,17 +80,17 @@ module _ (split : Split) (c : Configuration) (view : View) (m : Message) (world 
   message_is =
       taken_is split c view (passes from to m) world after from to place t m t.stands.tight.there (refl, refl, refl)
 
-  starts : (frame : FrameId) (entry : EntryId) (token : Token) → m ≡ message.Rgoto frame entry token →
-      GoesTo split c view from to frame entry token → Goes split c after
-  starts frame entry token is g =
+  starts : (arrival : Arrival) → arrival_in m ≡ Some arrival → GoesTo split c view from to arrival → Goes split c after
+  starts arrival arrives g =
       let old = t.step.state in
-      let thread = thread_at g.there frame token in
-      let new : HostShape = with_running old (Some thread) in
+      let thread = thread_at g.there arrival.frame arrival.token in
+      let new = arrived old g.there arrival in
+      let seen = with_out view [] in
       let next = runs to thread in
       let me = me_is split c view (passes from to m) world after from to place t in
       let new_is =
-      token_goes split from to old entry g.there frame token t.step.outcome me g.found g.may
-      (subst (λ x. IsTaking split.code old from x t.step.outcome) (message_is ∙ is) t.step.takes) in
+      arrived_is split c view world from to old arrival g m t.step.outcome me arrives
+      (subst (λ x. IsTaking split.code old from x t.step.outcome) message_is t.step.takes) in
       let silent =
       moved_silent (without_flight world from to place) to t.step.outcome new (Some t.step.flight.label) after new_is
       t.step.leaves in
@@ -101,7 +99,7 @@ module _ (split : Split) (c : Configuration) (view : View) (m : Message) (world 
       let there : state_at after to ≡ Some new = mover_state world after to old new flying t.step.obeys moved in
       let before = was split c view (passes from to m) world after from to place t in
       let each = standing_each split c view (passes from to m) world after from to place t in
-      standing.stays view next tt (record {
+      standing.stays seen next tt (record {
         tight = tight_moved (threat_in split) (entries_of view.chain) (entries_of view.chain) (passes from to m) next
             world after t.lawful t.fits t.account t.stands.tight (record {
               me = to;
@@ -125,9 +123,8 @@ module _ (split : Split) (c : Configuration) (view : View) (m : Message) (world 
                   ⊎ MessageIsOpen (threat_in split) said)) (sym moved.flying)
                   (left_flying split c view (passes from to m) world after from to place t next);
             });
-        holds = holds_same split c view world after to old new flying t.stands.holds t.step.obeys moved refl refl refl;
-        sends = some_of (state_at after to) (λ s. Sends split view s to) new there
-            (sends_nothing split view new to g.none_out);
+        holds = arrived_keeps split c view world from to old arrival g t.step.obeys t.stands.holds after moved.hosts;
+        sends = some_of (state_at after to) (λ s. Sends split seen s to) new there tt;
         does = (t.stands.does.0, g.at);
         halts = none_halted split c view (passes from to m) world after from to place t next new (λ same. absurd (cc))
             moved.hosts refl;
@@ -258,7 +255,9 @@ passed_goes : (split : Split) (c : Configuration) (view : View) (m said : Messag
     (from to : HostId) (place : ℕ) → Taking split c view (passes from to m) world after from to place → m ≡ said →
     IsPassing split c view from to said → Goes split c after
 passed_goes split c view m (message.Rgoto frame entry token) world after from to place t is g =
-    starts split c view m world after from to place t frame entry token is g
+    starts split c view m world after from to place t _ (ap arrival_in is) g
+passed_goes split c view m (message.RgotoWith frame entry token riders) world after from to place t is g =
+    starts split c view m world after from to place t _ (ap arrival_in is) g
 passed_goes split c view m (message.Lgoto token) world after from to place t is g =
     comes_back split c view m world after from to place t token is g
 passed_goes split c view m _ world after from to place t is g = absurd g

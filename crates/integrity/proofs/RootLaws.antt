@@ -1,5 +1,5 @@
 -- Where the root misbehaves, what misbehaving hosts may not affect is as it was at the start.
-use Rattle.std.proofs.Common.{◌≡◌, ◌∙◌, ℕ, ◌+◌, inl, inr, ℤ, List, [], ◌∷◌, ◌++◌}
+use Rattle.std.proofs.Common.{◌≡◌, ◌∙◌, ℕ, inl, inr, ℤ, List, [], ◌∷◌, ◌++◌}
 use Rattle.std.proofs.Common.{refl, sym, subst, Option, Some, None}
 use Rattle.std.specs.Prelude.{◌⊎◌, All, IsSomeAnd, IsTrue}
 use Rattle.std.specs.Int.{bit_at}

@@ -23,11 +23,13 @@ use Rattle.host_code.specs.Thread.{ThreadShape}
 use Rattle.host_code.specs.Code.{CodeShape, CodeFieldShape, halt, field_at, entry_at, instruction_at}
 use Rattle.host_core.specs.Host.{HostShape, Outcome, with_running, with_one_ignored, with_token, with_temporary}
 use Rattle.host_core.specs.Host.{after_pop, after_entering, without_message, with_message, value_in_thread}
-use Rattle.host_core.specs.Host.{after_clearing}
+use Rattle.host_core.specs.Host.{after_clearing, with_variables_set}
 use Rattle.host_core.specs.Taking.{IsTaking, Passes, after_taking, after_answer}
 use Rattle.host_core.specs.Turn.{with_thread, PassesWith, IsTurn, IsTurnOf}
 use Rattle.host_core.specs.Turn.{IsRunning, after_operation, after_read, after_put}
-use Rattle.host_core.specs.Turn.{after_own_push, after_ask, after_go, after_own_call, after_return, after_back}
+use Rattle.host_core.specs.Turn.{after_own_push, after_ask, after_go, after_go_with, after_own_call, after_return}
+use Rattle.host_core.specs.Turn.{after_back}
+use Rattle.token_laws.proofs.Riding.{riding_is}
 use Rattle.token_laws.proofs.Tests.{number_same}
 
 -- What a step makes of a stack where these tokens were presented. A new entry has a token with the next serial of its
@@ -122,6 +124,12 @@ goes : (P : Token → Type 0) (host : HostShape) (thread : ThreadShape) (frame :
 goes P host thread frame entry on None = stays refl refl
 goes P host thread frame entry on (Some held) = stays refl refl
 
+goes_with : (P : Token → Type 0) (host : HostShape) (thread : ThreadShape) (frame : FrameId) (entry : EntryId)
+    (on : HostId) (riders : List VarId) (held : Option Token) →
+    Restacks P host (after_go_with host thread frame entry on riders held).state
+goes_with P host thread frame entry on riders None = stays refl refl
+goes_with P host thread frame entry on riders (Some held) = stays refl refl
+
 calls_own : (P : Token → Type 0) (host : HostShape) (thread : ThreadShape) (there : Option Entry) →
     Restacks P host (after_own_call host thread there).state
 calls_own P host thread None = stays refl refl
@@ -195,6 +203,10 @@ operation code host thread (op.Branch guard target) passes check =
     either (BackWith (op.Branch guard target) thread) host (int_eq (value_in_thread host thread guard) (pos 0))
     (with_thread host (record (after_clearing thread) { at = target })) (with_thread host (after_clearing thread))
     (λ is. stays refl refl) (stays refl refl)
+operation code host thread (op.GoWith entry on riders) passes check =
+    goes_with _ host thread thread.frame entry on riders thread.held
+operation code host thread (op.CallWith entry on riders) passes check =
+    goes_with _ host thread thread.new_frame entry on riders thread.held
 
 -- the instruction of a thread gives this token back
 abbrev pub GivesItBack : CodeShape → HostId → Token → ThreadShape → Type 0
@@ -270,6 +282,10 @@ takes code host from (message.Forward request frame x value) true check = stays 
 takes code host from (message.Sync request frame entry token) true check = pushes _ refl refl refl
 takes code host from (message.Rgoto frame entry token) true check =
     stays_same _ host _ (entering_same host (entry_at code entry) frame token)
+takes code host from (message.RgotoWith frame entry token riders) true check =
+    let same = entering_same (with_variables_set host frame riders) (entry_at code entry) frame token in
+    let rode = sym (riding_is host frame riders) in
+    stays (same.entries ∙ ap (λ (h : HostShape). h.entries) rode) (same.halts ∙ ap (λ (h : HostShape). h.halted) rode)
 takes code host from (message.Lgoto token) true check =
     pops_top code (GivesBack (message.Lgoto token)) host host.entries refl (λ other top.
     let same : Some token ≡ Some other = sym (check refl) ∙ top in

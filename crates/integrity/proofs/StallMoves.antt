@@ -34,7 +34,9 @@ use Rattle.typed_steps.specs.Views.{entries_of, Split, View, values_set, with_ou
 use Rattle.typed_steps.specs.Requests.{IsFieldOn, IsRequest}
 use Rattle.typed_steps.specs.Turns as turns
 use Rattle.typed_steps.specs.Turns.{waiting_for}
-use Rattle.typed_steps.specs.Variables.{AreSent, Sends}
+use Rattle.typed_steps.specs.Variables.{CanSend, AreSent, Sends}
+use Rattle.split_rules.specs.Positions.{without_forward}
+use Rattle.split_rules.proofs.Riding.{all_without}
 use Rattle.integrity.specs.Holding.{IsAmong, IsStanding, runs}
 use Rattle.integrity.specs.Exposed.{bad_labels}
 use Rattle.integrity.specs.Outside.{Threat, threat_of}
@@ -43,6 +45,7 @@ use Rattle.integrity.proofs.Among.{one_of_some}
 use Rattle.integrity.proofs.HeldFields.{field_on_bad}
 use Rattle.integrity.proofs.TightLaws.{lawful}
 use Rattle.integrity.proofs.Elsewhere.{holds_sent, holds_result_sent}
+use Rattle.integrity.proofs.Entering.{arrival_token}
 use Rattle.integrity.proofs.HolderLaws.{HolderTurn, turn_of}
 use Rattle.integrity.proofs.TellMoves.{Telling, telling, sent_is, silent_never, waits_for, sets_there}
 
@@ -72,17 +75,17 @@ module _ (split : Split) (c : Configuration) (view : View) (host : HostId) (thre
       waits_behind sets.now view sets.waiting sets.does sets.stands
   asked_stalls next awaited is (message.Forward request frame x value) same asks =
       let w = waiting_for t.step.state thread.at next awaited to in
-      let seen = with_out view asks.8 in
+      let seen = with_out view (without_forward x to view.out) in
       let sends =
-      subst (AreSent split (view.values view.sender) (t.step.state.variables (view.naming.frame view.sender)) host)
-      asks.9 t.sends in
+      all_without (CanSend split (view.values view.sender)
+      (t.step.state.variables (view.naming.frame view.sender)) host) x to view.out t.sends in
       waits seen w (waits_for split c view host thread world after to m t seen next awaited is refl t.stands.does.0
-      asks.10.held sends.2 c (λ later holds bad.
-      holds_sent split c view asks.8 later to x asks.7 holds bad asks.9)
-      (subst (IsFor split c seen host w) (sym asks.0) asks.10))
+      asks.8.held sends c (λ later holds bad. holds_sent split c view later to x holds bad)
+      (subst (IsFor split c seen host w) (sym asks.0) asks.8))
   asked_stalls next awaited is (message.Sync request frame entry token) same asks =
       absurd (fresh token (ap token_in (sym same)) asks.4)
   asked_stalls next awaited is (message.Rgoto frame entry token) same asks = absurd asks
+  asked_stalls next awaited is (message.RgotoWith frame entry token riders) same asks = absurd asks
   asked_stalls next awaited is (message.Lgoto token) same asks = absurd asks
   asked_stalls next awaited is (message.Value request value) same asks = absurd asks
   asked_stalls next awaited is (message.Ack request) same asks = absurd asks
@@ -127,7 +130,8 @@ module _ (split : Split) (c : Configuration) (view : View) (host : HostId) (thre
       (subst (λ x. with_message (new g.to) g.to x ≡ t.step.outcome) same.1 g.is))
   stalls_by (turns.hands h) =
       let same = sent_is split c view host thread world after to m t _ _ _ h.is in
-      absurd (fresh h.token (ap token_in (sym same.1)) h.top)
+      absurd (fresh h.arrival.token
+      (ap token_in (sym same.1) ∙ arrival_token h.said h.arrival h.arrives) h.top)
   stalls_by (turns.returns r) =
       let same = sent_is split c view host thread world after to m t _ _ _ r.is in
       absurd (fresh r.token (ap token_in (sym same.1)) r.top)

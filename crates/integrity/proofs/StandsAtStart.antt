@@ -16,8 +16,6 @@ use Rattle.host_core.specs.Host.{HostShape, after_entering, after_push, new_toke
 use Rattle.host_code.specs.Code.{halt}
 use Rattle.host_core.specs.Start.{main_frame, last_token, idle_host, root_host}
 use Rattle.net_world.specs.World.{world_at_start, state_at}
-use Rattle.split_rules.specs.Positions as positions
-use Rattle.split_rules.specs.Typing as typing
 use Rattle.typed_steps.specs.Views.{Split, View}
 use Rattle.typed_steps.specs.Variables.{AreFresh, Sends, Holds}
 use Rattle.typed_steps.proofs.MainStart.{calls_at_start, naming_at_start, view_at_start}

@@ -11,7 +11,8 @@ use Rattle.net_world.specs.Fits.{HasOwnToken}
 use Rattle.net_world.specs.World.{WorldShape, IsStep, state_at, has_halted, world_at_start}
 use Rattle.split_rules.specs.Placed.{PlacedProgram}
 use Rattle.split_rules.specs.Positions.{Forward}
-use Rattle.typed_steps.specs.Variables.{AreSent, Sends}
+use Rattle.typed_steps.specs.Variables.{CanSend, AreSent, Sends}
+use Rattle.typed_steps.proofs.Basics.{all_map}
 use Rattle.typed_steps.specs.Views.{Split, View, entries_of}
 use Rattle.typed_steps.proofs.Alike.{alike_both}
 use Rattle.typed_steps.proofs.HeldSteps.{holds_kept}
@@ -39,12 +40,12 @@ use Rattle.split_rules.specs.TypedCode.{IsTypedCode}
 sent_kept : (split : Split) (values : ℕ → ℤ) (frame : FrameId) (old new : HostShape) (host : HostId)
     (out : List Forward) → IsAsBefore split.exposure old new → AreSent split values (old.variables frame) host out →
     AreSent split values (new.variables frame) host out
-sent_kept split values frame old new host [] before sent = tt
-sent_kept split values frame old new host (forward ∷ out) before sent = (
-  alike_both split.exposure forward.variable _ _ _ (before.variables frame forward.variable) sent.0,
-  sent.1,
-  sent_kept split values frame old new host out before sent.2,
-)
+sent_kept split values frame old new host out before sent =
+    all_map (CanSend split values (old.variables frame) host) (CanSend split values (new.variables frame) host)
+    (λ forward can. (
+      alike_both split.exposure forward.variable _ _ _ (before.variables frame forward.variable) can.0,
+      can.1,
+    )) out sent
 
 has_sends : (split : Split) (c : Configuration) (view : View) (holder : Holder) (world after : WorldShape)
     (host : HostId) → Leaves (threat_in split) (entries_of view.chain) holder world after →

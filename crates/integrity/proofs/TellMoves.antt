@@ -31,6 +31,7 @@ use Rattle.typed_steps.specs.Variables.{Sends, Holds}
 use Rattle.typed_steps.specs.Views.{entries_of, Split, View}
 use Rattle.typed_steps.specs.Chains.{IsChain}
 use Rattle.typed_steps.specs.Requests.{IsRequest}
+use Rattle.split_rules.specs.Handing.{arrival_in}
 use Rattle.typed_steps.proofs.HeldSteps.{holds_same}
 use Rattle.integrity.specs.Exposed.{bad_labels}
 use Rattle.integrity.specs.Holding.{IsAmong, runs, stuck, halted, OwnsWaiting, OwnsMessage, StateIsOutside}
@@ -223,7 +224,8 @@ module _ (split : Split) (c : Configuration) (view : View) (host : HostId) (thre
       (subst (λ h. IsRequest split c view host h (waiting_for t.step.state thread.at a.next a.awaited h) a.asking)
       same.0 a.request))
   told_by (turns.gives g) = (let same = another _ _ _ g.is in absurd (cc))
-  told_by (turns.hands h) = (let same = another _ _ _ h.is in absurd (cc))
+  told_by (turns.hands h) =
+      (let none : None ≡ Some h.arrival = ap arrival_in (sym (another _ _ _ h.is)) ∙ h.arrives in absurd (cc))
   told_by (turns.returns r) = (let same = another _ _ _ r.is in absurd (cc))
   told_by (turns.ends e) = absurd (silent_never split c view host thread world after to m t _ e.is)
 

@@ -29,12 +29,14 @@ use Rattle.token_laws.proofs.WorldTokens.{Accounts}
 use Rattle.typed_steps.specs.Weights.{STEP}
 use Rattle.jif_tree.specs.Store.{element_at, row_of}
 use Rattle.js_base.specs.declared.ids.RequestId.{RequestId}
-use Rattle.typed_steps.specs.Requests.{IsRequest, GivesUp, starting}
+use Rattle.split_rules.specs.Handing.{Arrival, arrival_in}
+use Rattle.typed_steps.specs.Requests.{IsRequest, GoesTo, GivesUp}
 use Rattle.typed_steps.specs.Turns as turns
 use Rattle.typed_steps.specs.Turns.{IsActing, Grows, stays, grows, waiting_for}
 use Rattle.typed_steps.specs.Variables.{Sends}
 use Rattle.typed_steps.specs.Views.{Split, View, entries_of}
-use Rattle.typed_steps.proofs.HeldSteps.{holds_same, holds_calm}
+use Rattle.typed_steps.proofs.HeldSteps.{holds_same}
+use Rattle.integrity.proofs.Entering.{arrival_token}
 use Rattle.integrity.specs.Holding.{IsAmong, Holder, runs, asked, passes, lost, halted, first_of}
 use Rattle.integrity.specs.Holding.{IsThere, HasTop, Flies, OwnsWaiting, OwnsMessage, StateIsOutside, IsStanding}
 use Rattle.integrity.specs.Holding.{IsTight}
@@ -88,9 +90,22 @@ pub request_top : (split : Split) (c : Configuration) (view : View) (holder owne
 request_top split c view holder owner waiting (message.Get request field place) is =
     (is.4 (element_at (row_of c.store field.0) place) (inl refl)).held
 request_top split c view holder owner waiting (message.Set request field place value) is = is.4.at.held
-request_top split c view holder owner waiting (message.Forward request frame x value) is = is.10.held
+request_top split c view holder owner waiting (message.Forward request frame x value) is = is.8.held
 request_top split c view holder owner waiting (message.Sync request frame entry token) is = sym is.4
 request_top split c view holder owner waiting _ is = absurd is
+
+-- a message that hands a thread over passes the token on
+passing_by : (split : Split) (c : Configuration) (view : View) (from to : HostId) (said : Message) (arrival : Arrival) →
+    arrival_in said ≡ Some arrival → GoesTo split c view from to arrival → IsPassing split c view from to said
+passing_by split c view from to (message.Rgoto frame entry token) arrival is goes =
+    let own : Arrival = record { frame = frame; entry = entry; token = token; riders = [] } in
+    let same : own ≡ arrival = cc in
+    subst (GoesTo split c view from to) (sym same) goes
+passing_by split c view from to (message.RgotoWith frame entry token riders) arrival is goes =
+    let own : Arrival = record { frame = frame; entry = entry; token = token; riders = riders } in
+    let same : own ≡ arrival = cc in
+    subst (GoesTo split c view from to) (sym same) goes
+passing_by split c view from to _ arrival is goes = absurd (cc)
 
 -- what is in flight from a host to a host after more is
 pub own_cell : (flying : Flying) (from to : HostId) (flights : List Flight) →
@@ -320,11 +335,10 @@ module _ (split : Split) (c : Configuration) (view : View) (host : HostId) (thre
 
   -- ---- the thread ends
 
-  ends_with : (call : ℕ) (to : HostId) (m : Message) → view.out ≡ [] →
-      with_message (with_running t.step.state None) to m ≡ t.step.outcome →
-      token_in m ≡ top_token (entries_of view.chain) → IsPassing split c (starting view view.chain call) host to m →
-      StandsBy split c (starting view view.chain call) (passes host to m) after
-  ends_with call to m none is top passing =
+  ends_with : (to : HostId) (m : Message) → with_message (with_running t.step.state None) to m ≡ t.step.outcome →
+      token_in m ≡ top_token (entries_of view.chain) → IsPassing split c view host to m →
+      StandsBy split c view (passes host to m) after
+  ends_with to m is top passing =
       let old = t.step.state in
       let new : HostShape = with_running old None in
       let holder = passes host to m in
@@ -332,8 +346,7 @@ module _ (split : Split) (c : Configuration) (view : View) (host : HostId) (thre
       record {
         tight = posts new holder to m moved refl refl refl (waits_for holder host old.waiting refl refl)
             (own_flight to m new moved) top (λ same. absurd (cc)) (refl, refl, refl);
-        holds = holds_calm split c view after view.chain call
-            (holds_same split c view world after host old new _ t.stands.holds t.step.obeys moved refl refl refl) none;
+        holds = holds_same split c view world after host old new _ t.stands.holds t.step.obeys moved refl refl refl;
         sends = tt;
         does = (t.stands.does.0, passing);
         halts = none_halted holder new moved.hosts refl;
@@ -465,16 +478,11 @@ module _ (split : Split) (c : Configuration) (view : View) (host : HostId) (thre
       standing.stays view (asked host w m) tt
       (asks g.next acknowledgement g.to m g.is refl g.result.at.held (inr (refl, refl, g.may, g.result)))
   goes_of (turns.hands h) =
-      let m = message.Rgoto h.frame h.entry h.token in
-      standing.stays (starting view view.chain h.call) (passes host h.to m) tt
-      (ends_with h.call h.to m h.none_out h.is (sym h.top)
-      (record { there = h.there; found = h.found; may = h.may; none_out = refl; at = h.at }))
+      standing.stays view (passes host h.to h.said) tt
+      (ends_with h.to h.said h.is (arrival_token h.said h.arrival h.arrives ∙ sym h.top)
+      (passing_by split c view host h.to h.said h.arrival h.arrives h.goes))
   goes_of (turns.returns r) =
       let m = message.Lgoto r.token in
-      standing.stays (starting view view.chain view.sender) (passes host r.token.host m) tt
-      (ends_with view.sender r.token.host m r.gives_up.none_out r.is (sym r.top) (record {
-        host = refl;
-        top = r.top;
-        gives_up = record { none_out = refl; count = r.gives_up.count; left = r.gives_up.left };
-      }))
+      standing.stays view (passes host r.token.host m) tt
+      (ends_with r.token.host m r.is (sym r.top) (record { host = refl; top = r.top; gives_up = r.gives_up }))
   goes_of (turns.ends e) = ends_if e.token e.passes e.passing.0 e.own e.top e.gives_up e.is

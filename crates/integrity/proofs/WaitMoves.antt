@@ -1,7 +1,7 @@
 -- What a step of one host makes of the threads that wait there: a turn adds one at most, and a message ends the wait of
 -- one at most, which waits for that number from the host that sends it.
-use Rattle.std.proofs.Common.{◌≡◌, ℕ, Bool, true, false, List, [], ◌∷◌, Option, Some, None}
-use Rattle.std.proofs.Common.{refl, subst}
+use Rattle.std.proofs.Common.{◌≡◌, ◌∙◌, ℕ, Bool, true, false, List, [], ◌∷◌, Option, Some, None}
+use Rattle.std.proofs.Common.{refl, sym, ap, subst}
 use Rattle.std.specs.Prelude.{slice_get, remove, position, ◌==◌, if◌then◌else◌}
 use Rattle.std.proofs.lemmas.List.Quantifiers.{position-Some}
 use Rattle.std.proofs.lemmas.Option.{get_or_from_slice_get}
@@ -18,10 +18,12 @@ use Rattle.host_code.specs.Thread.Awaited.{value_of_field, acknowledgement, toke
 use Rattle.host_code.specs.Code.{CodeShape, halt, entry_at}
 use Rattle.host_core.specs.Awaiting.{awaits}
 use Rattle.host_core.specs.Host.{HostShape, Outcome, with_temporary, with_token, after_pop, after_entering}
+use Rattle.host_core.specs.Host.{with_variables_set}
 use Rattle.host_core.specs.Taking.{IsTaking, after_taking, after_answer, place_of_awaiting}
 use Rattle.net_world.proofs.Present.{same_id}
 use Rattle.token_laws.specs.Requests.{number_answered}
 use Rattle.token_laws.proofs.HostRequests.{request_is, entering_same}
+use Rattle.token_laws.proofs.Riding.{riding_is}
 use Rattle.token_laws.proofs.Tests.{parts_same, number_same}
 
 -- the thread at a place waits for the answer to this number from this host
@@ -82,6 +84,9 @@ takes code host from (message.Forward request frame x value) true = stays refl
 takes code host from (message.Sync request frame entry token) true = stays refl
 takes code host from (message.Rgoto frame entry token) true =
     stays (entering_same host (entry_at code entry) frame token).waiting
+takes code host from (message.RgotoWith frame entry token riders) true =
+    stays ((entering_same (with_variables_set host frame riders) (entry_at code entry) frame token).waiting
+    ∙ ap (λ (h : HostShape). h.waiting) (sym (riding_is host frame riders)))
 takes code host from (message.Lgoto token) true = stays (pop_waiting code host host.entries)
 takes code host from (message.Value request value) true =
     answered_waiting host _ (with_temporary value) value_of_field request from _ refl refl

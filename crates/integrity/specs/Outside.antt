@@ -1,5 +1,6 @@
 -- Worlds in which all that goes on could be the doing of hosts that misbehave.
 use Rattle.std.specs.Prelude.{◌≢◌, ⊤, ℕ, All, Any, IfSome}
+use Rattle.std.specs.List.{AllByRecursion}
 use Rattle.js_base.specs.declared.ids.HostId.{HostId}
 use Rattle.js_base.specs.declared.ids.EntryId.{EntryId}
 use Rattle.jif_tree.specs.Altered.{Exposure, FieldIsAffected, VariableIsAffected}
@@ -46,13 +47,15 @@ abbrev pub EntryIsOpen : Threat → EntryId → Type 0
 EntryIsOpen threat there =
     (there ≢ halt) × Any (λ label. HasNeed threat.code label there) threat.exposure.bad
 
--- A message sets what may be affected, and enters where some misbehaving host may. One that only reads, answers or
--- gives a token back is not asked for anything: what it does is up to who takes it.
+-- A message sets what may be affected, each variable that rides included, and enters where some misbehaving host may.
+-- One that only reads, answers or gives a token back is not asked for anything: what it does is up to who takes it.
 abbrev pub MessageIsOpen : Threat → Message → Type 0
 MessageIsOpen threat (message.Set request field index value) = FieldIsAffected threat.exposure field
 MessageIsOpen threat (message.Forward request frame x value) = VariableIsAffected threat.exposure x
 MessageIsOpen threat (message.Sync request frame there token) = EntryIsOpen threat there
 MessageIsOpen threat (message.Rgoto frame there token) = EntryIsOpen threat there
+MessageIsOpen threat (message.RgotoWith frame there token riders) =
+    EntryIsOpen threat there × AllByRecursion (λ rider. VariableIsAffected threat.exposure rider.0) riders
 MessageIsOpen threat _ = ⊤
 
 -- what runs on a host, waits there and is on its stack

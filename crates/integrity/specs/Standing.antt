@@ -7,23 +7,19 @@ use Rattle.jif_tree.specs.Numbers.{IsNumber}
 use Rattle.jif_tree.specs.SourceRun.{Configuration, IsAtEnd}
 use Rattle.capability.specs.declared.token.Token.{Token}
 use Rattle.ics_stack.specs.Stack.{top_token}
-use Rattle.host_code.specs.declared.code.Entry.{Entry}
-use Rattle.js_base.specs.declared.ids.EntryId.{EntryId}
-use Rattle.js_base.specs.declared.ids.FrameId.{FrameId}
 use Rattle.host_code.specs.declared.message.Message.{Message}
 use Rattle.host_code.specs.declared.message.Message.TheVariants as message
-use Rattle.host_code.specs.Code.{entry_at}
 use Rattle.host_code.specs.Thread.{WaitingShape, Awaited}
 use Rattle.host_code.specs.Thread.Awaited.{value_of_field, acknowledgement, token_of_entry}
 use Rattle.entry_check.specs.declared.ask.Ask.TheVariants as ask
 use Rattle.entry_check.specs.Checks.{May}
-use Rattle.host_core.specs.Host.{thread_at, with_temporary}
+use Rattle.host_core.specs.Host.{with_temporary}
 use Rattle.net_world.specs.World.{WorldShape, state_at, has_halted}
 use Rattle.typed_steps.specs.Views.{Split, View, entries_of}
 use Rattle.typed_steps.specs.Chains.{IsChain}
 use Rattle.typed_steps.specs.Threads.{IsAt}
 use Rattle.typed_steps.specs.Variables.{Sends, Holds}
-use Rattle.typed_steps.specs.Requests.{IsRequest, IsAnswer, GivesResult, GivesUp}
+use Rattle.typed_steps.specs.Requests.{IsRequest, IsAnswer, GivesResult, GoesTo, GivesUp}
 use Rattle.integrity.specs.Holding.{Holder, runs, asked, answered, stuck, passes, lost, halted, IsTight}
 use Rattle.integrity.specs.Outside.{Threat}
 
@@ -49,23 +45,18 @@ IsFor split c view host waiting value_of_field =
 IsFor split c view host waiting acknowledgement = IsAt split c view host waiting.thread
 IsFor split c view host waiting token_of_entry = ⊥
 
--- the token goes to an entry
-pub record GoesTo (split : Split) (c : Configuration) (view : View) (from to : HostId) (frame : FrameId)
-    (entry : EntryId) (token : Token) : Type 0 where
-  pub there : Entry
-  pub found : entry_at split.code entry ≡ Some there
-  pub may : May split.code to (ask.Enter entry) from
-  pub none_out : view.out ≡ []
-  pub at : IsAt split c view to (thread_at there frame token)
-
--- or back to the host that gave it
+-- the token goes back to the host that gave it
 pub record GoesBack (split : Split) (c : Configuration) (view : View) (to : HostId) (token : Token) : Type 0 where
   pub host : token.host ≡ to
   pub top : top_token (entries_of view.chain) ≡ Some token
   pub gives_up : GivesUp split c view
 
+-- it goes to an entry, with all that is still to be sent, or it goes back
 abbrev pub IsPassing : Split → Configuration → View → HostId → HostId → Message → Type 0
-IsPassing split c view from to (message.Rgoto frame entry token) = GoesTo split c view from to frame entry token
+IsPassing split c view from to (message.Rgoto frame entry token) =
+    GoesTo split c view from to (record { frame = frame; entry = entry; token = token; riders = [] })
+IsPassing split c view from to (message.RgotoWith frame entry token riders) =
+    GoesTo split c view from to (record { frame = frame; entry = entry; token = token; riders = riders })
 IsPassing split c view from to (message.Lgoto token) = GoesBack split c view to token
 IsPassing split c view from to other = ⊥
 

@@ -13,6 +13,7 @@ ghost use Rattle.jif_tree.specs.SourceRun.{Configuration, configuration_at_start
 ghost use Rattle.msg_cost.specs.Moves.{PlannedShape};
 ghost use Rattle.host_code.specs.declared.message.Message.{Message};
 ghost use Rattle.host_code.specs.declared.message.Message.TheVariants as message;
+ghost use Rattle.host_code.specs.Riders.{Rider};
 ghost use Rattle.host_code.specs.Code.{halt};
 ghost use Rattle.host_code.specs.Sound.{IsSoundCode};
 ghost use Rattle.host_code.specs.Thread.{ThreadShape, WaitingShape};
@@ -286,6 +287,17 @@ pub fn integrity_examples()
     ensures main_denied { ¬ EntryIsOpen (sent_threat 2) (entry_id 1) }
     ensures enters { EntryIsOpen (sent_threat 2) (entry_id 2) }
     ensures halt_denied { (threat : Threat) → ¬ EntryIsOpen threat halt }
+    // Where it may enter it may not bring a value for that local along, whatever else rides. Where it may not enter it
+    // may not do so with values either.
+    ensures riding_denied { (frame : FrameId) (token : Token) (value : ℤ) (others : List Rider) →
+        ¬ MessageIsOpen (sent_threat 2)
+        (message.RgotoWith frame (entry_id 2) token ((var_id 0, value) ∷ others)) }
+    ensures riding_behind_denied { (frame : FrameId) (token : Token) (value : ℤ) (first : Rider)
+        (others : List Rider) →
+        ¬ MessageIsOpen (sent_threat 2)
+        (message.RgotoWith frame (entry_id 2) token (first ∷ (var_id 0, value) ∷ others)) }
+    ensures riding_entry_denied { (frame : FrameId) (token : Token) (riders : List Rider) →
+        ¬ MessageIsOpen (sent_threat 2) (message.RgotoWith frame (entry_id 1) token riders) }
     // It sets a field that it may affect, which then has not what the store has. So that no field changes is false, and
     // so it would be to say that nobody misbehaves.
     ensures sets { IsRun two_fields before_set (sets_to_nine 0 ∷ []) after_set }

@@ -119,6 +119,8 @@ landed_real host all (op.Call there on) has = has
 landed_real host all (op.Ret variable value) has = has
 landed_real host all op.Back has = has
 landed_real host all (op.Branch guard target) has = has
+landed_real host all (op.GoWith there on riders) has = has
+landed_real host all (op.CallWith there on riders) has = has
 
 abbrev IsRealEmitted : Emitted → Type 0
 IsRealEmitted one = (one.statement.0 < 2 ^ 32) × HasExpressions one.op

@@ -104,6 +104,7 @@ passing_carries eyes are host from (message.Sync request frame entry token) obey
   ),
 )
 passing_carries eyes are host from (message.Rgoto frame entry token) obeys asked passes = tt
+passing_carries eyes are host from (message.RgotoWith frame entry token riders) obeys asked passes = tt
 passing_carries eyes are host from (message.Lgoto token) obeys asked passes = tt
 passing_carries eyes are host from (message.Value request value) obeys asked passes = tt
 passing_carries eyes are host from (message.Ack request) obeys asked passes = tt
@@ -186,6 +187,8 @@ asked_at eyes host place (op.Arg x value) awaited on is at asks = absurd asks
 asked_at eyes host place (op.Push entry) awaited on is at asks = absurd asks
 asked_at eyes host place (op.Go entry to) awaited on is at asks = absurd asks
 asked_at eyes host place (op.Call entry to) awaited on is at asks = absurd asks
+asked_at eyes host place (op.GoWith entry to riders) awaited on is at asks = absurd asks
+asked_at eyes host place (op.CallWith entry to riders) awaited on is at asks = absurd asks
 asked_at eyes host place op.Back awaited on is at asks = absurd asks
 asked_at eyes host place (op.Branch guard target) awaited on is at asks = absurd asks
 
@@ -253,6 +256,8 @@ made_carries eyes state from (message.Sync request frame entry token) are sound 
     (enters_with eyes entry token seen shows, λ shown. seen.block)
 made_carries eyes state from (message.Rgoto frame entry token) are sound fits bad keeps shows passes =
     enters_with eyes entry token (entered_seen eyes are state.me from entry bad passes) shows
+made_carries eyes state from (message.RgotoWith frame entry token riders) are sound fits bad keeps shows passes =
+    enters_with eyes entry token (entered_seen eyes are state.me from entry bad passes.0) shows
 made_carries eyes state from (message.Lgoto token) are sound fits bad keeps shows passes = tt
 made_carries eyes state from (message.Value request value) are sound fits bad keeps shows passes = tt
 made_carries eyes state from (message.Ack request) are sound fits bad keeps shows passes = tt
@@ -275,6 +280,7 @@ passing_shows eyes are host from (message.Forward request frame x value) bad pas
 passing_shows eyes are host from (message.Sync request frame entry token) bad passes =
     λ one. false≢true (sym (entered_seen eyes are host.me from entry bad passes).shown ∙ one.1)
 passing_shows eyes are host from (message.Rgoto frame entry token) bad passes = tt
+passing_shows eyes are host from (message.RgotoWith frame entry token riders) bad passes = tt
 passing_shows eyes are host from (message.Lgoto token) bad passes = tt
 passing_shows eyes are host from (message.Value request value) bad passes = tt
 passing_shows eyes are host from (message.Ack request) bad passes = tt

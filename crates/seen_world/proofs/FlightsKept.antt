@@ -147,6 +147,9 @@ made_shown Q world (bad.Sync request frame entry token) said has own its makes =
 made_shown Q world (bad.Rgoto frame entry token) said has own its makes =
     made_with Q (λ known. message.Rgoto frame entry known) _ said (λ one is. is)
     (presented Q world token has own its) makes
+made_shown Q world (bad.RgotoWith frame entry token riders) said has own its makes =
+    made_with Q (λ known. message.RgotoWith frame entry known riders) _ said (λ one is. is)
+    (presented Q world token has own its) makes
 made_shown Q world (bad.Lgoto token) said has own its makes =
     made_with Q (λ known. message.Lgoto known) _ said (λ one is. is) (presented Q world token has own its) makes
 made_shown Q world (bad.Value request value) said has own its makes = made_as Q _ said makes tt

@@ -1,24 +1,34 @@
 -- The host that a request of an obeying host comes to grants it.
-use Rattle.std.proofs.Common.{◌≡◌, Some, None, subst}
+use Rattle.std.proofs.Common.{◌≡◌, List, Some, None, sym, subst}
 use Rattle.std.specs.Prelude.{◌≢◌, IfSome, IsSomeAnd, ⊤}
 use Rattle.js_base.specs.declared.ids.HostId.{HostId}
+use Rattle.js_base.specs.declared.ids.FrameId.{FrameId}
+use Rattle.js_base.specs.declared.ids.VarId.{VarId}
 use Rattle.host_code.specs.declared.instruction.Op.{Op}
 use Rattle.host_code.specs.declared.instruction.Op.TheVariants as op
 use Rattle.host_code.specs.declared.message.Message.{Message}
 use Rattle.host_code.specs.declared.message.Message.TheVariants as message
+use Rattle.host_code.specs.Riders.{names_of}
+use Rattle.host_code.specs.Code.{CodeShape}
 use Rattle.host_code.specs.Thread.{ThreadShape}
 use Rattle.entry_check.specs.declared.ask.Ask.TheVariants as ask
-use Rattle.entry_check.specs.Checks.{May}
+use Rattle.entry_check.specs.Checks.{May, MayRide}
 use Rattle.host_core.specs.Host.{HostShape, Outcome, with_running}
 use Rattle.host_core.specs.Taking.{IsTaking, Passes, after_passing}
-use Rattle.host_core.specs.Turn.{IsTurn}
+use Rattle.host_core.specs.Turn.{IsTurn, riders_of}
 use Rattle.split_rules.specs.Asking.{IsGranted}
+use Rattle.token_laws.proofs.Riding.{names_ride}
 use Rattle.seen_world.specs.Eyes.{Eyes, AreEyes}
 use Rattle.seen_world.specs.Points.{IsRequest, IsGrantedTo}
 use Rattle.seen_world.proofs.Answered.{taking_sends}
 use Rattle.seen_world.proofs.Sendings.{EachSending, turn_sends, any_held}
 
 -- ---- turns
+
+-- what an instruction may let ride may ride with its message
+rides : (code : CodeShape) (host : HostShape) (frame : FrameId) (on : HostId) (variables : List VarId) →
+    MayRide code on host.me variables → MayRide code on host.me (names_of (riders_of host frame variables))
+rides code host frame on variables may = subst (MayRide code on host.me) (sym (names_ride host frame variables)) may
 
 operation_granted : (eyes : Eyes) (host : HostShape) (thread : ThreadShape) (it : Op) →
     IsGranted eyes.code host.me it →
@@ -38,6 +48,10 @@ operation_granted eyes host thread (op.Push entry) grants = tt
 operation_granted eyes host thread (op.Ask entry on) grants = λ token holds. grants
 operation_granted eyes host thread (op.Go entry on) grants = λ token holds. grants
 operation_granted eyes host thread (op.Call entry on) grants = λ apart token holds. grants apart
+operation_granted eyes host thread (op.GoWith entry on riders) grants =
+    λ token holds. (grants.0, rides eyes.code host thread.frame on riders grants.1)
+operation_granted eyes host thread (op.CallWith entry on riders) grants =
+    λ token holds. (grants.0, rides eyes.code host thread.new_frame on riders grants.1)
 operation_granted eyes host thread (op.Ret x value) grants = λ token holds. grants token.host
 operation_granted eyes host thread op.Back grants = λ token holds. tt
 operation_granted eyes host thread (op.Branch guard target) grants = tt
@@ -59,6 +73,7 @@ passing_granted eyes host from (message.Set request field index value) = tt
 passing_granted eyes host from (message.Forward request frame x value) = tt
 passing_granted eyes host from (message.Sync request frame entry token) = tt
 passing_granted eyes host from (message.Rgoto frame entry token) = tt
+passing_granted eyes host from (message.RgotoWith frame entry token riders) = tt
 passing_granted eyes host from (message.Lgoto token) = tt
 passing_granted eyes host from (message.Value request value) = tt
 passing_granted eyes host from (message.Ack request) = tt
@@ -81,6 +96,7 @@ granted_passes eyes host from (message.Set request field index value) asks grant
 granted_passes eyes host from (message.Forward request frame x value) asks grants = grants
 granted_passes eyes host from (message.Sync request frame entry token) asks grants = grants
 granted_passes eyes host from (message.Rgoto frame entry token) asks grants = grants
+granted_passes eyes host from (message.RgotoWith frame entry token riders) asks grants = grants
 granted_passes eyes host from (message.Lgoto token) asks grants = absurd asks
 granted_passes eyes host from (message.Value request value) asks grants = absurd asks
 granted_passes eyes host from (message.Ack request) asks grants = absurd asks

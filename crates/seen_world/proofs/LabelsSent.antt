@@ -17,6 +17,7 @@ use Rattle.host_core.specs.Host.{HostShape, Outcome, with_running}
 use Rattle.host_core.specs.Taking.{IsTaking, after_passing}
 use Rattle.host_core.specs.Turn.{IsTurn}
 use Rattle.host_core.specs.Turn.{label_of_thread, label_of_turn}
+use Rattle.token_laws.proofs.Riding.{names_ride}
 use Rattle.seen_world.specs.Eyes.{Eyes, AreEyes, sees_at, is_open}
 use Rattle.seen_world.specs.Points.{RunsWell, IsAskedBy, FliesWell, ShowsNoHidden, AsksForNoHidden}
 use Rattle.seen_world.specs.Points.{HasLabelAt, IsLabelledAs, IsGrantedTo, IsInFlight}
@@ -42,6 +43,12 @@ operation_labelled eyes Q host thread label (op.Ask entry on) has is = λ token 
 operation_labelled eyes Q host thread label (op.Go entry on) has is = λ token holds. (thread.at, has, inl is)
 operation_labelled eyes Q host thread label (op.Call entry on) has is =
     λ apart token holds. (thread.at, has, inr is)
+operation_labelled eyes Q host thread label (op.GoWith entry on riders) has is =
+    let names = sym (names_ride host thread.frame riders) in
+    λ token holds. (thread.at, has, inl (is ∙ ap (op.GoWith entry on) names))
+operation_labelled eyes Q host thread label (op.CallWith entry on riders) has is =
+    let names = sym (names_ride host thread.new_frame riders) in
+    λ token holds. (thread.at, has, inr (is ∙ ap (op.CallWith entry on) names))
 operation_labelled eyes Q host thread label (op.Ret x value) has is = λ token holds. has
 operation_labelled eyes Q host thread label op.Back has is = λ token holds. (thread.at, has, is)
 operation_labelled eyes Q host thread label (op.Branch guard target) has is = tt
@@ -68,6 +75,7 @@ asks_openly eyes are from to (message.Sync request frame entry token) label aske
     hidden_is eyes (eyes.shades.at from request.at) entry.0 asking.pushes.0
     ∙ ap not (sym (label_same eyes are from request.at label has) ∙ sees)
 asks_openly eyes are from to (message.Rgoto frame entry token) label asked has sees = tt
+asks_openly eyes are from to (message.RgotoWith frame entry token riders) label asked has sees = tt
 asks_openly eyes are from to (message.Lgoto token) label asked has sees = tt
 asks_openly eyes are from to (message.Value request value) label asked has sees = tt
 asks_openly eyes are from to (message.Ack request) label asked has sees = tt
@@ -127,6 +135,7 @@ passing_labelled eyes host from (message.Forward request frame x value) label ha
 passing_labelled eyes host from (message.Sync request frame entry token) label has shows =
     (has, λ sees hidden. false≢true (sym (shows sees) ∙ hidden.1))
 passing_labelled eyes host from (message.Rgoto frame entry token) label has shows = tt
+passing_labelled eyes host from (message.RgotoWith frame entry token riders) label has shows = tt
 passing_labelled eyes host from (message.Lgoto token) label has shows = tt
 passing_labelled eyes host from (message.Value request value) label has shows = tt
 passing_labelled eyes host from (message.Ack request) label has shows = tt

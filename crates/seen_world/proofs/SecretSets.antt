@@ -1,12 +1,16 @@
 -- What a secret message sets may not be seen, nor may the block that it enters.
-use Rattle.std.proofs.Common.{◌≡◌, ◌∙◌, ℕ, false, List, Option, Some, None, inl, inr, refl, ap, sym, subst}
+use Rattle.std.proofs.Common.{◌≡◌, ◌∙◌, ℕ, zero, suc, false, List, [], ◌∷◌, Option, Some, None, inl, inr}
+use Rattle.std.proofs.Common.{refl, ap, sym, subst}
 use Rattle.std.specs.Prelude.{◌⊎◌, IfSome, slice_get}
+use Rattle.std.specs.List.{AllByRecursion}
 use Rattle.std.proofs.lemmas.Bool.{cases_Bool, false≢true}
 use Rattle.js_base.specs.declared.ids.HostId.{HostId}
 use Rattle.js_base.specs.declared.ids.EntryId.{EntryId}
 use Rattle.js_base.specs.declared.ids.FieldId.{FieldId}
+use Rattle.js_base.specs.declared.ids.FrameId.{FrameId}
 use Rattle.js_base.specs.declared.ids.VarId.{VarId}
 use Rattle.label_lattice.specs.declared.label.Label.{Label}
+use Rattle.capability.specs.declared.token.Token.{Token}
 use Rattle.label_lattice.specs.Label.{ConfFlows}
 use Rattle.jif_tree.specs.LabelRules.{field_label}
 use Rattle.host_code.specs.declared.code_expr.Node.{Node}
@@ -14,13 +18,14 @@ use Rattle.host_code.specs.declared.instruction.Op.{Op}
 use Rattle.host_code.specs.declared.instruction.Op.TheVariants as op
 use Rattle.host_code.specs.declared.message.Message.{Message}
 use Rattle.host_code.specs.declared.message.Message.TheVariants as message
+use Rattle.host_code.specs.Riders.{Rider, names_of}
 use Rattle.host_code.specs.Code.{CodeFieldShape, CodeVariableShape, field_at, variable_at}
 use Rattle.entry_check.specs.Checks.{label_at}
 use Rattle.need_labels.specs.Needs.{label_of}
 use Rattle.net_world.specs.Flying.{Flight}
 use Rattle.net_world.specs.World.{WorldShape}
 use Rattle.split_shades.specs.ShadedCode.{IsShadedOp}
-use Rattle.split_shades.specs.Shading.{IsUnderBlock}
+use Rattle.split_shades.specs.Shading.{IsUnderBlock, GoesTo, CallsOn, Rides}
 use Rattle.token_laws.proofs.HeldLaws.{all_at}
 use Rattle.seen_world.specs.Eyes.{Eyes, AreEyes, sees_at}
 use Rattle.seen_world.specs.Points.{IsAt, IsAskedBy, HasLabelAt, IsLabelledAs, SetsHidden, EntersHidden, IsInFlight}
@@ -34,12 +39,22 @@ shaded_at : (eyes : Eyes) → AreEyes eyes → (host : HostId) (place : ℕ) (it
 shaded_at eyes are host place it at =
     subst (IsShadedOp eyes.scene eyes.shades host place) at.2 (are.shaded.instructions host place at.0 at.1).law
 
+-- it flows to each variable that rides
+riders_flow : (eyes : Eyes) → AreEyes eyes → (from to : HostId) (place label : ℕ) (entry : EntryId)
+    (riders : List VarId) (has : HasLabelAt eyes from place label) →
+    (has.0.op ≡ op.GoWith entry to riders) ⊎ (has.0.op ≡ op.CallWith entry to riders) →
+    Rides eyes.scene (eyes.shades.at from place) riders to
+riders_flow eyes are from to place label entry riders has (inl is) =
+    (shaded_at eyes are from place (op.GoWith entry to riders) (has.0, has.1, is)).1
+riders_flow eyes are from to place label entry riders has (inr is) =
+    (shaded_at eyes are from place (op.CallWith entry to riders) (has.0, has.1, is)).1
+
 variable_flows : (eyes : Eyes) → AreEyes eyes → (from to : HostId) (place : ℕ) (x : VarId) →
     IsAt eyes from place (op.Send x to)
     ⊎ (IsAt eyes from place (op.Pass x to) ⊎ ((given : List Node) × IsAt eyes from place (op.Ret x given))) →
     ConfFlows (eyes.shades.at from place).pc (label_of eyes.scene.basis.labelled x)
-variable_flows eyes are from to place x (inl at) = (shaded_at eyes are from place (op.Send x to) at).1.1.2
-variable_flows eyes are from to place x (inr (inl at)) = (shaded_at eyes are from place (op.Pass x to) at).1.1.2
+variable_flows eyes are from to place x (inl at) = (shaded_at eyes are from place (op.Send x to) at).1.1.2.0
+variable_flows eyes are from to place x (inr (inl at)) = (shaded_at eyes are from place (op.Pass x to) at).1.1.2.0
 variable_flows eyes are from to place x (inr (inr gives)) =
     (shaded_at eyes are from place (op.Ret x gives.0) gives.1).1.2.flows.program
 
@@ -57,15 +72,24 @@ unseen eyes are host place label number kept has hidden is flows =
       | inr not_seen ↦ same ∙ not_seen
     ]
 
-set_variable : (eyes : Eyes) → AreEyes eyes → (from to : HostId) (place label : ℕ) (x : VarId) →
-    IsAt eyes from place (op.Send x to)
-    ⊎ (IsAt eyes from place (op.Pass x to) ⊎ ((given : List Node) × IsAt eyes from place (op.Ret x given))) →
+set_variable : (eyes : Eyes) → AreEyes eyes → (from : HostId) (place label : ℕ) (x : VarId) →
+    ConfFlows (eyes.shades.at from place).pc (label_of eyes.scene.basis.labelled x) →
     HasLabelAt eyes from place label → sees_at eyes label ≡ false → (found : Option CodeVariableShape) →
     variable_at eyes.code x ≡ found → IfSome found (λ there. sees_at eyes there.label ≡ false)
-set_variable eyes are from to place label x asked has hidden None is = tt
-set_variable eyes are from to place label x asked has hidden (Some there) is =
+set_variable eyes are from place label x flows has hidden None is = tt
+set_variable eyes are from place label x flows has hidden (Some there) is =
     unseen eyes are from place label there.label (label_of eyes.scene.basis.labelled x) has hidden
-    (are.known.variables x there is) (variable_flows eyes are from to place x asked)
+    (are.known.variables x there is) flows
+
+set_riders : (eyes : Eyes) → AreEyes eyes → (from to : HostId) (place label : ℕ) → HasLabelAt eyes from place label →
+    sees_at eyes label ≡ false → (riders : List Rider) →
+    Rides eyes.scene (eyes.shades.at from place) (names_of riders) to →
+    AllByRecursion (λ rider. IfSome (variable_at eyes.code rider.0) (λ there. sees_at eyes there.label ≡ false)) riders
+set_riders eyes are from to place label has hidden [] rides = tt
+set_riders eyes are from to place label has hidden (rider ∷ riders) rides = (
+  set_variable eyes are from place label rider.0 rides.0.0 has hidden (variable_at eyes.code rider.0) refl,
+  set_riders eyes are from to place label has hidden riders rides.1,
+)
 
 set_field : (eyes : Eyes) → AreEyes eyes → (from : HostId) (place label : ℕ) (field : FieldId)
     (index written : List Node) → IsAt eyes from place (op.Put field index written) →
@@ -84,9 +108,13 @@ sets_hidden eyes are from to (message.Get request field index) label asked has h
 sets_hidden eyes are from to (message.Set request field index value) label asked has hidden =
     set_field eyes are from request.at label field asked.0 asked.1 asked.2 has hidden (field_at eyes.code field) refl
 sets_hidden eyes are from to (message.Forward request frame x value) label asked has hidden =
-    set_variable eyes are from to request.at label x asked has hidden (variable_at eyes.code x) refl
+    set_variable eyes are from request.at label x (variable_flows eyes are from to request.at x asked) has hidden
+    (variable_at eyes.code x) refl
 sets_hidden eyes are from to (message.Sync request frame entry token) label asked has hidden = tt
 sets_hidden eyes are from to (message.Rgoto frame entry token) label asked has hidden = tt
+sets_hidden eyes are from to (message.RgotoWith frame entry token riders) label asked has hidden =
+    set_riders eyes are from to has.0 label has.1 hidden riders
+    (riders_flow eyes are from to has.0 label entry (names_of riders) has.1 has.2)
 sets_hidden eyes are from to (message.Lgoto token) label asked has hidden = tt
 sets_hidden eyes are from to (message.Value request value) label asked has hidden = tt
 sets_hidden eyes are from to (message.Ack request) label asked has hidden = tt
@@ -105,26 +133,49 @@ deep_there eyes are host place label has hidden plain =
     (are.shaded.instructions host place has.0 has.1).is_shade.under_block in
     ap eyes.sees (sym same) ∙ sym (label_same eyes are host place label has) ∙ hidden
 
-ends_hidden : (eyes : Eyes) → AreEyes eyes → (from to : HostId) (place label : ℕ) (entry : EntryId)
-    (has : HasLabelAt eyes from place label) → sees_at eyes label ≡ false →
-    (has.0.op ≡ op.Go entry to) ⊎ (has.0.op ≡ op.Call entry to) → IsDeepEntry eyes entry.0
-ends_hidden eyes are from to place label entry has hidden (inl is) =
-    let law = shaded_at eyes are from place (op.Go entry to) (has.0, has.1, is) in
-    let hands = law.3 in
-    (hands.it, hands.is, ap eyes.sees hands.block ∙ deep_there eyes are from place label has hidden law.2)
-ends_hidden eyes are from to place label entry has hidden (inr is) =
-    let law = shaded_at eyes are from place (op.Call entry to) (has.0, has.1, is) in
-    let enters = law.3 in
+goes_deep : (eyes : Eyes) → AreEyes eyes → (from to : HostId) (place label : ℕ) (entry : EntryId) →
+    HasLabelAt eyes from place label → sees_at eyes label ≡ false →
+    GoesTo eyes.scene eyes.shades.entries (eyes.shades.at from place) entry.0 to → IsDeepEntry eyes entry.0
+goes_deep eyes are from to place label entry has hidden goes =
+    let hands = goes.3 in
+    (hands.it, hands.is, ap eyes.sees hands.block ∙ deep_there eyes are from place label has hidden goes.2)
+
+calls_deep : (eyes : Eyes) → AreEyes eyes → (from to : HostId) (place label : ℕ) (entry : EntryId) →
+    HasLabelAt eyes from place label → sees_at eyes label ≡ false →
+    CallsOn eyes.scene eyes.shades.entries (eyes.shades.at from place) entry.0 to → IsDeepEntry eyes entry.0
+calls_deep eyes are from to place label entry has hidden calls =
+    let enters = calls.3 in
     let here = eyes.shades.at from place in (
       enters.it,
       enters.is,
       elim (cases_Bool (eyes.sees enters.it.block)) [
         | inl seen ↦
-            absurd (false≢true (sym (deep_there eyes are from place label has hidden law.2)
+            absurd (false≢true (sym (deep_there eyes are from place label has hidden calls.2)
             ∙ are.below here.block enters.it.block enters.below seen))
         | inr not_seen ↦ not_seen
       ],
     )
+
+ends_hidden : (eyes : Eyes) → AreEyes eyes → (from to : HostId) (place label : ℕ) (entry : EntryId)
+    (has : HasLabelAt eyes from place label) → sees_at eyes label ≡ false →
+    (has.0.op ≡ op.Go entry to) ⊎ (has.0.op ≡ op.Call entry to) → IsDeepEntry eyes entry.0
+ends_hidden eyes are from to place label entry has hidden (inl is) =
+    goes_deep eyes are from to place label entry has hidden
+    (shaded_at eyes are from place (op.Go entry to) (has.0, has.1, is))
+ends_hidden eyes are from to place label entry has hidden (inr is) =
+    calls_deep eyes are from to place label entry has hidden
+    (shaded_at eyes are from place (op.Call entry to) (has.0, has.1, is))
+
+-- the same where values ride
+rides_hidden : (eyes : Eyes) → AreEyes eyes → (from to : HostId) (place label : ℕ) (entry : EntryId)
+    (riders : List VarId) (has : HasLabelAt eyes from place label) → sees_at eyes label ≡ false →
+    (has.0.op ≡ op.GoWith entry to riders) ⊎ (has.0.op ≡ op.CallWith entry to riders) → IsDeepEntry eyes entry.0
+rides_hidden eyes are from to place label entry riders has hidden (inl is) =
+    goes_deep eyes are from to place label entry has hidden
+    (shaded_at eyes are from place (op.GoWith entry to riders) (has.0, has.1, is)).0
+rides_hidden eyes are from to place label entry riders has hidden (inr is) =
+    calls_deep eyes are from to place label entry has hidden
+    (shaded_at eyes are from place (op.CallWith entry to riders) (has.0, has.1, is)).0
 
 enters_hidden : (eyes : Eyes) → AreEyes eyes → (from to : HostId) (said : Message) (label : ℕ) →
     IsAskedBy eyes from to said → IsLabelledAs eyes from to said label → sees_at eyes label ≡ false →
@@ -141,10 +192,24 @@ enters_hidden eyes are from to (message.Sync request frame entry token) label as
     )
 enters_hidden eyes are from to (message.Rgoto frame entry token) label asked has hidden =
     ends_hidden eyes are from to has.0 label entry has.1 hidden has.2
+enters_hidden eyes are from to (message.RgotoWith frame entry token riders) label asked has hidden =
+    rides_hidden eyes are from to has.0 label entry (names_of riders) has.1 hidden has.2
 enters_hidden eyes are from to (message.Lgoto token) label asked has hidden = tt
 enters_hidden eyes are from to (message.Value request value) label asked has hidden = tt
 enters_hidden eyes are from to (message.Ack request) label asked has hidden = tt
 enters_hidden eyes are from to (message.Token request token) label asked has hidden = tt
+
+-- what is hidden of each variable that rides, at its place
+pub rider_hidden : (eyes : Eyes) (frame : FrameId) (entry : EntryId) (token : Token) (riders : List Rider) (place : ℕ)
+    (rider : Rider) → SetsHidden eyes (message.RgotoWith frame entry token riders) →
+    slice_get riders place ≡ Some rider →
+    IfSome (variable_at eyes.code rider.0) (λ there. sees_at eyes there.label ≡ false)
+rider_hidden eyes frame entry token [] place rider hidden there = absurd (cc)
+rider_hidden eyes frame entry token (first ∷ riders) zero rider hidden there =
+    let same : first ≡ rider = cc in
+    subst (λ (one : Rider). IfSome (variable_at eyes.code one.0) (λ it. sees_at eyes it.label ≡ false)) same hidden.0
+rider_hidden eyes frame entry token (first ∷ riders) (suc place) rider hidden there =
+    rider_hidden eyes frame entry token riders place rider hidden.1 there
 
 pub flight_enters : (eyes : Eyes) (world : WorldShape) (from to : HostId) (place : ℕ) (flight : Flight) →
     AreEyes eyes → PointsHold eyes world → slice_get (world.flying from to) place ≡ Some flight →

@@ -130,16 +130,20 @@ named_of eyes are host place (op.Put field index value) law on named bad =
     (field_on eyes are field (field_at eyes.code field) refl on named) law.1.2.told bad
 named_of eyes are host place (op.Send x to) law on named bad =
     let label : Label = label_of eyes.scene.basis.labelled x in
-    are.below (eyes.shades.at host place).pc label law.1.1.2 (told_on eyes are to on label named law.1.1.3 bad)
+    are.below (eyes.shades.at host place).pc label law.1.1.2.0 (told_on eyes are to on label named law.1.1.2.1 bad)
 named_of eyes are host place (op.Pass x to) law on named bad =
     let label : Label = label_of eyes.scene.basis.labelled x in
-    are.below (eyes.shades.at host place).pc label law.1.1.2 (told_on eyes are to on label named law.1.1.3 bad)
+    are.below (eyes.shades.at host place).pc label law.1.1.2.0 (told_on eyes are to on label named law.1.1.2.1 bad)
 named_of eyes are host place (op.Ask there to) law on named bad =
     told_on eyes are to on (eyes.shades.at host place).pc named law.1.4 bad
 named_of eyes are host place (op.Go there to) law on named bad =
     told_on eyes are to on (eyes.shades.at host place).pc named law.4 bad
 named_of eyes are host place (op.Call there to) law on named bad =
     told_on eyes are to on (eyes.shades.at host place).pc named law.4 bad
+named_of eyes are host place (op.GoWith there to riders) law on named bad =
+    told_on eyes are to on (eyes.shades.at host place).pc named law.0.4 bad
+named_of eyes are host place (op.CallWith there to riders) law on named bad =
+    told_on eyes are to on (eyes.shades.at host place).pc named law.0.4 bad
 named_of eyes are host place (op.Let x value) law on named bad = absurd named
 named_of eyes are host place (op.Frame site) law on named bad = absurd named
 named_of eyes are host place (op.Arg x value) law on named bad = absurd named

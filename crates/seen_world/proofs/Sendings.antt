@@ -19,6 +19,7 @@ use Rattle.host_code.specs.Code.{CodeShape, CodeFieldShape, instruction_at, fiel
 use Rattle.host_code.specs.Thread.{ThreadShape}
 use Rattle.host_core.specs.Host.{HostShape, Outcome, with_running, after_clearing, value_in_thread, next_request}
 use Rattle.host_core.specs.Turn.{IsTurnOf, IsTurn, IsRunning, after_operation, after_read, after_put, after_go}
+use Rattle.host_core.specs.Turn.{after_go_with, riders_of}
 use Rattle.host_core.specs.Turn.{after_ask, after_own_push, after_own_call, after_return, after_back, with_thread}
 
 -- what is sent, if anything, has the property
@@ -45,6 +46,12 @@ EachSending P Q code host thread (op.Go entry on) =
     (token : Token) → Q token → P on (message.Rgoto thread.frame entry token)
 EachSending P Q code host thread (op.Call entry on) =
     on ≢ host.me → (token : Token) → Q token → P on (message.Rgoto thread.new_frame entry token)
+EachSending P Q code host thread (op.GoWith entry on riders) =
+    (token : Token) → Q token →
+    P on (message.RgotoWith thread.frame entry token (riders_of host thread.frame riders))
+EachSending P Q code host thread (op.CallWith entry on riders) =
+    (token : Token) → Q token →
+    P on (message.RgotoWith thread.new_frame entry token (riders_of host thread.new_frame riders))
 EachSending P Q code host thread (op.Ret x value) =
     (token : Token) → Q token →
     P token.host (message.Forward (next_request host thread.at) token.frame x (value_in_thread host thread value))
@@ -100,6 +107,13 @@ go_sends : (P : HostId → Message → Type 0) (Q : Token → Type 0) (host : Ho
 go_sends P Q host thread frame entry on None holds each = tt
 go_sends P Q host thread frame entry on (Some token) holds each = each token holds
 
+go_with_sends : (P : HostId → Message → Type 0) (Q : Token → Type 0) (host : HostShape) (thread : ThreadShape)
+    (frame : FrameId) (entry : EntryId) (on : HostId) (riders : List VarId) (held : Option Token) → IfSome held Q →
+    ((token : Token) → Q token → P on (message.RgotoWith frame entry token (riders_of host frame riders))) →
+    Sends P (after_go_with host thread frame entry on riders held)
+go_with_sends P Q host thread frame entry on riders None holds each = tt
+go_with_sends P Q host thread frame entry on riders (Some token) holds each = each token holds
+
 own_call_sends : (P : HostId → Message → Type 0) (host : HostShape) (thread : ThreadShape) (found : Option Entry) →
     Sends P (after_own_call host thread found)
 own_call_sends P host thread None = tt
@@ -141,6 +155,10 @@ operation_sends P Q code host thread (op.Call entry on) passes holds each =
     either_sends P (on.0 == host.me.0) _ _ (own_call_sends P host thread (entry_at code entry))
     (λ apart. go_sends P Q host thread thread.new_frame entry on thread.held holds
     (each (elsewhere on host.me apart)))
+operation_sends P Q code host thread (op.GoWith entry on riders) passes holds each =
+    go_with_sends P Q host thread thread.frame entry on riders thread.held holds each
+operation_sends P Q code host thread (op.CallWith entry on riders) passes holds each =
+    go_with_sends P Q host thread thread.new_frame entry on riders thread.held holds each
 operation_sends P Q code host thread (op.Ret x value) passes holds each =
     return_sends P Q code host thread x value thread.held passes holds each
 operation_sends P Q code host thread op.Back passes holds each =

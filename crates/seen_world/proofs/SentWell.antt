@@ -74,6 +74,10 @@ operation_carried eyes are host thread (op.Go entry on) below law at =
     λ token holds. (tt, handed_on eyes (eyes.shades.at host.me thread.at) entry token law.3 holds)
 operation_carried eyes are host thread (op.Call entry on) below law at =
     λ apart token holds. (tt, entered_with eyes are (eyes.shades.at host.me thread.at) entry token law.3 holds)
+operation_carried eyes are host thread (op.GoWith entry on riders) below law at =
+    λ token holds. (tt, handed_on eyes (eyes.shades.at host.me thread.at) entry token law.0.3 holds)
+operation_carried eyes are host thread (op.CallWith entry on riders) below law at =
+    λ token holds. (tt, entered_with eyes are (eyes.shades.at host.me thread.at) entry token law.0.3 holds)
 operation_carried eyes are host thread (op.Ret x value) below law at = λ token holds. (inr (inr (value, at)), tt)
 operation_carried eyes are host thread op.Back below law at = λ token holds. (tt, tt)
 operation_carried eyes are host thread (op.Branch guard target) below law at = tt

@@ -22,13 +22,14 @@ use Rattle.host_code.specs.Thread.Awaited.{value_of_field, acknowledgement, toke
 use Rattle.entry_check.specs.Checks.{MayEnter, IsTrustedFor, MaySee, label_at, label_of_host}
 use Rattle.host_core.specs.Awaiting.{awaits, is_same_answer}
 use Rattle.host_core.specs.Host.{HostShape, Outcome, with_running, with_temporary, with_token}
-use Rattle.host_core.specs.Host.{after_pop}
+use Rattle.host_core.specs.Host.{after_pop, after_entering, with_variables_set}
 use Rattle.host_core.specs.Taking.{IsTaking, Passes, after_passing, after_taking, after_answer, place_of_awaiting}
 use Rattle.event_text.specs.declared.event.Event.TheVariants.{Take}
 use Rattle.net_world.specs.Fits.{ShapeFits, IsStateOf}
 use Rattle.net_world.specs.Flying.{Flight}
 use Rattle.net_world.specs.World.{WorldShape, IsStep}
 use Rattle.net_world.proofs.StepLaws.{take_puts}
+use Rattle.token_laws.proofs.Riding.{riding_is}
 use Rattle.seen_world.specs.Eyes.{Eyes, AreEyes}
 use Rattle.seen_world.specs.Points.{AnsweredWell, RunsWell, WaitsWell, StandsWell, HostKeeps}
 use Rattle.seen_world.specs.Points.{HostsKeep, CarriesWell, MayHold}
@@ -146,6 +147,12 @@ passing_kept eyes are host from (message.Sync request frame entry token) keeps r
 passing_kept eyes are host from (message.Rgoto frame entry token) keeps rests carries passes =
     entered_kept eyes are host entry frame token (entry_at eyes.code entry) refl (apart_of entry passes.0)
     (on_me eyes host.me from entry passes) carries (keeps.entries, keeps.waiting)
+passing_kept eyes are host from (message.RgotoWith frame entry token riders) keeps rests carries passes =
+    let rode : HostShape = record host { variables = (with_variables_set host frame riders).variables } in
+    subst (λ (one : HostShape). HostKeeps eyes host.me (after_entering one (entry_at eyes.code entry) frame token))
+    (riding_is host frame riders)
+    (entered_kept eyes are rode entry frame token (entry_at eyes.code entry) refl (apart_of entry passes.0.0)
+    (on_me eyes host.me from entry passes.0) carries (keeps.entries, keeps.waiting))
 passing_kept eyes are host from (message.Lgoto token) keeps rests carries passes =
     let same : with_running host None ≡ host = ap (with_running host) (sym rests) in
     subst (λ (one : HostShape). HostKeeps eyes host.me (after_pop eyes.code one host.entries)) same

@@ -26,7 +26,8 @@ use Rattle.host_core.specs.Host.{HostShape, Outcome, with_running, after_clearin
 use Rattle.host_core.specs.Host.{with_temporary, with_token, new_token, after_pop, after_entering, after_asking}
 use Rattle.host_core.specs.Host.{next_request}
 use Rattle.host_core.specs.Turn.{IsTurnOf, IsTurn, IsRunning, after_operation, after_read, after_put, after_go}
-use Rattle.host_core.specs.Turn.{after_ask, after_own_push, after_own_call, after_return, after_back, with_thread}
+use Rattle.host_core.specs.Turn.{after_go_with, after_ask, after_own_push, after_own_call, after_return, after_back}
+use Rattle.host_core.specs.Turn.{with_thread}
 use Rattle.event_text.specs.declared.event.Event.TheVariants.{Turn}
 use Rattle.net_world.specs.Fits.{ShapeFits}
 use Rattle.net_world.specs.World.{WorldShape, state_at, IsStep}
@@ -409,6 +410,14 @@ go_kept eyes host thread frame entry on None stand well =
 go_kept eyes host thread frame entry on (Some held) stand well =
     record { running = tt; waiting = stand.1; entries = stand.0 }
 
+go_with_kept : (eyes : Eyes) (host : HostShape) (thread : ThreadShape) (frame : FrameId) (entry : EntryId) (on : HostId)
+    (riders : List VarId) (held : Option Token) → Stand eyes host → RunsWell eyes host.me thread →
+    Kept eyes host (after_go_with host thread frame entry on riders held)
+go_with_kept eyes host thread frame entry on riders None stand well =
+    record { running = well; waiting = stand.1; entries = stand.0 }
+go_with_kept eyes host thread frame entry on riders (Some held) stand well =
+    record { running = tt; waiting = stand.1; entries = stand.0 }
+
 ask_kept : (eyes : Eyes) (host : HostShape) (thread : ThreadShape) (entry : EntryId) (on : HostId)
     (held : Option Token) → Stand eyes host → RunsWell eyes host.me thread → (next : Ahead) →
     (eyes.shades.at host.me thread.at).temps ≡ [] → (eyes.shades.at host.me thread.at).calls ≡ false →
@@ -588,6 +597,10 @@ operation_kept eyes are host thread (op.Call entry on) passes count obeys stand 
         fits.0.1 in
         own_call_kept eyes are host thread entry (entry_at eyes.code entry) refl there stand well law.0.0 law.3
     by false is = go_kept eyes host thread thread.new_frame entry on thread.held stand well
+operation_kept eyes are host thread (op.GoWith entry on riders) passes count obeys stand well below law fits at =
+    go_with_kept eyes host thread thread.frame entry on riders thread.held stand well
+operation_kept eyes are host thread (op.CallWith entry on riders) passes count obeys stand well below law fits at =
+    go_with_kept eyes host thread thread.new_frame entry on riders thread.held stand well
 operation_kept eyes are host thread (op.Ret x value) passes count obeys stand well below law fits at =
     return_kept eyes host thread x value thread.held passes stand well
     (clears eyes host.me thread false law.0 well law.2 law.1.3 (λ no. well.frames law.1.0)) at

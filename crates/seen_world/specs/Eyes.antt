@@ -94,4 +94,6 @@ Names code (op.Pass x to) on = to ≡ on
 Names code (op.Ask there to) on = to ≡ on
 Names code (op.Go there to) on = to ≡ on
 Names code (op.Call there to) on = to ≡ on
+Names code (op.GoWith there to riders) on = to ≡ on
+Names code (op.CallWith there to riders) on = to ≡ on
 Names code other on = ⊥

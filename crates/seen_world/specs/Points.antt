@@ -2,6 +2,7 @@
 -- host is told what it may not see.
 use Rattle.std.specs.Prelude.{◌≡◌, ◌≢◌, ◌⊎◌, ℕ, ◌+◌, ℤ, true, false, List, length, All, Some, IfSome, IsSomeAnd}
 use Rattle.std.specs.Prelude.{slice_get, ⊤}
+use Rattle.std.specs.List.{AllByRecursion}
 use Rattle.js_base.specs.declared.ids.HostId.{HostId}
 use Rattle.capability.specs.declared.token.Token.{Token}
 use Rattle.ics_stack.specs.declared.stack.StackEntry.{StackEntry}
@@ -12,11 +13,12 @@ use Rattle.host_code.specs.declared.code_expr.Node.{Node}
 use Rattle.host_code.specs.declared.instruction.Instr.{Instr}
 use Rattle.host_code.specs.declared.instruction.Op.{Op}
 use Rattle.host_code.specs.declared.instruction.Op.TheVariants as op
+use Rattle.host_code.specs.Riders.{names_of}
 use Rattle.host_code.specs.Code.{CodeShape, halt, instruction_at, field_at, variable_at, entry_at}
 use Rattle.host_code.specs.Thread.{ThreadShape, WaitingShape, Awaited}
 use Rattle.host_code.specs.Thread.Awaited.{value_of_field, acknowledgement, token_of_entry}
 use Rattle.entry_check.specs.declared.ask.Ask.TheVariants as ask
-use Rattle.entry_check.specs.Checks.{May}
+use Rattle.entry_check.specs.Checks.{May, MayRide}
 use Rattle.host_core.specs.Host.{HostShape, with_temporary, with_token}
 use Rattle.net_world.specs.Flying.{Flight}
 use Rattle.net_world.specs.Told.{token_in}
@@ -131,6 +133,7 @@ CarriesWell eyes to (message.Sync request frame entry token) =
     (may : MayEnterWith eyes entry token)
     × (is_hidden eyes entry.0 ≡ false → eyes.sees may.shade.block ≡ true)
 CarriesWell eyes to (message.Rgoto frame entry token) = MayEnterWith eyes entry token
+CarriesWell eyes to (message.RgotoWith frame entry token riders) = MayEnterWith eyes entry token
 CarriesWell eyes to (message.Token request token) = MayHold eyes (eyes.shades.at to (request.at + 1)) token
 CarriesWell eyes to other = ⊤
 
@@ -174,7 +177,7 @@ HasLabelAt eyes host place label =
 
 -- A message carries the label of the instruction that it names, a request that of one of its sender, and an answer that
 -- of one of the host that it comes to. A message that hands control over names none, and carries the label of an
--- instruction of its sender that does so.
+-- instruction of its sender that does so, with the same variables in the same order where values ride.
 abbrev pub IsLabelledAs : Eyes → HostId → HostId → Message → ℕ → Type 0
 IsLabelledAs eyes from to (message.Get request field index) label = HasLabelAt eyes from request.at label
 IsLabelledAs eyes from to (message.Set request field index value) label = HasLabelAt eyes from request.at label
@@ -183,6 +186,9 @@ IsLabelledAs eyes from to (message.Sync request frame entry token) label = HasLa
 IsLabelledAs eyes from to (message.Rgoto frame entry token) label =
     (place : ℕ) × (has : HasLabelAt eyes from place label)
     × ((has.0.op ≡ op.Go entry to) ⊎ (has.0.op ≡ op.Call entry to))
+IsLabelledAs eyes from to (message.RgotoWith frame entry token riders) label =
+    (place : ℕ) × (has : HasLabelAt eyes from place label)
+    × ((has.0.op ≡ op.GoWith entry to (names_of riders)) ⊎ (has.0.op ≡ op.CallWith entry to (names_of riders)))
 IsLabelledAs eyes from to (message.Lgoto token) label =
     (place : ℕ) × (has : HasLabelAt eyes from place label) × (has.0.op ≡ op.Back)
 IsLabelledAs eyes from to (message.Value request value) label = HasLabelAt eyes to request.at label
@@ -198,6 +204,7 @@ IsRequest (message.Set request field index value) = ⊤
 IsRequest (message.Forward request frame x value) = ⊤
 IsRequest (message.Sync request frame entry token) = ⊤
 IsRequest (message.Rgoto frame entry token) = ⊤
+IsRequest (message.RgotoWith frame entry token riders) = ⊤
 IsRequest other = ⊥
 
 -- the host that a request comes to grants it
@@ -207,6 +214,8 @@ IsGrantedTo eyes from to (message.Set request field index value) = May eyes.code
 IsGrantedTo eyes from to (message.Forward request frame x value) = May eyes.code to (ask.Forward x) from
 IsGrantedTo eyes from to (message.Sync request frame entry token) = May eyes.code to (ask.Enter entry) from
 IsGrantedTo eyes from to (message.Rgoto frame entry token) = May eyes.code to (ask.Enter entry) from
+IsGrantedTo eyes from to (message.RgotoWith frame entry token riders) =
+    May eyes.code to (ask.Enter entry) from × MayRide eyes.code to from (names_of riders)
 IsGrantedTo eyes from to other = ⊤
 
 -- ---- flights
@@ -221,12 +230,14 @@ pub record IsInFlight (eyes : Eyes) (from to : HostId) (flight : Flight) : Type 
   pub shows : sees_at eyes flight.label ≡ true →
       ShowsNoHidden eyes flight.message × AsksForNoHidden eyes flight.message
 
--- the variable or the field that a message sets may not be seen
+-- the field that a message sets may not be seen, nor the variable, nor any of those whose values ride with it
 abbrev pub SetsHidden : Eyes → Message → Type 0
 SetsHidden eyes (message.Set request field index value) =
     IfSome (field_at eyes.code field) (λ there. sees_at eyes there.label ≡ false)
 SetsHidden eyes (message.Forward request frame x value) =
     IfSome (variable_at eyes.code x) (λ there. sees_at eyes there.label ≡ false)
+SetsHidden eyes (message.RgotoWith frame entry token riders) =
+    AllByRecursion (λ rider. IfSome (variable_at eyes.code rider.0) (λ there. sees_at eyes there.label ≡ false)) riders
 SetsHidden eyes other = ⊤
 
 -- an entry stands in a block that may not be seen
@@ -238,6 +249,7 @@ IsDeepEntry eyes number =
 abbrev pub EntersHidden : Eyes → Message → Type 0
 EntersHidden eyes (message.Sync request frame entry token) = IsDeepEntry eyes entry.0
 EntersHidden eyes (message.Rgoto frame entry token) = IsDeepEntry eyes entry.0
+EntersHidden eyes (message.RgotoWith frame entry token riders) = IsDeepEntry eyes entry.0
 EntersHidden eyes other = ⊤
 
 -- ---- worlds

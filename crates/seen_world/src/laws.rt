@@ -3,11 +3,15 @@
 ghost use Rattle.std.specs.Prelude.{◌≡◌, ◌↔◌, ℕ, Bool, ℤ, true, false, List, Some, None, IfSome, IsTrue, slice_get};
 ghost use Rattle.js_base.specs.declared.ids.HostId.{HostId};
 ghost use Rattle.js_base.specs.declared.ids.FieldId.{FieldId};
+ghost use Rattle.js_base.specs.declared.ids.FrameId.{FrameId};
+ghost use Rattle.js_base.specs.declared.ids.EntryId.{EntryId};
 ghost use Rattle.label_lattice.specs.declared.label.Label.{Label};
+ghost use Rattle.capability.specs.declared.token.Token.{Token};
 ghost use Rattle.host_decl.specs.Hosts as declared_hosts;
 ghost use Rattle.host_code.specs.declared.code.Entry.{Entry};
 ghost use Rattle.host_code.specs.declared.instruction.Instr.{Instr};
-ghost use Rattle.host_code.specs.Code.{CodeShape, CodeFieldShape, instruction_at, field_at};
+ghost use Rattle.host_code.specs.Code.{CodeShape, CodeFieldShape, instruction_at, field_at, variable_at};
+ghost use Rattle.host_code.specs.Riders.{Rider};
 ghost use Rattle.host_code.specs.Sound.{IsSoundCode};
 ghost use Rattle.host_code.specs.Thread.{ThreadShape};
 ghost use Rattle.host_core.specs.Fits.{StateFits};
@@ -15,6 +19,7 @@ ghost use Rattle.host_core.specs.Host as host_state;
 ghost use Rattle.host_core.specs.Taking.{IsTaking, Passes};
 ghost use Rattle.host_core.specs.Turn.{IsTurn, label_of_turn};
 ghost use Rattle.host_code.specs.declared.message.Message.{Message};
+ghost use Rattle.host_code.specs.declared.message.Message.TheVariants as message;
 ghost use Rattle.event_text.specs.declared.event.Event.{Event};
 ghost use Rattle.event_text.specs.declared.event.Event.TheVariants.{Take, Turn};
 ghost use Rattle.net_world.specs.Flying.{Flight};
@@ -181,6 +186,11 @@ pub fn point_laws()
     ensures sets { (eyes : Eyes) (world : WorldShape) (from to : HostId) (place : ℕ) (flight : Flight) →
         AreEyes eyes → PointsHold eyes world → slice_get (world.flying from to) place ≡ Some flight →
         sees_at eyes flight.label ≡ false → SetsHidden eyes flight.message }
+    // Where values ride with a message, it sets each of the variables that ride.
+    ensures rides { (eyes : Eyes) (frame : FrameId) (entry : EntryId) (token : Token) (riders : List Rider) (place : ℕ)
+        (rider : Rider) →
+        SetsHidden eyes (message.RgotoWith frame entry token riders) → slice_get riders place ≡ Some rider →
+        IfSome (variable_at eyes.code rider.0) (λ there. sees_at eyes there.label ≡ false) }
     // Nor may the block of the entry that such a message pushes, or at which it hands control over.
     ensures enters { (eyes : Eyes) (world : WorldShape) (from to : HostId) (place : ℕ) (flight : Flight) →
         AreEyes eyes → PointsHold eyes world → slice_get (world.flying from to) place ≡ Some flight →

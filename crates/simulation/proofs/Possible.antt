@@ -40,7 +40,7 @@ use Rattle.typed_steps.proofs.Transfers.{calm_calling}
 use Rattle.typed_steps.proofs.ResultsGiven.{return_at}
 use Rattle.typed_steps.proofs.Holding.{holder_agrees}
 use Rattle.typed_steps.proofs.Pops.{top_of}
-use Rattle.typed_steps.proofs.Takes.{may_here}
+use Rattle.typed_steps.proofs.Takes.{may_here, arrival_passes}
 use Rattle.typed_steps.proofs.Basics.{none_there}
 use Rattle.simulation.proofs.Simulates.{only, Holder, runs, asked, answered, gives, goes, returns, halted, IsIdle}
 use Rattle.simulation.proofs.Simulates.{AreIdle, Stands, IsOrderly, AreStacks, Simulates}
@@ -233,9 +233,8 @@ happens split c world sim fits (goes from to) stands idle event is =
     let going = stands.1 in
     let target = target_there split world from to going.flight fits sim.orderly going.flying in
     let one = take_possible split world from to going.flight target.0 target.1 (idle to target.0 target.1 tt).0
-    going.flying (subst (Passes split.code target.0 from) (sym going.message)
-    (may_here split target.0 to (ask.Enter (record { 0 = going.number })) from
-    (sim.orderly.numbers to target.0 target.1) going.may)) in
+    going.flying (arrival_passes split target.0 to from going.flight.message going.arrival
+    (sim.orderly.numbers to target.0 target.1) going.arrives going.goes.may) in
     (one.0, subst (λ e. IsStep split.code world e one.0) same one.1)
 happens split c world sim fits (returns from to) stands idle event is =
     let same : Take from to 0 ≡ event = cc in

@@ -9,14 +9,13 @@ use Rattle.js_base.specs.declared.ids.VarId.{VarId}
 use Rattle.jif_tree.specs.SourceRun.{Configuration, IsAtEnd}
 use Rattle.capability.specs.declared.token.Token.{Token}
 use Rattle.ics_stack.specs.Stack.{top_token}
-use Rattle.host_code.specs.declared.code.Entry.{Entry}
 use Rattle.host_code.specs.declared.message.Message.TheVariants as message
-use Rattle.host_code.specs.Code.{entry_at}
 use Rattle.host_code.specs.Thread.{ThreadShape, WaitingShape}
 use Rattle.host_code.specs.Thread.Awaited.{acknowledgement}
 use Rattle.entry_check.specs.declared.ask.Ask.TheVariants as ask
 use Rattle.entry_check.specs.Checks.{May}
-use Rattle.host_core.specs.Host.{HostShape, thread_at}
+use Rattle.host_core.specs.Host.{HostShape}
+use Rattle.split_rules.specs.Handing.{Arrival, arrival_in}
 use Rattle.split_rules.specs.Pace.{PACE}
 use Rattle.net_world.specs.Flying.{Flight, Flying, with_flights}
 use Rattle.net_world.specs.World.{WorldShape, state_at, misbehaves}
@@ -24,7 +23,7 @@ use Rattle.typed_steps.specs.Views.{Split, Link, entries_of, View}
 use Rattle.typed_steps.specs.Chains.{chain_due, IsChain}
 use Rattle.typed_steps.specs.Threads.{IsLeft, IsAt}
 use Rattle.typed_steps.specs.Variables.{Sends, Holds}
-use Rattle.typed_steps.specs.Requests.{IsRequest, IsAnswer, GivesResult}
+use Rattle.typed_steps.specs.Requests.{IsRequest, IsAnswer, GivesResult, GoesTo}
 use Rattle.typed_steps.specs.Weights.{Paced, STEP, weight_at, IsFueledRequest}
 use Rattle.ics_stack.specs.declared.stack.StackEntry.{StackEntry}
 use Rattle.std.specs.Prelude.{◌==◌, if◌then◌else◌}
@@ -109,20 +108,14 @@ pub record IsGiving (split : Split) (c : Configuration) (view : View) (world : W
   pub may : May split.code owner (ask.Forward x) holder
   pub result : GivesResult split c view holder waits.thread.thread frame x value owner
 
--- the token is in flight to an entry
+-- the token is in flight to an entry, with all that is still to be sent
 pub record IsGoing (split : Split) (c : Configuration) (view : View) (world : WorldShape) (from to : HostId) :
     Type 0 where
-  pub number : ℕ
-  pub there : Entry
   pub flight : Flight
-  pub token : Token
-  pub frame : FrameId
+  pub arrival : Arrival
   pub flying : world.flying ≡ only from to (flight ∷ [])
-  pub message : flight.message ≡ message.Rgoto frame (record { 0 = number }) token
-  pub may : May split.code to (ask.Enter (record { 0 = number })) from
-  pub entry : entry_at split.code (record { 0 = number }) ≡ Some there
-  pub none_out : view.out ≡ []
-  pub at : IsAt split c view to (thread_at there frame token)
+  pub arrives : arrival_in flight.message ≡ Some arrival
+  pub goes : GoesTo split c view from to arrival
 
 -- the token is in flight back to who gave it
 pub record IsReturning (split : Split) (c : Configuration) (view : View) (world : WorldShape) (from to : HostId) :
@@ -174,7 +167,7 @@ IsFueled split c view world (answered holder owner) stands fuel =
 IsFueled split c view world (gives holder owner) stands fuel =
     weight_at split view.chain holder stands.1.waits.thread.thread.at + 2 ≤ fuel + STEP
 IsFueled split c view world (goes from to) stands fuel =
-    weight_at split view.chain to stands.1.there.at + 1 ≤ fuel
+    weight_at split view.chain to stands.1.goes.there.at + 1 ≤ fuel
 IsFueled split c view world (returns from to) stands fuel = 3 * (PACE + length view.chain) ≤ fuel + 1
 IsFueled split c view world halted stands fuel = ⊤
 

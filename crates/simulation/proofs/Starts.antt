@@ -1,6 +1,6 @@
 -- The world before the first event stands for the start of the plain run.
 use Rattle.std.proofs.Common.{◌≡◌, ◌≢◌, ◌∙◌, ℕ, zero, suc, ◌+◌, ◌<◌, inl, inr, Bool, false, List, [], ◌∷◌}
-use Rattle.std.proofs.Common.{map, length, Option, Some, None, refl, ap, sym, subst, arith}
+use Rattle.std.proofs.Common.{length, Option, Some, None, refl, ap, sym, subst, arith}
 use Rattle.std.specs.Prelude.{ℤ, pos, ◌≤◌, ◌==◌, if◌then◌else◌, All, IsSomeAnd, slice_get}
 use Rattle.std.proofs.lemmas.Bool.Decides.{eqb_tells}
 use Rattle.std.proofs.lemmas.Bool.{eq-eqb, ne_eqb}
@@ -25,8 +25,6 @@ use Rattle.host_core.specs.Start.{main_frame, last_token, idle_host, root_host, 
 use Rattle.net_world.specs.World.{AreHostsOf, named_host, world_at_start, state_at, given}
 use Rattle.net_world.specs.World.{is_absent, host_before, hosts_before}
 use Rattle.split_rules.specs.Pace.{PACE}
-use Rattle.split_rules.specs.Positions as positions
-use Rattle.split_rules.specs.Typing as typing
 use Rattle.net_world.proofs.Present.{same_id}
 use Rattle.typed_steps.specs.Views.{Split}
 use Rattle.typed_steps.specs.Variables.{AreFresh, Holds}

@@ -6,7 +6,6 @@ use Rattle.std.specs.Prelude.{slice_get, position, remove}
 use Rattle.std.specs.Option.{option_map}
 use Rattle.std.proofs.lemmas.Bool.{eq-eqb}
 use Rattle.js_base.specs.declared.ids.HostId.{HostId}
-use Rattle.js_base.specs.declared.ids.EntryId.{EntryId}
 use Rattle.js_base.specs.declared.ids.RequestId.{RequestId}
 use Rattle.js_base.proofs.Options.{some_same}
 use Rattle.jif_tree.specs.SourceRun.{Configuration, step}
@@ -18,13 +17,13 @@ use Rattle.host_code.specs.Thread.Awaited.{value_of_field, acknowledgement, toke
 use Rattle.host_core.specs.Awaiting.{awaits, is_same_answer}
 use Rattle.host_core.specs.Host.{HostShape, Outcome, without_message}
 use Rattle.host_core.specs.Host.{after_pop}
-use Rattle.host_core.specs.Host.{with_running, thread_at}
+use Rattle.host_core.specs.Host.{with_running}
 use Rattle.host_core.specs.Taking.{IsTaking, place_of_awaiting}
 use Rattle.split_rules.specs.Pace.{PACE}
 use Rattle.net_world.specs.Flying.{Flight}
 use Rattle.net_world.specs.World.{WorldShape, IsTakeStep, state_at, without_flight, after_step}
 use Rattle.net_world.proofs.Moved.{Moved, mover_state, other_state, moved_silent}
-use Rattle.typed_steps.specs.Views.{Split, View}
+use Rattle.typed_steps.specs.Views.{Split, View, with_out}
 use Rattle.typed_steps.specs.Chains.{IsChain}
 use Rattle.typed_steps.specs.Threads.{IsAt}
 use Rattle.typed_steps.specs.Variables.{Sends, Holds}
@@ -32,7 +31,6 @@ use Rattle.typed_steps.specs.Requests.{IsAnswer, starting}
 use Rattle.typed_steps.specs.Weights.{Paced, STEP, weight_at, IsFueledRequest}
 use Rattle.typed_steps.proofs.HeldSteps.{holds_same, holds_calm}
 use Rattle.typed_steps.proofs.Takes.{passing}
-use Rattle.typed_steps.proofs.Turns.{sends_nothing}
 use Rattle.simulation.proofs.Simulates.{on_stack, only, runs, asked, answered, gives, goes, returns, halted, Holder}
 use Rattle.simulation.proofs.Simulates.{IsIdle, IsWaiting, IsAsked, IsAnswered, IsGiving, IsGoing, IsReturning, AreIdle}
 use Rattle.simulation.proofs.Simulates.{Simulates, Falls, Goes}
@@ -260,28 +258,25 @@ answer_taken split c world after sim holder owner idle none_halted is_chain wait
 
 -- ---- the token
 
--- an entry is gone to
+-- an entry is gone to, and what rode is there
 token_goes : (split : Split) (c : Configuration) (world after : WorldShape) (sim : Simulates split c world)
     (from to : HostId) → AreIdle (goes from to) world → NoneHalted world →
     IsChain split sim.view.naming sim.view.chain → (going : IsGoing split c sim.view world from to) (old : HostShape) →
     state_at world to ≡ Some old → (outcome : Outcome) (label : ℕ) →
-    IsTaking split.code old from (message.Rgoto going.frame (record { 0 = going.number }) going.token) outcome →
+    IsTaking split.code old from going.flight.message outcome →
     after_step (without_flight world from to 0) to outcome (Some label) ≡ after →
-    (Paced split → weight_at split sim.view.chain to going.there.at + 1 ≤ sim.fuel) → Goes split c sim.fuel after
+    (Paced split → weight_at split sim.view.chain to going.goes.there.at + 1 ≤ sim.fuel) → Goes split c sim.fuel after
 token_goes split c world after sim from to idle none_halted is_chain going old obeys outcome label takes leaves fueled =
-    let me = sim.orderly.numbers to old obeys in
-    let entry : EntryId = record { 0 = going.number } in
-    let thread = thread_at going.there going.frame going.token in
-    let new = with_running old (Some thread) in
-    let done : without_message new ≡ outcome =
-    typed.token_goes split from to old entry going.there going.frame going.token outcome me going.entry going.may takes
-    in
+    let comes = typed.arrival_taken split c sim.view world from to old
+    (owner_of split c world sim is_chain to old obeys) going.flight.message going.arrival going.arrives going.goes
+    outcome takes in
+    let steady = comes.steady in
     let rested = idle to old obeys tt in
-    begins split c world after sim (goes from to) from to going.flight sim.view idle none_halted (λ other apart. tt)
-    going.flying old new thread obeys refl refl refl refl rested.1 (sim.stacks to old obeys) (λ other apart. refl)
-    outcome label done leaves is_chain
-    (λ moved. holds_same split c sim.view world after to old new _ sim.holds obeys moved refl refl refl)
-    (sends_nothing split sim.view new to going.none_out) going.at (λ paced. let some = fueled paced in omega arith)
+    begins split c world after sim (goes from to) from to going.flight (with_out sim.view []) idle none_halted
+    (λ other apart. tt) going.flying old comes.new _ obeys steady.me steady.ignored steady.halted comes.running
+    (steady.waiting ∙ rested.1) (comes.entries ∙ sim.stacks to old obeys) (λ other apart. refl) outcome label comes.is
+    leaves is_chain (λ moved. comes.keeps after moved.hosts) tt going.goes.at
+    (λ paced. let some = fueled paced in omega arith)
 
 -- the token comes back
 token_returns : (split : Split) (c : Configuration) (world after : WorldShape) (sim : Simulates split c world)
@@ -442,12 +437,11 @@ pub going_taken : (split : Split) (c : Configuration) (world after : WorldShape)
     IsChain split sim.view.naming sim.view.chain →
     (stands : IsGoing split c sim.view world sender target) → (from to : HostId) (place : ℕ) →
     IsTakeStep split.code world from to place after → (Paced split →
-    weight_at split sim.view.chain target stands.there.at + 1 ≤ sim.fuel) → Goes split c sim.fuel after
+    weight_at split sim.view.chain target stands.goes.there.at + 1 ≤ sim.fuel) → Goes split c sim.fuel after
 going_taken split c world after sim sender target idle none_halted is_chain stands from to place step fueled =
     let one = takes_one split world after from to sender target place stands.flight stands.flying step in
     token_goes split c world after sim sender target idle none_halted is_chain stands one.old one.obeys one.outcome
-    one.label (subst (λ m. IsTaking split.code one.old sender m one.outcome) stands.message one.takes) one.leaves
-    fueled
+    one.label one.takes one.leaves fueled
 
 -- the token is taken by who gave it
 pub returning_taken : (split : Split) (c : Configuration) (world after : WorldShape) (sim : Simulates split c world)

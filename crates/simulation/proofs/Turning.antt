@@ -173,16 +173,16 @@ module _ (split : Split) (c : Configuration) (world after : WorldShape) (host : 
   -- ---- the thread ends
 
   -- and the token goes to another host
-  passes_on : (sender : ℕ) (to : HostId) (m : Message) (holder : Holder) → t.view.out ≡ [] →
+  passes_on : (to : HostId) (m : Message) (holder : Holder) →
       with_message (with_running t.run.state None) to m ≡ t.outcome →
       ((other : HostId) → other.0 ≢ host.0 → IsIdle holder other → other.0 ≢ host.0) →
       (NoneHalted after → GoesOn holder after) → (fuel : ℕ) → (Paced split → fuel < t.fuel) →
       (stands : after.flying ≡ only host to (record { message = m; label = t.label } ∷ []) →
-      Stands split c (starting t.view t.view.chain sender) after holder) →
+      Stands split c t.view after holder) →
       ((flying : after.flying ≡ only host to (record { message = m; label = t.label } ∷ [])) → Paced split →
-      IsFueled split c (starting t.view t.view.chain sender) after holder (stands flying) fuel) →
+      IsFueled split c t.view after holder (stands flying) fuel) →
       Goes split c t.fuel after
-  passes_on sender to m holder none is apart halts fuel less stands fueled =
+  passes_on to m holder is apart halts fuel less stands fueled =
       let old = t.run.state in
       let new = with_running old None in
       let flying = only host to (record { message = m; label = t.label } ∷ []) in
@@ -190,7 +190,7 @@ module _ (split : Split) (c : Configuration) (world after : WorldShape) (host : 
       t.run.flying is t.leaves in
       inl (record {
         now = record {
-          view = starting t.view t.view.chain sender;
+          view = t.view;
           holder = holder;
           orderly = orderly_moved split world after host old new flying t.orderly t.run.there moved refl refl;
           stacks = stacks_same t.view.chain world after host old new flying t.stacks t.run.there moved refl;
@@ -198,8 +198,7 @@ module _ (split : Split) (c : Configuration) (world after : WorldShape) (host : 
               (λ rests. (refl, t.run.waiting));
           goes_on = halts (none_halted_moved world after host old new flying t.none_halted t.run.there moved
               (t.none_halted host old t.run.there));
-          holds = holds_calm split c t.view after t.view.chain sender
-              (holds_same split c t.view world after host old new flying t.holds t.run.there moved refl refl refl) none;
+          holds = holds_same split c t.view world after host old new flying t.holds t.run.there moved refl refl refl;
           stands = stands moved.flying;
           fuel = fuel;
           fueled = λ paced. fueled moved.flying paced;
@@ -323,28 +322,22 @@ module _ (split : Split) (c : Configuration) (world after : WorldShape) (host : 
       ))
       (λ moved paced. (g.pace paced).1)
   goes_of (turns.hands h) =
-      passes_on h.call h.to (message.Rgoto h.frame h.entry h.token) (goes host h.to) h.none_out h.is
+      passes_on h.to h.said (goes host h.to) h.is
       (λ other apart rests. apart) (λ none. none) (weight_at split t.view.chain host t.run.thread.at - 1)
       (λ paced. let some = (h.pace paced).0 in let before = t.fueled paced in omega arith)
       (λ flying. (
         t.is_chain,
         record {
-          number = h.entry.0;
-          there = h.there;
-          flight = record { message = message.Rgoto h.frame h.entry h.token; label = t.label };
-          token = h.token;
-          frame = h.frame;
+          flight = record { message = h.said; label = t.label };
+          arrival = h.arrival;
           flying = flying;
-          message = refl;
-          may = h.may;
-          entry = h.found;
-          none_out = refl;
-          at = h.at;
+          arrives = h.arrives;
+          goes = h.goes;
         },
       ))
       (λ flying paced. (h.pace paced).1)
   goes_of (turns.returns r) =
-      passes_on t.view.sender r.token.host (message.Lgoto r.token) (returns host r.token.host) r.gives_up.none_out r.is
+      passes_on r.token.host (message.Lgoto r.token) (returns host r.token.host) r.is
       (λ other apart rests. apart) (λ none. none) (weight_at split t.view.chain host t.run.thread.at - 1)
       (λ paced. let some = (r.pace paced).0 in let before = t.fueled paced in omega arith)
       (λ flying. (
@@ -356,7 +349,7 @@ module _ (split : Split) (c : Configuration) (world after : WorldShape) (host : 
           message = refl;
           host = refl;
           top = r.top;
-          none_out = refl;
+          none_out = r.gives_up.none_out;
           count = r.gives_up.count;
           left = r.gives_up.left;
         },

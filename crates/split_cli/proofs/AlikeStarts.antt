@@ -1,5 +1,5 @@
 -- Starting values that misbehaving hosts may not tell apart, whoever of two runs comes first.
-use Rattle.std.proofs.Common.{◌≡◌, ◌∙◌, ℕ, zero, suc, ◌+◌, ◌<◌, true, false, List, [], ◌∷◌, length}
+use Rattle.std.proofs.Common.{◌≡◌, ◌∙◌, ℕ, zero, suc, ◌+◌, ◌<◌, false, List, [], ◌∷◌, length}
 use Rattle.std.proofs.Common.{Option, Some, None, slice_get, refl, sym, ap, subst, ⊎_elim, arith}
 use Rattle.std.specs.Prelude.{◌≢◌, ℤ, unwrap_or, IsSome, IsSomeAnd}
 use Rattle.std.proofs.lemmas.Bool.{true≢false}

@@ -70,7 +70,8 @@ use Rattle.front_end.proofs.PlacedStops.{placed_stops}
 use Rattle.split_cli.proofs.ReplayDue.{OwnAtStart, own_in_first}
 use Rattle.split_cli.proofs.ScriptStarts.{script_starts}
 use Rattle.split_cli.proofs.ScriptNumbers.{events_have, starts_have}
-use Rattle.split_cli.proofs.SetSources.{ReadingLaws, PlanLaws, GrantedLaw, set_there, has_numbers}
+use Rattle.split_cli.proofs.SetSources.{ReadingLaws, PlanLaws, GrantedLaw, set_there, checked_there, has_numbers}
+use Rattle.split_cli.proofs.UnalteredRuns.{UnalteredLaws, unaltered}
 
 -- ---- the laws of one program in its places
 
@@ -132,6 +133,7 @@ pub record AllLaws : Type 0 where
   pub next : NextLaw
   pub ending : EndingLaw
   pub altered : AlteredLaw
+  pub sources : UnalteredLaws
   pub scripts : ScriptLaws
 
 -- what the laws ask for
@@ -207,6 +209,12 @@ played laws program hosts script placed tree said last is_placed short read ran 
     let events = events_in said.events in
     let set = set_of laws program hosts placed tree is_placed in
     let settings = settings_in_front (map form_of code.fields) (past_bad code.hosts (said_lines script)) in
+    let follows = laws.altered tree (program_of placed) said.bad said.start events last set
+    (code_has (program_of placed) (has_numbers laws.reading laws.plans laws.granted program hosts placed
+    is_placed.accepted))
+    (said_numbers laws program hosts script placed said is_placed.accepted read)
+    (reached_there laws program hosts script placed tree said last is_placed read ran)
+    (events_have code script said read) in
     record {
       said = said;
       last = last;
@@ -215,12 +223,12 @@ played laws program hosts script placed tree said last is_placed short read ran 
       starts = script_starts code script said read
           ∙ ap (λ (rows : List (List ℤ)). after_settings rows settings)
           (values_of_text placed tree is_placed.tree_is);
-      altered = laws.altered tree (program_of placed) said.bad said.start events last set
-          (code_has (program_of placed)
-          (has_numbers laws.reading laws.plans laws.granted program hosts placed is_placed.accepted))
-          (said_numbers laws program hosts script placed said is_placed.accepted read)
-          (reached_there laws program hosts script placed tree said last is_placed read ran)
-          (events_have code script said read);
+      altered = follows;
+      unaltered = λ pure steps halts.
+          unaltered laws.sources tree (program_of placed) said.bad said.start events
+          (first_world placed said.bad said.start) last code is_placed.tree_is
+          (checked_there laws.reading laws.plans laws.granted program hosts placed is_placed.accepted) pure steps halts
+          follows;
       plain = λ nobody. laws.obeying tree (program_of placed) said.start events last set
           (subst (λ bad. IsRun code (first_world placed bad said.start) events last) nobody ran);
     }

@@ -45,5 +45,7 @@ pub mod SomeVerdict
 pub mod SplitDue
 pub mod SplitStages
 pub mod Stops
+pub mod UnalteredRuns
 pub mod WordForms
+pub mod WordsOfTexts
 pub mod WorldLines

@@ -1,9 +1,12 @@
 -- Whether two messages or two events are the same can be decided: a message is made again of its parts and its token.
 use Rattle.std.proofs.Common.{◌≡◌, ◌∙◌, ℕ, zero, suc, ℤ, pos, negsuc, ◌==◌, List, [], ◌∷◌, drop, get_or, inl, inr, refl}
 use Rattle.std.proofs.Common.{sym}
-use Rattle.std.proofs.Common.{ap, Bool, false, Option, Some, None}
+use Rattle.std.proofs.Common.{ap, Bool, false, ◌&&◌, int_eq, Option, Some, None}
 use Rattle.std.specs.Prelude.{◌↔◌, IsTrue, if◌then◌else◌, unwrap_or}
-use Rattle.std.proofs.lemmas.Bool.{cases_eq}
+use Rattle.std.specs.Bool.{Decides}
+use Rattle.std.specs.Cmp.{unsigned_Decides}
+use Rattle.std.proofs.lemmas.Bool.{cases_eq, and_parts, and_from}
+use Rattle.std.proofs.lemmas.Bool.Decides.{Decides-int_eq}
 use Rattle.js_base.proofs.Decisions.{Decided, as_well, both, same_text}
 use Rattle.js_base.specs.declared.ids.FrameId.{FrameId}
 use Rattle.js_base.specs.declared.ids.HostId.{HostId}
@@ -17,9 +20,10 @@ use Rattle.event_text.specs.declared.event.BadToken.TheVariants.{Sent, Own}
 use Rattle.entry_check.proofs.Decisions.{same_host}
 use Rattle.host_code.specs.declared.message.Message.{Message}
 use Rattle.host_code.specs.declared.message.Message.TheVariants as message
+use Rattle.host_code.specs.Riders.{Rider}
 use Rattle.net_world.specs.Told.{SentMessage}
 use Rattle.split_cli.specs.declared.message_parts.Parts.{Parts}
-use Rattle.split_cli.specs.MessageParts.{parts_of, parts_made, token_of, token_made}
+use Rattle.split_cli.specs.MessageParts.{parts_of, parts_made, token_of, token_made, riders_in, riders_made}
 
 -- what is written in numbers and made of them again is decided
 by_numbers : {X : Type 0} (numbers : X → List ℕ) (made : List ℕ → X) → ((x : X) → made (numbers x) ≡ x) → (x y : X) →
@@ -106,6 +110,39 @@ same_option each (Some x) None = inr (λ is. cc)
 same_option each (Some x) (Some y) =
     as_well (x ≡ y) (Some x ≡ Some y) (ap (λ it. Some it)) (λ is. let same : x ≡ y = cc in same) (each x y)
 
+-- ---- what rides
+
+abbrev riders_numbers : List Rider → List ℕ
+riders_numbers [] = []
+riders_numbers (rider ∷ riders) = rider.0.0 ∷ sign rider.1 ∷ size rider.1 ∷ riders_numbers riders
+
+abbrev riders_from_numbers : List ℕ → List Rider
+riders_from_numbers (variable ∷ below ∷ far ∷ numbers) =
+    (record { 0 = variable }, signed below far) ∷ riders_from_numbers numbers
+riders_from_numbers numbers = []
+
+riders_again : (riders : List Rider) → riders_from_numbers (riders_numbers riders) ≡ riders
+riders_again [] = refl
+riders_again (rider ∷ riders) =
+    ap (λ value. (rider.0, value) ∷ riders_from_numbers (riders_numbers riders)) (signed_again rider.1)
+    ∙ ap (λ others. rider ∷ others) (riders_again riders)
+
+same_riders : (one other : List Rider) → Decided (one ≡ other)
+same_riders = by_numbers riders_numbers riders_from_numbers riders_again
+
+-- `==` tells which values ride
+pub rider_told : (one other : Rider) → Decides ((one.0.0 == other.0.0) && int_eq one.1 other.1) (one ≡ other)
+rider_told one other =
+    let variable = unsigned_Decides one.0.0 other.0.0 in
+    let value = Decides-int_eq one.1 other.1 in (
+      λ is. let parts = and_parts (one.0.0 == other.0.0) (int_eq one.1 other.1) is in
+          let first : one.0.0 ≡ other.0.0 = variable.0 parts.0 in
+          let second : one.1 ≡ other.1 = value.0 parts.1 in
+          λ i. (record { 0 = first i }, second i),
+      λ same. and_from (one.0.0 == other.0.0) (int_eq one.1 other.1)
+          (variable.1 (ap (λ (it : Rider). it.0.0) same)) (value.1 (ap (λ (it : Rider). it.1) same)),
+    )
+
 -- ---- tests in two parts
 
 -- the first parts are the same, and the second decide
@@ -125,9 +162,9 @@ tells_none x other a also here there apart way =
 
 -- ---- messages
 
--- a message of these parts and this token
-abbrev message_in : Parts → Option Token → Message
-message_in parts token =
+-- a message of these parts and this token, with which these values ride
+abbrev message_in : Parts → Option Token → List Rider → Message
+message_in parts token riders =
     let it = unwrap_or token (token_in []) in
     if parts.kind == 1 then message.Get parts.request (record { 0 = parts.named }) parts.index
     else (if parts.kind == 2 then message.Set parts.request (record { 0 = parts.named }) parts.index parts.value
@@ -136,33 +173,39 @@ message_in parts token =
     else (if parts.kind == 5 then message.Rgoto parts.frame (record { 0 = parts.named }) it
     else (if parts.kind == 6 then message.Lgoto it
     else (if parts.kind == 7 then message.Value parts.request parts.value
-    else (if parts.kind == 8 then message.Ack parts.request else message.Token parts.request it)))))))
+    else (if parts.kind == 8 then message.Ack parts.request
+    else (if parts.kind == 9 then message.Token parts.request it
+    else message.RgotoWith parts.frame (record { 0 = parts.named }) it riders))))))))
 
-message_again : (it : Message) → message_in (parts_of it) (token_of it) ≡ it
+message_again : (it : Message) → message_in (parts_of it) (token_of it) (riders_in it) ≡ it
 message_again (message.Get request field index) = refl
 message_again (message.Set request field index value) = refl
 message_again (message.Forward request frame variable value) = refl
 message_again (message.Sync request frame entry token) = refl
 message_again (message.Rgoto frame entry token) = refl
+message_again (message.RgotoWith frame entry token riders) = refl
 message_again (message.Lgoto token) = refl
 message_again (message.Value request value) = refl
 message_again (message.Ack request) = refl
 message_again (message.Token request token) = refl
 
 pub one_message : (one other : Message) →
-    ((parts_of one ≡ parts_of other) × (token_of one ≡ token_of other)) ↔ (one ≡ other)
+    (((parts_of one ≡ parts_of other) × (token_of one ≡ token_of other)) × (riders_in one ≡ riders_in other))
+    ↔ (one ≡ other)
 one_message one other = (
-  λ same. sym (message_again one) ∙ ap (λ parts. message_in parts (token_of one)) same.0
-      ∙ ap (message_in (parts_of other)) same.1 ∙ message_again other,
-  λ same. (ap parts_of same, ap token_of same),
+  λ same. sym (message_again one) ∙ ap (λ parts. message_in parts (token_of one) (riders_in one)) same.0.0
+      ∙ ap (λ token. message_in (parts_of other) token (riders_in one)) same.0.1
+      ∙ ap (message_in (parts_of other) (token_of other)) same.1 ∙ message_again other,
+  λ same. ((ap parts_of same, ap token_of same), ap riders_in same),
 )
 
 same_message : (one other : Message) → Decided (one ≡ other)
 same_message one other =
     let way = one_message one other in
     as_well _ _ way.0 way.1
-    (both _ _ (same_parts (parts_of one) (parts_of other))
+    (both _ _ (both _ _ (same_parts (parts_of one) (parts_of other))
     (same_option (by_numbers token_numbers token_in token_again) (token_of one) (token_of other)))
+    (same_riders (riders_in one) (riders_in other)))
 
 pub same_sent : (one other : SentMessage) → Decided (one ≡ other)
 same_sent one other =
@@ -188,8 +231,8 @@ bad_token_again : (token : BadToken) → bad_token_in (bad_token_numbers token) 
 bad_token_again (Sent number) = refl
 bad_token_again (Own token) = refl
 
-abbrev made_in : Parts → Option BadToken → BadMessage
-made_in parts token =
+abbrev made_in : Parts → Option BadToken → List Rider → BadMessage
+made_in parts token riders =
     let it = unwrap_or token (Sent 0) in
     if parts.kind == 1 then bad.Get parts.request (record { 0 = parts.named }) parts.index
     else (if parts.kind == 2 then bad.Set parts.request (record { 0 = parts.named }) parts.index parts.value
@@ -198,33 +241,39 @@ made_in parts token =
     else (if parts.kind == 5 then bad.Rgoto parts.frame (record { 0 = parts.named }) it
     else (if parts.kind == 6 then bad.Lgoto it
     else (if parts.kind == 7 then bad.Value parts.request parts.value
-    else (if parts.kind == 8 then bad.Ack parts.request else bad.Token parts.request it)))))))
+    else (if parts.kind == 8 then bad.Ack parts.request
+    else (if parts.kind == 9 then bad.Token parts.request it
+    else bad.RgotoWith parts.frame (record { 0 = parts.named }) it riders))))))))
 
-made_again : (it : BadMessage) → made_in (parts_made it) (token_made it) ≡ it
+made_again : (it : BadMessage) → made_in (parts_made it) (token_made it) (riders_made it) ≡ it
 made_again (bad.Get request field index) = refl
 made_again (bad.Set request field index value) = refl
 made_again (bad.Forward request frame variable value) = refl
 made_again (bad.Sync request frame entry token) = refl
 made_again (bad.Rgoto frame entry token) = refl
+made_again (bad.RgotoWith frame entry token riders) = refl
 made_again (bad.Lgoto token) = refl
 made_again (bad.Value request value) = refl
 made_again (bad.Ack request) = refl
 made_again (bad.Token request token) = refl
 
 pub one_made : (one other : BadMessage) →
-    ((parts_made one ≡ parts_made other) × (token_made one ≡ token_made other)) ↔ (one ≡ other)
+    (((parts_made one ≡ parts_made other) × (token_made one ≡ token_made other)) × (riders_made one ≡ riders_made other))
+    ↔ (one ≡ other)
 one_made one other = (
-  λ same. sym (made_again one) ∙ ap (λ parts. made_in parts (token_made one)) same.0
-      ∙ ap (made_in (parts_made other)) same.1 ∙ made_again other,
-  λ same. (ap parts_made same, ap token_made same),
+  λ same. sym (made_again one) ∙ ap (λ parts. made_in parts (token_made one) (riders_made one)) same.0.0
+      ∙ ap (λ token. made_in (parts_made other) token (riders_made one)) same.0.1
+      ∙ ap (made_in (parts_made other) (token_made other)) same.1 ∙ made_again other,
+  λ same. ((ap parts_made same, ap token_made same), ap riders_made same),
 )
 
 same_bad : (one other : BadMessage) → Decided (one ≡ other)
 same_bad one other =
     let way = one_made one other in
     as_well _ _ way.0 way.1
-    (both _ _ (same_parts (parts_made one) (parts_made other))
+    (both _ _ (both _ _ (same_parts (parts_made one) (parts_made other))
     (same_option (by_numbers bad_token_numbers bad_token_in bad_token_again) (token_made one) (token_made other)))
+    (same_riders (riders_made one) (riders_made other)))
 
 -- ---- events
 

@@ -1,6 +1,6 @@
 -- The numbers of a script have 64 bits: those that misbehaving hosts send, and what the fields start with.
 use Rattle.std.proofs.Common.{◌≡◌, ℕ, ◌-◌, ◌^◌, ◌<◌, ◌≤◌, ◌==◌, ℤ, pos, negsuc, Bool, true, false, not, ◌&&◌}
-use Rattle.std.proofs.Common.{List, [], ◌∷◌, map, Option, Some, None, Result, Ok, Err, refl, sym, subst, inl, inr}
+use Rattle.std.proofs.Common.{List, [], ◌∷◌, length, map, Option, Some, None, Result, Ok, Err, refl, sym, subst, inl, inr}
 use Rattle.std.proofs.Common.{arith}
 use Rattle.std.specs.Prelude.{All, nat_lt, nat_le, if◌then◌else◌, replicate, slice_get, codes}
 use Rattle.std.specs.List.{AllByRecursion}
@@ -10,14 +10,16 @@ use Rattle.std.proofs.lemmas.Bool.Decides.{nat_tests}
 use Rattle.std.proofs.lemmas.List.Elements.{All-map, All-weaker, All-replicate, All-from_recursion}
 use Rattle.jif_tree.specs.Numbers.{IsNumber}
 use Rattle.jif_tree.specs.Trees.{FieldTree}
+use Rattle.host_code.specs.declared.riders.TheConstants.{MOST_RIDERS}
 use Rattle.host_code.specs.Code.{CodeShape}
+use Rattle.host_code.specs.Riders.{Rider, riders_from}
 use Rattle.event_text.specs.declared.event.Event.{Event}
 use Rattle.event_text.specs.declared.event.Event.TheVariants.{Take, Turn, Act}
 use Rattle.event_text.specs.declared.event.BadMessage.{BadMessage}
 use Rattle.event_text.specs.declared.event.BadMessage.TheVariants as bad
 use Rattle.event_text.specs.declared.settings.Setting.{Setting}
 use Rattle.event_text.specs.Acts.{get_of, set_of, forward_of, sync_of, rgoto_of, lgoto_of, value_of, ack_of, answer_of}
-use Rattle.event_text.specs.Acts.{message_of}
+use Rattle.event_text.specs.Acts.{rider_of, riders_in, rgoto_with_of, message_of}
 use Rattle.event_text.specs.Events.{turn_of, take_of, act_of, event_of, with_event, events_of}
 use Rattle.event_text.specs.Lines.{LineShape, said_lines}
 use Rattle.event_text.specs.Misbehaving.{bad_in_front, past_bad, with_hosts}
@@ -26,7 +28,7 @@ use Rattle.event_text.specs.Script.{ScriptShape, script_of, with_start}
 use Rattle.event_text.specs.Settings.{FieldForm, form_of, field_named, setting_at, of_plain, of_element, plain_setting}
 use Rattle.event_text.specs.Settings.{element_setting, setting_of, and_settings, settings_in_front, past_settings}
 use Rattle.event_text.specs.Settings.{starting_rows, after_setting, after_settings}
-use Rattle.event_text.specs.Words.{Word, one_word, two_words, three_words, four_words}
+use Rattle.event_text.specs.Words.{Word, one_word, two_words, three_words, four_words, or_else}
 use Rattle.event_text.proofs.MadeParts.{mapped, then_made, either_made, two_made, three_made, four_made}
 use Rattle.token_laws.specs.Numbers.{RowsHaveNumbers, MadeHasNumbers, EventHasNumbers}
 use Rattle.token_laws.proofs.ValueNumbers.{written_fits}
@@ -109,6 +111,46 @@ module _ (code : CodeShape) (word : ℕ) where
       three_made (λ frame entry token. bad.Rgoto frame entry token) _ _ _ made of in
       subst MadeHasNumbers same tt
 
+  riders_have : (words : List Word) (riders : List Rider) → riders_in code words ≡ Some riders →
+      AllByRecursion (λ rider. IsNumber rider.1) riders
+  riders_have [] riders is =
+      let same : ◌≡◌ {A = List Rider} [] riders = cc in
+      subst (AllByRecursion (λ (rider : Rider). IsNumber rider.1)) same tt
+  riders_have (name ∷ []) riders is = absurd cc
+  riders_have (name ∷ value ∷ words) riders is =
+      let (rider, others, one, two, same) =
+      two_made (λ rider riders. rider ∷ riders) (rider_of code name value) (riders_in code words) riders is in
+      let (variable, number, first, second, both) = two_made (λ variable number. (variable, number)) _ _ rider one in
+      subst (AllByRecursion (λ (rider : Rider). IsNumber rider.1)) same
+      (subst (λ (rider : Rider). IsNumber rider.1) both (signed_has value number second), riders_have words others two)
+
+  few_have : (pairs riders : List Rider) → AllByRecursion (λ rider. IsNumber rider.1) pairs →
+      riders_from pairs ≡ Some riders → AllByRecursion (λ rider. IsNumber rider.1) riders
+  few_have pairs riders all is =
+      elim (either_made (nat_le 1 (length pairs) && nat_le (length pairs) MOST_RIDERS) (Some pairs) None riders is) [
+        | inl (holds, same) ↦
+            let one : pairs ≡ riders = cc in
+            subst (AllByRecursion (λ (rider : Rider). IsNumber rider.1)) one all
+        | inr (fails, none) ↦ absurd cc
+      ]
+
+  rgoto_with_has : (words : List Word) → MadeSmall (rgoto_with_of code word words)
+  rgoto_with_has (frame ∷ entry ∷ token ∷ mark ∷ words) made is =
+      elim (either_made (bytes_eq mark (codes "with")) _ None made is) [
+        | inl (holds, said) ↦
+            let (one, two, three, riders, first, second, third, fourth, same) =
+            four_made (λ frame entry token riders. bad.RgotoWith frame entry token riders) _ _ _ _ made said in
+            let (pairs, found, few) = then_made riders_from (riders_in code words) riders fourth in
+            subst MadeHasNumbers same (few_have pairs riders (riders_have words pairs found) few)
+        | inr (fails, none) ↦ absurd cc
+      ]
+  rgoto_with_has words made is = absurd cc
+
+  or_else_has : (first second : Option BadMessage) → MadeSmall first → MadeSmall second →
+      MadeSmall (or_else first second)
+  or_else_has (Some one) second has other made is = has made is
+  or_else_has None second has other made is = other made is
+
   lgoto_has : (words : List Word) → MadeSmall (lgoto_of code word words)
   lgoto_has words made is =
       let (it, there, of) = then_made _ (one_word words) made is in
@@ -148,7 +190,7 @@ module _ (code : CodeShape) (word : ℕ) where
       (or_has (bytes_eq kind (codes "set")) _ _ (set_has words)
       (or_has (bytes_eq kind (codes "forward")) _ _ (forward_has words)
       (or_has (bytes_eq kind (codes "sync")) _ _ (sync_has words)
-      (or_has (bytes_eq kind (codes "rgoto")) _ _ (rgoto_has words)
+      (or_has (bytes_eq kind (codes "rgoto")) _ _ (or_else_has _ _ (rgoto_has words) (rgoto_with_has words))
       (or_has (bytes_eq kind (codes "lgoto")) _ _ (lgoto_has words)
       (or_has (bytes_eq kind (codes "value")) _ _ (value_has words)
       (or_has (bytes_eq kind (codes "ack")) _ _ (ack_has words)

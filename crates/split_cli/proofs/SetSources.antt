@@ -42,6 +42,7 @@ use Rattle.split_rules.specs.Held.{IsHeld}
 use Rattle.split_rules.specs.SplitCode.{split_code}
 use Rattle.split_rules.specs.Splittable.{IsSplittable}
 use Rattle.split_shades.specs.Flows.{AreResultsLabelled}
+use Rattle.source_law.specs.Checked.{IsChecked}
 use Rattle.simulation.specs.Obeying.{IsSet}
 use Rattle.simulation.specs.Programs.{AreInOrder}
 use Rattle.front_end.specs.PlacedCode.{program_of}
@@ -204,6 +205,19 @@ module _ (sources : ReadingLaws) (plans : PlanLaws) (granted : GrantedLaw) (prog
   -- each result has a label
   pub results_there : AreResultsLabelled placed.source.tree
   results_there = sources.results placed.source.file.principals read.draft placed.source.tree read.resolved
+
+  -- the program is accepted, with its labels and its needs
+  pub checked_there : IsChecked placed.source.file.principals (labelled_source placed.source) placed.needs
+  checked_there = record {
+    numbered = numbered;
+    statements = statements;
+    well_labelled = read.labels;
+    var_labels = refl;
+    methods = allowed.methods;
+    values = seen.values;
+    results = results_there;
+    needs_of = choice.needs;
+  }
 
   -- hosts that all obey follow the plain run of the program
   pub set_there : (tree : Program) → program_tree tree ≡ placed.source.tree →

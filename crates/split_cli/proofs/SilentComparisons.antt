@@ -11,13 +11,13 @@ use Rattle.split_cli.specs.Due.{Due}
 use Rattle.split_cli.proofs.Compared.{PrivateLaws, compare_is_private}
 use Rattle.split_cli.proofs.Faithful.{AllLaws}
 
-same_bytes : (one other : List ℕ) → Some one ≡ Some other → one ≡ other
+pub same_bytes : (one other : List ℕ) → Some one ≡ Some other → one ≡ other
 same_bytes one other same = cc
 
 same_placed : (one other : PlacedSource) → give one ≡ give other → one ≡ other
 same_placed one other same = cc
 
-done_differs : Differ ≡ Done → ⊥
+pub done_differs : Differ ≡ Done → ⊥
 done_differs same = cc
 
 pub never_differs : AllLaws → PrivateLaws → ((program hosts : List ℕ) → IsOne (PlacedSources program hosts)) →

@@ -3,7 +3,8 @@
 -- `Together` follows events: at every moment the world stands for what a run of the program has come to. `StandsFor`
 -- says that each field of an obeying host, which misbehaving hosts may not affect, has its value there, and that this
 -- run is at its end once an obeying root has halted. `StandsPlainly` says it of all fields, and that no message was
--- ignored.
+-- ignored. What misbehaving hosts may affect may be altered in that run. Only by `endorse` does a program let it decide
+-- on the rest: so without one the rest is that of the plain run itself (`FollowsUnaltered`).
 use Rattle.std.specs.Prelude.{◌≡◌, ℕ, ◌+◌, ◌*◌, ◌≤◌, ℤ, List, length, map, Option, Some, Ok}
 use Rattle.js_base.specs.declared.limits.TheConstants.{SCRIPT_BYTES}
 use Rattle.js_base.specs.declared.status.Status.{Status}
@@ -12,7 +13,7 @@ use Rattle.js_base.specs.Sink.{Takes}
 use Rattle.jif_tree.specs.declared.program.Program.{Program}
 use Rattle.jif_tree.specs.Altered.{Exposure}
 use Rattle.jif_tree.specs.Store.{starting_values}
-use Rattle.jif_tree.specs.SourceRun.{configuration_at_start, HasLength}
+use Rattle.jif_tree.specs.SourceRun.{Configuration, after_steps, configuration_at_start, HasLength}
 use Rattle.jif_tree.specs.Trees.{program_tree}
 use Rattle.event_text.specs.declared.event.Event.{Event}
 use Rattle.event_text.specs.Lines.{said_lines}
@@ -26,6 +27,7 @@ use Rattle.net_world.specs.Together.{Together}
 use Rattle.net_world.specs.World.{WorldShape, IsRun, has_halted}
 use Rattle.simulation.specs.Ending.{EVENTS}
 use Rattle.simulation.specs.Obeying.{StandsPlainly, GoesOnPlainly}
+use Rattle.source_law.specs.Unendorsed.{EndorsesNothing}
 use Rattle.split_shades.specs.Sites.{ReleasesNothing}
 use Rattle.integrity.specs.Altering.{StandsFor, GoesOnAltered}
 use Rattle.integrity.specs.Exposed.{exposure_of}
@@ -54,6 +56,19 @@ FollowsAltered placed tree bad start events last =
     Together (StandsFor (code_of placed) power) (GoesOnAltered tree power) (code_of placed)
     (first_world placed bad start) (configuration_at_start tree start) events last
 
+-- the plain run makes no step, one or several
+abbrev pub MakesSteps : Program → Configuration → Configuration → Type 0
+MakesSteps tree c now = (steps : ℕ) × (now ≡ after_steps tree steps c)
+
+-- So it is with the plain run itself, none of whose steps is altered: what may not be affected is at every moment what
+-- it is after some number of its steps, never fewer than before, and what it is at its end once an obeying root has
+-- halted.
+abbrev pub FollowsUnaltered : PlacedSource → Program → (bad : ℕ) → (start : List (List ℤ)) → List Event → WorldShape →
+    Type 0
+FollowsUnaltered placed tree bad start events last =
+    Together (StandsFor (code_of placed) (power_of placed bad)) (MakesSteps tree) (code_of placed)
+    (first_world placed bad start) (configuration_at_start tree start) events last
+
 -- Where nobody misbehaves, the program makes at most its next step while an event happens, and all fields follow it.
 abbrev pub FollowsPlainly : PlacedSource → Program → (start : List (List ℤ)) → List Event → WorldShape → Type 0
 FollowsPlainly placed tree start events last =
@@ -69,7 +84,8 @@ pub record IsPlacedAs (program hosts : List ℕ) (placed : PlacedSource) (tree :
   pub tree_is : program_tree tree ≡ placed.source.tree
 
 -- A script of these bytes was played: all its events happened, and left the last world. The fields started with the
--- values of the program's text, but for what the script sets.
+-- values of the program's text, but for what the script sets. Of a program without `endorse` whose plain run from these
+-- values ends, what may not be affected follows the plain run itself.
 pub record Played (placed : PlacedSource) (tree : Program) (script : List ℕ) : Type 0 where
   pub said : ScriptShape
   pub last : WorldShape
@@ -79,6 +95,8 @@ pub record Played (placed : PlacedSource) (tree : Program) (script : List ℕ) :
       (settings_in_front (map form_of (code_of placed).fields)
       (past_bad (code_of placed).hosts (said_lines script)))
   pub altered : FollowsAltered placed tree said.bad said.start (events_in said.events) last
+  pub unaltered : EndorsesNothing placed.source.tree → (steps : ℕ) → HasLength tree said.start steps →
+      FollowsUnaltered placed tree said.bad said.start (events_in said.events) last
   pub plain : said.bad ≡ 0 → FollowsPlainly placed tree said.start (events_in said.events) last
 
 -- ---- reports

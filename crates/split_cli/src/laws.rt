@@ -9,11 +9,16 @@ ghost use Rattle.event_text.specs.declared.event.Event.{Event};
 ghost use Rattle.event_text.specs.Start.{program_form, start_of};
 ghost use Rattle.host_code.specs.Code.{CodeShape};
 ghost use Rattle.net_world.specs.World.{WorldShape, IsRun};
+ghost use Rattle.jif_lex.specs.declared.token.Token.{Token};
+ghost use Rattle.jif_lex.specs.declared.token.Word.TheVariants as word;
+ghost use Rattle.jif_lex.specs.Tokens.{ReadsAs, tokens};
 ghost use Rattle.jif_tree.specs.declared.program.Program.{Program};
 ghost use Rattle.jif_tree.specs.SourceRun.{HasLength};
 ghost use Rattle.jif_tree.specs.Trees.{ProgramTree};
 ghost use Rattle.simulation.specs.Driven.{IsDriven};
 ghost use Rattle.simulation.specs.Ending.{EVENTS};
+ghost use Rattle.source_law.specs.Unendorsed.{EndorsesNothing};
+ghost use Rattle.source_words.specs.Words.{LacksWord};
 ghost use Rattle.split_shades.specs.Sites.{ReleasesNothing};
 ghost use Rattle.front_end.specs.PlacedSources.{PlacedSource, PlacedSources};
 ghost use Rattle.front_end.specs.Stages.{given};
@@ -32,14 +37,16 @@ use event_text::script_laws;
 use front_end::source_laws;
 use host_decl::host_file_laws;
 use integrity::integrity_laws;
-use jif_lex::token_laws;
+use jif_lex::{lex_laws, token_laws};
 use jif_parse::{named_laws, number_laws};
 use jif_resolve::{labelling_laws, limit_laws, program_laws, result_laws};
 use need_labels::need_laws;
 use net_world::laws::{fits_laws, secret_laws, step_laws};
 use placement::placement_laws;
 use simulation::{ending_laws, obeying_laws};
+use source_law::steady_laws;
 use source_run::run_laws;
+use source_words::word_laws;
 use split_rules::{asking_laws, split_laws};
 
 /// Laws of what is due, for who reasons about answers. The call does nothing.
@@ -115,6 +122,11 @@ pub fn headline_laws()
         (text : List ℕ) (placed : PlacedSource) → holds program ≡ Some p → holds hosts ≡ Some h →
         PlacedSources p h (given placed) → ReleasesNothing placed.source.tree →
         ¬ Due (words_of (Compare program hosts one other)) (Some holds) number (Print Status.Differ text) }
+    // So it is where the program's text lacks the word `declassify`.
+    ensures never_differs_by_text { (program hosts one other p : List ℕ) (list : List Token)
+        (holds : List ℕ → Option (List ℕ)) (number : ℕ) (text : List ℕ) → holds program ≡ Some p →
+        ReadsAs p (tokens list) → LacksWord word.Declassify list →
+        ¬ Due (words_of (Compare program hosts one other)) (Some holds) number (Print Status.Differ text) }
     // Where the plain run ends after so many steps, a drive of 4096 events for each of them, and for one more, has the
     // report of hosts that came to rest.
     ensures comes_to_rest { (program hosts start p h s : List ℕ) (events steps : ℕ)
@@ -144,5 +156,23 @@ pub fn headline_laws()
     agreement::run_laws();
     obeying_laws();
     ending_laws();
+    steady_laws();
     integrity_laws();
+    lex_laws();
+    word_laws();
+}
+
+/// What the words of a program's text say of an accepted program. The call does nothing.
+pub fn text_laws()
+    // Where the text lacks the word `declassify`, the program releases nothing.
+    ensures releases { (program hosts : List ℕ) (list : List Token) (placed : PlacedSource) →
+        PlacedSources program hosts (given placed) → ReadsAs program (tokens list) →
+        LacksWord word.Declassify list → ReleasesNothing placed.source.tree }
+    // Where it lacks the word `endorse`, the program endorses nothing.
+    ensures endorses { (program hosts : List ℕ) (list : List Token) (placed : PlacedSource) →
+        PlacedSources program hosts (given placed) → ReadsAs program (tokens list) → LacksWord word.Endorse list →
+        EndorsesNothing placed.source.tree }
+{
+    lex_laws();
+    word_laws();
 }

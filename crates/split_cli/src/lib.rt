@@ -17,5 +17,5 @@ mod top;
 mod words;
 mod world_report;
 
-pub use laws::{due_laws, headline_laws};
+pub use laws::{due_laws, headline_laws, text_laws};
 pub use top::jifsplit;

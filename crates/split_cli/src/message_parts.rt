@@ -2,14 +2,15 @@
 
 ghost use Rattle.std.specs.Prelude.{◌≡◌, ◌↔◌, IsTrue, option_copied};
 ghost use Rattle.split_cli.specs.MessageParts.{no_frame, no_request, parts_made, parts_of, parts_with};
-ghost use Rattle.split_cli.specs.MessageParts.{token_made, token_of};
+ghost use Rattle.split_cli.specs.MessageParts.{riders_in, riders_made, token_made, token_of};
 
 use capability::Token;
 use event_text::{BadMessage, BadToken, Event};
 use host_code::Message;
-use js_base::{FrameId, HostId, RequestId, SiteId};
+use js_base::{FrameId, HostId, RequestId, SiteId, VarId};
 
-/// What a message says beside its token: its kind, and then what it names, 0 where its kind names no such thing.
+/// What a message says beside its token and what rides: its kind, and then what it names, 0 where its kind names no such
+/// thing.
 #[derive(Clone, Copy, PartialEq, Eq)]
 pub struct Parts {
     kind: u8,
@@ -44,8 +45,20 @@ pub fn is_same_event(one: &Event, other: &Event) -> bool
 }
 
 /// Whether two messages are the same.
+#[tactic(auto, using(crate::proofs::SameMessages::one_message))]
 fn is_same_message(one: &Message, other: &Message) -> bool
     ensures { IsTrue result ↔ (one.now ≡ other.now) }
+{
+    if !is_same_without_riders(one, other) {
+        return false;
+    }
+    is_same_riders(riders_of(one), riders_of(other))
+}
+
+/// Whether two messages are the same but for what rides.
+fn is_same_without_riders(one: &Message, other: &Message) -> bool
+    ensures { IsTrue result
+        ↔ ((parts_of one.now ≡ parts_of other.now) × (token_of one.now ≡ token_of other.now)) }
 {
     let here = parts_of(one);
     let there = parts_of(other);
@@ -56,8 +69,20 @@ fn is_same_message(one: &Message, other: &Message) -> bool
 }
 
 /// Whether two messages of misbehaving hosts are the same.
+#[tactic(auto, using(crate::proofs::SameMessages::one_made))]
 fn is_same_made(one: &BadMessage, other: &BadMessage) -> bool
     ensures { IsTrue result ↔ (one.now ≡ other.now) }
+{
+    if !is_made_without_riders(one, other) {
+        return false;
+    }
+    is_same_riders(riders_made(one), riders_made(other))
+}
+
+/// Whether two messages of misbehaving hosts are the same but for what rides.
+fn is_made_without_riders(one: &BadMessage, other: &BadMessage) -> bool
+    ensures { IsTrue result
+        ↔ ((parts_made one.now ≡ parts_made other.now) × (token_made one.now ≡ token_made other.now)) }
 {
     let here = parts_made(one);
     let there = parts_made(other);
@@ -95,6 +120,13 @@ fn is_same_token_made(one: Option<&BadToken>, other: Option<&BadToken>) -> bool
         (None, None) => true,
         _ => false,
     }
+}
+
+/// Whether the same values ride for the same variables, in the same order.
+fn is_same_riders(one: &[(VarId, i64)], other: &[(VarId, i64)]) -> bool
+    ensures { IsTrue result ↔ (one.now ≡ other.now) }
+{
+    one == other
 }
 
 /// No request.
@@ -135,7 +167,7 @@ fn parts_with(
     }
 }
 
-/// The parts of a message, but for its token.
+/// The parts of a message, but for its token and what rides.
 fn parts_of(message: &Message) -> Parts
     ensures { result ≡ parts_of message.now }
 {
@@ -165,6 +197,7 @@ fn parts_of(message: &Message) -> Parts
             ..
         } => { parts_with(4, request, frame, entry.0, 0, 0) }
         Message::Rgoto { frame, entry, .. } => parts_with(5, none, frame, entry.0, 0, 0),
+        Message::RgotoWith { frame, entry, .. } => parts_with(10, none, frame, entry.0, 0, 0),
         Message::Lgoto { .. } => parts_with(6, none, here, 0, 0, 0),
         Message::Value { request, value } => parts_with(7, request, here, 0, 0, value),
         Message::Ack { request } => parts_with(8, request, here, 0, 0, 0),
@@ -202,6 +235,7 @@ fn parts_made(made: &BadMessage) -> Parts
             ..
         } => { parts_with(4, request, frame, entry.0, 0, 0) }
         BadMessage::Rgoto { frame, entry, .. } => parts_with(5, none, frame, entry.0, 0, 0),
+        BadMessage::RgotoWith { frame, entry, .. } => { parts_with(10, none, frame, entry.0, 0, 0) }
         BadMessage::Lgoto { .. } => parts_with(6, none, here, 0, 0, 0),
         BadMessage::Value { request, value } => parts_with(7, request, here, 0, 0, value),
         BadMessage::Ack { request } => parts_with(8, request, here, 0, 0, 0),
@@ -216,6 +250,7 @@ fn token_of(message: &Message) -> Option<&Token>
     match message {
         Message::Sync { token, .. }
         | Message::Rgoto { token, .. }
+        | Message::RgotoWith { token, .. }
         | Message::Lgoto { token }
         | Message::Token { token, .. } => Some(token),
         _ => None,
@@ -229,8 +264,29 @@ fn token_made(made: &BadMessage) -> Option<&BadToken>
     match made {
         BadMessage::Sync { token, .. }
         | BadMessage::Rgoto { token, .. }
+        | BadMessage::RgotoWith { token, .. }
         | BadMessage::Lgoto { token }
         | BadMessage::Token { token, .. } => Some(token),
         _ => None,
+    }
+}
+
+/// What rides with a message.
+fn riders_of(message: &Message) -> &[(VarId, i64)]
+    ensures { result.now ≡ riders_in message.now }
+{
+    match message {
+        Message::RgotoWith { pairs, .. } => pairs.pairs(),
+        _ => &[],
+    }
+}
+
+/// The same of a message as a misbehaving host makes it.
+fn riders_made(made: &BadMessage) -> &[(VarId, i64)]
+    ensures { result.now ≡ riders_made made.now }
+{
+    match made {
+        BadMessage::RgotoWith { pairs, .. } => pairs.pairs(),
+        _ => &[],
     }
 }

@@ -1,18 +1,21 @@
 //! The top call, from words and files to a status and what is put out.
 
-ghost use Rattle.std.specs.Prelude.{◌≡◌, ◌≢◌, ◌<◌, ◌≤◌, ◌+◌, ◌*◌, ◌⊎◌, ℕ, ℤ, List, length, map, string_bytes, IfOk};
+ghost use Rattle.std.specs.Prelude.{◌≡◌, ◌≢◌, ◌≤◌, ◌+◌, ◌*◌, ◌⊎◌, ℕ, ℤ, List, length, map, string_bytes, IfOk};
 ghost use Rattle.std.specs.Prelude.{Ok, Option, Some};
-ghost use Rattle.js_base.specs.Counts.{last_count};
 ghost use Rattle.js_base.specs.declared.limits.TheConstants.{SCRIPT_BYTES};
 ghost use Rattle.js_base.specs.declared.status.Status.{Status};
+ghost use Rattle.jif_lex.specs.declared.token.Token.{Token};
+ghost use Rattle.jif_lex.specs.declared.token.Word.TheVariants as word;
+ghost use Rattle.jif_lex.specs.Tokens.{ReadsAs, tokens};
 ghost use Rattle.jif_tree.specs.declared.program.Program.{Program};
 ghost use Rattle.jif_tree.specs.SourceRun.{HasLength};
 ghost use Rattle.event_text.specs.Start.{program_form, start_of};
 ghost use Rattle.simulation.specs.Ending.{EVENTS};
+ghost use Rattle.source_words.specs.Words.{LacksWord};
 ghost use Rattle.split_shades.specs.Sites.{ReleasesNothing};
 ghost use Rattle.front_end.specs.PlacedSources.{PlacedSource, PlacedSources};
 ghost use Rattle.front_end.specs.Stages.{given};
-ghost use Rattle.split_cli.specs.Answers.{AnswersTo};
+ghost use Rattle.split_cli.specs.Answers.{AnswersReport, AnswersTo};
 ghost use Rattle.split_cli.specs.Commands as command;
 ghost use Rattle.split_cli.specs.Asked.{command_shape};
 ghost use Rattle.split_cli.specs.Due.{Due, IsDue, IsDueForCommand, MaySave, OfCommand};
@@ -105,8 +108,14 @@ pub fn jifsplit<F: Files, S: Sink, E: Sink>(
         map string_bytes words.now ≡ command.words_of (command.Compare program hosts one other) →
         F.held files.old ≡ Some holds → holds program ≡ Some p → holds hosts ≡ Some h →
         PlacedSources p h (given placed) → ReleasesNothing placed.source.tree → result ≢ Status.Differ }
-    // Where the plain run ends after so many steps, and so many events were asked for, a drive comes to rest, or memory
-    // ran out, where neither the files nor the output count a fault.
+    // Nor is it for one whose text lacks the word `declassify`.
+    ensures never_differs_by_text { (program hosts one other p : List ℕ) (list : List Token)
+        (holds : List ℕ → Option (List ℕ)) →
+        map string_bytes words.now ≡ command.words_of (command.Compare program hosts one other) →
+        F.held files.old ≡ Some holds → holds program ≡ Some p → ReadsAs p (tokens list) →
+        LacksWord word.Declassify list → result ≢ Status.Differ }
+    // Where the plain run ends after so many steps, and so many events were asked for, a drive comes to rest. Otherwise
+    // memory ran out, or the files or an output counted a fault.
     ensures comes_to_rest { (program hosts start p h s : List ℕ) (events steps : ℕ)
         (holds : List ℕ → Option (List ℕ)) (placed : PlacedSource) (tree : Program) (values : List (List ℤ)) →
         IsStepCount events →
@@ -115,16 +124,14 @@ pub fn jifsplit<F: Files, S: Sink, E: Sink>(
         IsPlacedAs p h placed tree → length s ≤ SCRIPT_BYTES →
         start_of (map program_form tree.fields.items) s ≡ Ok values → HasLength tree values steps →
         EVENTS * (steps + 1) ≤ events →
-        F.faults files.new ≡ F.faults files.old → F.faults files.old < last_count →
-        S.faults out.new ≡ S.faults out.old → S.faults out.old < last_count →
-        (result ≡ Status.Done) ⊎ (result ≡ Status.NoMemory) }
-    // Where a report is due for what the files hold, and neither they nor the output count a fault, the answer is the
-    // status of the report, or memory ran out.
+        AnswersReport Status.Done (files_change F.Files files.old files.new) result
+        (sink_change S.Sink out.old out.new) (sink_change E.Sink err.old err.new) }
+    // Where a report is due for what the files hold, the answer is the status of the report. Otherwise memory ran out,
+    // or the files or an output counted a fault.
     ensures complete { (holds : List ℕ → Option (List ℕ)) (number : ℕ) (status : Status) (text : List ℕ) →
         F.held files.old ≡ Some holds → Due (map string_bytes words.now) (Some holds) number (Print status text) →
-        F.faults files.new ≡ F.faults files.old → F.faults files.old < last_count →
-        S.faults out.new ≡ S.faults out.old → S.faults out.old < last_count →
-        (result ≡ status) ⊎ (result ≡ Status.NoMemory) }
+        AnswersReport status (files_change F.Files files.old files.new) result
+        (sink_change S.Sink out.old out.new) (sink_change E.Sink err.old err.new) }
     // Whatever it answers, it asks for no more loads than its words name files, saves nothing, and leaves what is held,
     // but for one save of a split whose report is due, after its loads, under its last word alone.
     ensures loads { (asked : command.CommandShape) → command.IsCommand asked →

@@ -33,7 +33,7 @@ pub fn split_file_laws()
         ⊎ ((refused : SplitError) × (refused ≢ refusal.OutOfMemory) × (file_code bytes ≡ Err refused)
         × ((code : CodeShape) → IsRealCode code → bytes ≢ split_file code)) }
 
-    // Version 2 is that of no code in which no values ride. Where all else is sound, the version is out of range.
+    // Version 2 is that of code in which values ride, and of no other: other code behind it is refused at the version.
     ensures idle_version { (code : CodeShape) → IsRealCode code → version_of code ≡ 1 →
         file_code (file_as 2 code) ≡ Err (refusal.BadField 8) }
 

@@ -2,19 +2,20 @@
 -- host what it may not see.
 use Rattle.std.proofs.Common.{◌≡◌, ℕ, zero, suc, ◌<◌, true, inl, List, [], ◌∷◌, length, refl, ap}
 use Rattle.std.proofs.Common.{sym, subst, arith, bit_or}
-use Rattle.std.specs.Prelude.{Option, Some, None, slice_get, slice_index, IsSomeAnd}
+use Rattle.std.specs.Prelude.{Option, Some, None, slice_get, slice_index, map, IsSomeAnd}
 use Rattle.js_base.specs.declared.ids.HostId.{HostId}
 use Rattle.js_base.specs.declared.ids.FieldId.{FieldId}
 use Rattle.js_base.specs.declared.ids.EntryId.{EntryId}
+use Rattle.js_base.specs.declared.ids.VarId.{VarId}
 use Rattle.label_lattice.specs.declared.label.Label.{Label}
-use Rattle.label_lattice.specs.Label.{ConfFlows, IsTrustedBy}
+use Rattle.label_lattice.specs.Label.{ConfFlows, IntegFlows, IsTrustedBy}
 use Rattle.host_decl.specs.Hosts.{HostShape}
-use Rattle.jif_tree.specs.Trees.{FieldTree}
+use Rattle.jif_tree.specs.Trees.{BlockTree, FieldTree}
 use Rattle.host_code.specs.declared.instruction.Instr.{Instr}
 use Rattle.host_code.specs.declared.instruction.Op.{Op}
 use Rattle.host_code.specs.declared.instruction.Op.TheVariants as op
 use Rattle.host_code.specs.Code.{CodeShape}
-use Rattle.entry_check.specs.Checks.{MaySee, label_at, label_of_host}
+use Rattle.entry_check.specs.Checks.{MayRide, MaySee, label_at, label_of_host}
 use Rattle.need_labels.specs.Plan.{field_host}
 use Rattle.msg_cost.specs.Moves.{PlannedShape, is_trusted_for}
 use Rattle.split_rules.specs.Placed.{PlacedProgram, planned_from}
@@ -23,22 +24,25 @@ use Rattle.split_rules.specs.Allowed.{IsTrustedHost, IsAllowed}
 use Rattle.split_rules.specs.Held.{IsHeld}
 use Rattle.split_rules.specs.Asking.{IsGranted, IsSeenBy, AreGranted, TellsNoMore}
 use Rattle.split_rules.specs.Asking as asking
-use Rattle.split_rules.specs.Positions.{IsOf, number_of, Due, statement_due, Position, Entrance}
+use Rattle.split_rules.specs.Positions.{IsOf, number_of, Due, statement_due, Position, Entrance, Forward, calm}
 use Rattle.split_rules.specs.SplitCode.{entries_in, landed, code_labels, label_place, code_of_emissions, split_code}
 use Rattle.split_rules.specs.Splittable.{IsSplittable}
 use Rattle.split_rules.specs.TypedCode.{Table, IsTypedOp, IsTypedCode}
-use Rattle.split_rules.specs.Typing.{EntryIs, AreDueOn, need_due}
+use Rattle.split_rules.specs.Typing.{EntryIs, AreDueOn, AreSourced, IsTrustedAt, Gives, need_due}
 use Rattle.split_rules.specs.Walk.{program_emissions}
 use Rattle.split_rules.proofs.BackedLabels.{all_second}
 use Rattle.split_rules.proofs.AllowedTyping.{allowed_typable}
 use Rattle.split_rules.proofs.CodeItems.{code_entry}
 use Rattle.split_rules.proofs.SoundParts.{entry_there}
 use Rattle.split_rules.proofs.TypedSplit.{same_there, split_is_typed}
-use Rattle.split_rules.proofs.ToldEmissions.{Sees, TellsWell, AreTold}
+use Rattle.split_rules.proofs.ToldEmissions.{Sees, Affects, AffectsVariable, TellsWell, AreTold}
 use Rattle.split_rules.proofs.SeenLabels.{trusted_host}
 use Rattle.split_rules.proofs.SeenPrograms.{program_tells_well}
 use Rattle.split_rules.proofs.ToldCode.{program_told, made_of, sees_in_code, emission_labelled}
 use Rattle.split_rules.proofs.ToldCode.{variable_granted, read_granted, put_granted, field_told, enters_granted}
+use Rattle.split_rules.proofs.OpenPlaces.{affected}
+use Rattle.split_rules.proofs.OpenStatements.{IsKnown, program_known}
+use Rattle.split_rules.proofs.Riding.{enters_riding}
 use Rattle.split_rules.proofs.TrustedNeeds.{none_needed, both_needed}
 
 -- ---- needs of what is due
@@ -132,13 +136,54 @@ record IsAsking (placed : PlacedProgram) (emissions : List Emission) (table : Ta
   many : length placed.labelled.var_labels ≡ length placed.labelled.program.vars
   typed : IsTypedCode (planned_from placed)
       (code_of_emissions placed.labelled placed.hosts (planned_from placed) emissions) table
+  known : IsKnown placed.labelled (planned_from placed) placed.hosts.principals
+
+-- a host that is trusted for a statement affects what that gives its value
+source_affected : (placed : PlacedProgram) (emissions : List Emission) (table : Table) →
+    IsAsking placed emissions table → (me : HostId) (source : BlockTree) (x : VarId) →
+    let planned = planned_from placed in
+    IsTrustedHost planned.hosts (slice_index planned.needs.need (number_of source).0) me →
+    IsOf planned.program source → Gives planned source x → AffectsVariable placed.labelled planned me x
+source_affected placed emissions table asks me source x trusted is_of gives =
+    by (slice_get planned.hosts.hosts me.0) refl trusted
+  where
+    planned : PlannedShape
+    planned = planned_from placed
+
+    on_row : (row : HostShape) → slice_get planned.hosts.hosts me.0 ≡ Some row → (found : Option Label) →
+        IsSomeAnd found (IntegFlows row.label) → IsSomeAnd found (Affects planned me)
+    on_row row is None never = absurd never
+    on_row row is (Some label) flows =
+        let P : Option HostShape → Type 0 = λ it. IsSomeAnd it (λ one. IntegFlows one.label label) in
+        subst P (sym is) flows
+
+    by : (found : Option HostShape) → slice_get planned.hosts.hosts me.0 ≡ found →
+        IsSomeAnd found (λ row. IsTrustedBy row.label (slice_index planned.needs.need (number_of source).0)) →
+        AffectsVariable placed.labelled planned me x
+    by None is never = absurd never
+    by (Some row) is trusts = on_row row is (slice_get placed.labelled.var_labels x.0)
+        (affected placed row.label asks.known table.entries me source x (trusts, is_of) gives)
+
+-- what has still to be sent may ride to whatever host
+riders_granted : (placed : PlacedProgram) (emissions : List Emission) (table : Table) →
+    IsAsking placed emissions table → (me on : HostId) (forwards : List Forward) →
+    let planned = planned_from placed in
+    AreSourced planned me forwards →
+    MayRide (code_of_emissions placed.labelled placed.hosts planned emissions) on me
+    (map (λ forward. forward.variable) forwards)
+riders_granted placed emissions table asks me on [] sourced = tt
+riders_granted placed emissions table asks me on (forward ∷ others) sourced = (
+  variable_granted placed emissions me on forward.variable asks.many
+      (source_affected placed emissions table asks me forward.source forward.variable
+      (trusted_host (planned_from placed) me (number_of forward.source) sourced.0.1) sourced.0.2 sourced.0.3),
+  riders_granted placed emissions table asks me on others sourced.1,
+)
 
 op_granted : (placed : PlacedProgram) (emissions : List Emission) (table : Table) →
     IsAsking placed emissions table →
     (me : HostId) (place : ℕ) (pc : Label) (what : Op) →
     let planned = planned_from placed in
-    TellsWell placed.labelled planned (entries_in emissions) me pc what → AreDueOn planned me (table.at me.0 place).due
-    →
+    TellsWell placed.labelled planned (entries_in emissions) me pc what → IsTrustedAt planned me (table.at me.0 place) →
     IsTypedOp planned table me place (landed me emissions what) →
     IsGranted (code_of_emissions placed.labelled placed.hosts planned emissions) me (landed me emissions what)
 op_granted placed emissions table asks me place pc (op.Read field index) well due typed =
@@ -154,13 +199,13 @@ op_granted placed emissions table asks me place pc (op.Ask there on) well due ty
     let P : Label → Type 0 = λ label. Sees planned me label in
     enters_granted placed emissions me on there well.one well.no_halt well.is well.on_host
     (named_need placed emissions table asks.typed me pc well.sender there.0 well.no_halt well.one
-    well.is (ask_due planned table me place there on due typed)) (subst P (sym well.label_is) well.sender)
+    well.is (ask_due planned table me place there on due.0 typed)) (subst P (sym well.label_is) well.sender)
 op_granted placed emissions table asks me place pc (op.Go there on) well due typed =
     let planned = planned_from placed in
     let P : Label → Type 0 = λ label. Sees planned me label in
     enters_granted placed emissions me on there well.one well.no_halt well.is well.on_host
     (named_need placed emissions table asks.typed me pc well.sender there.0 well.no_halt well.one
-    well.is (go_due planned table me place there on due typed)) (subst P (sym well.label_is) well.sender)
+    well.is (go_due planned table me place there on due.0 typed)) (subst P (sym well.label_is) well.sender)
 op_granted placed emissions table asks me place pc (op.Call there on) well due typed =
     λ apart. enters_granted placed emissions me on there well.one well.no_halt well.is well.on_host
     well.trusted well.sender
@@ -172,8 +217,30 @@ op_granted placed emissions table asks me place pc (op.Arg x value) well due typ
 op_granted placed emissions table asks me place pc (op.Push there) well due typed = tt
 op_granted placed emissions table asks me place pc op.Back well due typed = tt
 op_granted placed emissions table asks me place pc (op.Branch guard target) well due typed = tt
-op_granted placed emissions table asks me place pc (op.GoWith there on riders) well due typed = absurd typed
-op_granted placed emissions table asks me place pc (op.CallWith there on riders) well due typed = absurd typed
+op_granted placed emissions table asks me place pc (op.GoWith there on riders) well due typed =
+    let planned = planned_from placed in
+    let code = code_of_emissions placed.labelled placed.hosts planned emissions in
+    let at = table.at me.0 place in
+    let P : Label → Type 0 = λ label. Sees planned me label in
+    let due_at : IsDueAt planned table me there.0 = record {
+      position = calm at.level at.due;
+      due = at.due;
+      is = typed.2;
+      trusted = due.0;
+    } in (
+      enters_granted placed emissions me on there well.one well.no_halt well.is well.on_host
+          (named_need placed emissions table asks.typed me pc well.sender there.0 well.no_halt well.one well.is due_at)
+          (subst P (sym well.label_is) well.sender),
+      subst (MayRide code on me) typed.1.0 (riders_granted placed emissions table asks me on at.forwards due.1),
+    )
+op_granted placed emissions table asks me place pc (op.CallWith there on riders) well due typed =
+    let planned = planned_from placed in
+    let code = code_of_emissions placed.labelled placed.hosts planned emissions in
+    let at = table.at me.0 place in
+    let rides = (enters_riding planned table.entries at at.calling there.0 riders on typed).1 in (
+      enters_granted placed emissions me on there well.one well.no_halt well.is well.on_host well.trusted well.sender,
+      subst (MayRide code on me) rides.0 (riders_granted placed emissions table asks me on at.forwards due.1),
+    )
 
 -- the host of a field that is read or set is told
 field_seen : (placed : PlacedProgram) (emissions : List Emission) (me : HostId) (label : ℕ) (field : FieldId)
@@ -260,7 +327,11 @@ split_is_granted placed splittable allowed held me place there is =
     let P : Op → Type 0 = λ what. IsTypedOp planned typed.0 me place what in
     let Q : Op → Type 0 = λ what. IsGranted code me what in
     subst Q what_is (op_granted placed emissions typed.0
-    (record { many = splittable.var_labels; typed = typed.1 }) me place made.one.label made.one.op made.tells own.0.0
+    (record {
+      many = splittable.var_labels;
+      typed = typed.1;
+      known = program_known placed splittable allowed;
+    }) me place made.one.label made.one.op made.tells own.0
     (subst P (sym what_is) own.1))
 
 -- No instruction tells another host what it may not see.

@@ -34,7 +34,8 @@ use Rattle.split_rules.specs.Walk.{halt_entries, method_entry, methods_emissions
 use Rattle.split_rules.specs.WalkStart.{front_emissions}
 use Rattle.split_rules.proofs.AllowedTyping.{each_there}
 use Rattle.split_rules.proofs.CodeItems.{code_field, fields_numbered}
-use Rattle.split_rules.proofs.FewEmissions.{methods_few}
+use Rattle.split_rules.proofs.Budgets.{methods_lead}
+use Rattle.split_rules.proofs.FewEmissions.{room}
 use Rattle.split_rules.proofs.NumberedLists.{length-numbered, made, all_at, at_all, length-zip, zip_there}
 use Rattle.split_rules.proofs.PacedSplit.{few_params}
 use Rattle.split_rules.proofs.SoundCode.{HasFew}
@@ -242,7 +243,7 @@ few_first planned None = omega arith
 few_first planned (Some main) = omega arith
 
 few_emissions : (placed : PlacedProgram) → IsSplittable placed →
-    length (program_emissions placed) ≤ 4100000
+    length (program_emissions placed) ≤ 13000000
 few_emissions placed splittable =
     let planned = planned_from placed in
     let program = placed.labelled.program in
@@ -254,8 +255,9 @@ few_emissions placed splittable =
     let bodies = methods_emissions placed.hosts.principals placed.labelled planned counts 0 program.methods in
     let host_names = length-map placed.hosts.hosts (λ (host : HostShape). host.name) in
     let hosts_few = splittable.are_hosts.names.few in
-    let few = (methods_few placed.hosts.principals placed.labelled planned (omega (arith, host_names, hosts_few))
-    (few_params program within.params) 0 program.methods within.nodes counts).few in
+    let few = (methods_lead room placed.hosts.principals placed.labelled planned
+    (omega (arith, host_names, hosts_few)) (few_params program within.params) 0 program.methods
+    splittable.numbered.methods within.nodes counts).few in
     let first = few_first planned (method_at program program.main) in
     let as_many = length-map program.methods (method_entry planned) in
     let fronts = length-append halts entries in

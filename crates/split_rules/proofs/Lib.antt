@@ -30,6 +30,7 @@ pub mod TypedPrograms
 pub mod TypedPlaces
 pub mod TypedSplit
 pub mod OneNext
+pub mod Riding
 pub mod LabelsKept
 pub mod BackedLabels
 pub mod AllowedTyping
@@ -42,8 +43,8 @@ pub mod SeenBlocks
 pub mod SeenPrograms
 pub mod ToldCode
 pub mod AskingSplit
+pub mod Budgets
 pub mod PacedEmissions
-pub mod PacedWalks
 pub mod PacedPlaces
 pub mod PacedSplit
 pub mod PacedRuns
@@ -56,3 +57,4 @@ pub mod OwnLabels
 pub mod OpenCode
 pub mod CoveredRuns
 pub mod OpenExamples
+pub mod TypingExamples

@@ -11,7 +11,7 @@ use Rattle.host_code.specs.declared.instruction.Op.{Op}
 use Rattle.host_code.specs.declared.instruction.Op.TheVariants as op
 use Rattle.msg_cost.specs.Moves.{PlannedShape}
 use Rattle.split_rules.specs.Positions.{Due, run, statement_due, FieldRead, Argument, reads_due, Calling, no_call}
-use Rattle.split_rules.specs.Positions.{arguing, Entrance, Forward, Position, calm, under, with_reads, with_forwards}
+use Rattle.split_rules.specs.Positions.{arguing, Entrance, Position, calm, under, with_reads, with_forwards}
 use Rattle.split_rules.specs.Positions.{forwards_of}
 use Rattle.split_rules.specs.Typing.{EntryIs, need_due, Frames, Cuts, Pushes, Reads, Argues, Sends, Follows, Branches}
 use Rattle.split_rules.specs.Typing.{Divides}
@@ -63,18 +63,14 @@ one_argument planned me from (arguing statement set left) x nodes next other fir
       due = from.due;
       reads = [];
       calling = arguing statement (set ++ it ∷ []) others;
-      forwards = forwards_of planned me statement x;
+      forwards = from.forwards ++ forwards_of planned me statement x;
     } in
     first.goes ∙ ap (λ it. behind it first.others) same.0 ∙ ap (behind two) same.1 ∙ sym second.goes
 one_argument planned me from calling x nodes next other first second = absurd first
 
 one_sent : (from : Position) (x : VarId) (to : HostId) (next other : Position) → Sends from x to next →
     Sends from x to other → next ≡ other
-one_sent from x to next other first second =
-    let one : Forward = record { variable = x; host = to; source = first.0 } in
-    let two : Forward = record { variable = x; host = to; source = second.0 } in
-    let same = (same_first from.forwards one two first.1 second.1 first.3 second.3).1 in
-    first.4 ∙ ap (with_forwards from) same ∙ sym second.4
+one_sent from x to next other first second = first.2 ∙ sym second.2
 
 one_cut : (planned : PlannedShape) (entries : List Entrance) (from : Position) (number : ℕ) (next other : Position) →
     Cuts planned entries from number next →
@@ -86,7 +82,7 @@ one_cut planned entries from number next other first second =
     let both : next.due ++ first.behind ≡ other.due ++ first.behind =
     sym first.due ∙ second.due ∙ ap (λ it. other.due ++ it) (sym behind) in
     let due = append_cancel_right next.due other.due first.behind both in
-    first.goes ∙ ap (calm (under number)) due ∙ sym second.goes
+    first.goes ∙ ap (λ it. with_forwards (calm (under number) it) from.forwards) due ∙ sym second.goes
 
 one_pushed : (planned : PlannedShape) (entries : List Entrance) (from : Position) (calling : Calling) (number : ℕ)
     (next other : Position) → Pushes planned entries from calling number next →

@@ -1,6 +1,7 @@
 -- Typed code of a program gives a host no more than it is trusted for: instruction by instruction, and entry by entry.
 use Rattle.std.proofs.Common.{◌≡◌, ◌≢◌, ℕ, suc, List, [], ◌∷◌, ap, sym, subst, refl, inl, inr, arith}
-use Rattle.std.specs.Prelude.{Option, Some, None, slice_get, unwrap_or, IsSomeAnd}
+use Rattle.std.specs.Prelude.{Option, Some, None, slice_get, unwrap_or, map, IsSomeAnd}
+use Rattle.std.specs.List.{AllByRecursion}
 use Rattle.std.proofs.lemmas.Option.{slice_get_within, slice_get_cases}
 use Rattle.js_base.specs.declared.ids.HostId.{HostId}
 use Rattle.js_base.specs.declared.ids.EntryId.{EntryId}
@@ -18,8 +19,10 @@ use Rattle.host_code.specs.Sound.{IsSoundCode, OperationFits, temporaries_at}
 use Rattle.msg_cost.specs.Moves.{PlannedShape}
 use Rattle.split_rules.specs.Placed.{PlacedProgram, planned_from}
 use Rattle.split_rules.specs.Allowed.{IsAllowed}
-use Rattle.split_rules.specs.Opening.{MayRunAll, IsOpenTo, HasNeed, OpensOp, IsOpenCode, HasOwnLabels}
+use Rattle.split_rules.specs.Opening.{MayRunAll, AreSentFrom, IsOpenTo, MayChange, HasNeed, OpensOp, IsOpenCode}
+use Rattle.split_rules.specs.Opening.{HasOwnLabels}
 use Rattle.split_rules.specs.Positions.{number_of, statement_due, Due, Calling, no_call, arguing, entering, Entrance}
+use Rattle.split_rules.specs.Positions.{Forward, calm}
 use Rattle.split_rules.specs.SplitCode.{split_code}
 use Rattle.split_rules.specs.Splittable.{IsSplittable}
 use Rattle.split_rules.specs.TypedCode.{Table, IsTypedOp, IsTypedCode}
@@ -27,10 +30,11 @@ use Rattle.split_rules.specs.Typing.{EntryIs, AreDueOn, Covers, Cuts, Pushes}
 use Rattle.split_rules.specs.Walk.{program_emissions}
 use Rattle.split_rules.proofs.OpenPlaces.{IsHeldEntry, calm_open, let_open, put_open, read_open, send_open, frame_open}
 use Rattle.split_rules.proofs.OpenPlaces.{arg_open, cut_open, call_open, branch_open, ret_open, cut_held, go_held}
-use Rattle.split_rules.proofs.OpenPlaces.{call_held, method_held}
+use Rattle.split_rules.proofs.OpenPlaces.{call_held, method_held, riding_held, affected}
 use Rattle.split_rules.proofs.OpenStatements.{IsKnown, program_known, statement_brings, given_affected}
 use Rattle.split_rules.proofs.OpenStatements.{stored_affected, started_open}
 use Rattle.split_rules.proofs.OwnLabels.{own_labels}
+use Rattle.split_rules.proofs.Riding.{enters_riding}
 use Rattle.split_rules.proofs.PacedPlaces.{numbered_from}
 use Rattle.split_rules.proofs.SoundSplit.{split_is_sound}
 use Rattle.split_rules.proofs.TypedSplit.{same_there}
@@ -155,6 +159,16 @@ module _ (placed : PlacedProgram) (table : Table)
       )
   push_opens me place there (entering statement) not_halt found open_here law = absurd law
 
+  -- what has still to be sent may be changed, and so what rides
+  riders_changed : (me : HostId) (forwards : List Forward) → AreSentFrom planned label forwards →
+      AllByRecursion (MayChange code label) (map (λ forward. forward.variable) forwards)
+  riders_changed me [] sent = tt
+  riders_changed me (forward ∷ others) sent = (
+    (own.of_variables label forward.variable).1
+        (affected placed label known table.entries me forward.source forward.variable sent.0.0 sent.0.1),
+    riders_changed me others sent.1,
+  )
+
   op_opens : (me : HostId) (place count : ℕ) (what : Op) → OperationFits code me count what →
       IsTypedOp planned table me place what → IsOpenTo planned label (table.at me.0 place) →
       OpensOp planned code table label me place what
@@ -190,8 +204,9 @@ module _ (placed : PlacedProgram) (table : Table)
   op_opens me place count (op.Ask there on) fits law open_here =
       cut_opens me on place there fits.0.0 fits.0.1 open_here law.0
   op_opens me place count (op.Go there on) fits law open_here =
-      entry_needed on there fits.0.0 fits.0.1 (go_held placed label known table.entries me
-      (table.at me.0 place) there.0 open_here law.1)
+      let at = table.at me.0 place in
+      entry_needed on there fits.0.0 fits.0.1 (go_held placed label known table.entries me at at there.0 open_here
+      law.1)
   op_opens me place count (op.Call there on) fits law open_here =
       let at = table.at me.0 place in
       entry_needed on there fits.0.0 fits.0.1 (method_held placed label known table.entries me at
@@ -204,8 +219,19 @@ module _ (placed : PlacedProgram) (table : Table)
   op_opens me place count (op.Branch guard target) fits law open_here =
       branch_open placed label known table.entries me (table.at me.0 place)
       (table.at me.0 (suc place)) (table.at me.0 target) guard law.0 law.1 law.2.due open_here law.4
-  op_opens me place count (op.GoWith there on riders) fits law open_here = absurd law
-  op_opens me place count (op.CallWith there on riders) fits law open_here = absurd law
+  op_opens me place count (op.GoWith there on riders) fits law open_here =
+      let at = table.at me.0 place in (
+        entry_needed on there fits.0.0 fits.0.1 (go_held placed label known table.entries me at
+            (calm at.level at.due) there.0 open_here law.2),
+        subst (AllByRecursion (MayChange code label)) law.1.0 (riders_changed me at.forwards open_here.sent),
+      )
+  op_opens me place count (op.CallWith there on riders) fits law open_here =
+      let at = table.at me.0 place in
+      let rides = (enters_riding planned table.entries at at.calling there.0 riders on law).1 in (
+        entry_needed on there fits.0.0 fits.0.1 (riding_held placed label known table.entries me at
+            there.0 riders on open_here law),
+        subst (AllByRecursion (MayChange code label)) rides.0 (riders_changed me at.forwards open_here.sent),
+      )
 
 -- ---- the laws
 

@@ -20,12 +20,14 @@ use Rattle.split_rules.specs.Opening.{MayRun, MayRunAll, StoresTo, GivesIn, call
 use Rattle.split_rules.specs.Opening.{PassesParams, AreSentFrom, IsOpenTo}
 use Rattle.split_rules.specs.Positions.{number_of, Due, Level, run, keep, statement_due, all_due, Argument}
 use Rattle.split_rules.specs.Positions.{arguments_of, Calling, no_call, arguing, entering, Position, Entrance, calm}
+use Rattle.split_rules.specs.Positions.{Forward, with_forwards, IsOut}
 use Rattle.split_rules.specs.Typing.{EntryIs, need_due, IsParam, Gives, Sets, Stores, GivesBack, Follows, Branches}
-use Rattle.split_rules.specs.Typing.{Cuts, Pushes, Frames, Argues, Sends, Enters}
+use Rattle.split_rules.specs.Typing.{Cuts, Pushes, Frames, Argues, Sends, Enters, EntersWith}
 use Rattle.split_rules.specs.Walk.{other_readers}
 use Rattle.split_rules.proofs.BackedLabels.{all_first, all_second, all_both}
 use Rattle.split_rules.proofs.OpenStatements.{AffectsField, AffectsVariable, Brings, BringsCall, IsKnown}
 use Rattle.split_rules.proofs.OpenStatements.{statement_brings, given_affected, stored_affected}
+use Rattle.split_rules.proofs.Riding.{all_without, enters_riding}
 use Rattle.split_rules.proofs.TrustedNeeds.{none_needed, both_needed}
 
 -- an entry that is named is in the table, and the host is trusted for its need
@@ -50,7 +52,7 @@ module _ (placed : PlacedProgram) (label : Label)
   given_in method (give_back heading value rest) x never = absurd never
   given_in method _ x is = is
 
-  affected : (statement : BlockTree) (x : VarId) → MayRun planned label statement → Gives planned statement x →
+  pub affected : (statement : BlockTree) (x : VarId) → MayRun planned label statement → Gives planned statement x →
       AffectsVariable placed.labelled label x
   affected statement x may is =
       given_affected placed.labelled planned label may.1.0 statement x (brought statement may)
@@ -117,18 +119,27 @@ module _ (placed : PlacedProgram) (label : Label)
     params = open_here.params;
   })
 
+  -- what has still to be sent the host affects
+  out_affected : (x : VarId) (to : HostId) (forwards : List Forward) → AreSentFrom planned label forwards →
+      IsOut forwards x to → AffectsVariable placed.labelled label x
+  out_affected x to [] sent never = absurd never
+  out_affected x to (forward ∷ others) sent (inl is) =
+      subst (AffectsVariable placed.labelled label) is.0
+      (affected forward.source forward.variable sent.0.0 sent.0.1)
+  out_affected x to (forward ∷ others) sent (inr later) = out_affected x to others sent.1 later
+
   pub send_open : (here next : Position) (x : VarId) (to : HostId) → IsOpenTo planned label here →
       Sends here x to next → AffectsVariable placed.labelled label x × IsOpenTo planned label next
-  send_open here next x to open_here law =
-      let sent = subst (AreSentFrom planned label) law.3 open_here.sent in (
-        affected law.0 x sent.0.0 sent.0.1,
-        subst (IsOpenTo planned label) (sym law.4) (record {
-          due = open_here.due;
-          sent = sent.1;
-          calls = open_here.calls;
-          params = open_here.params;
-        }),
-      )
+  send_open here next x to open_here law = (
+    out_affected x to here.forwards open_here.sent law.1,
+    subst (IsOpenTo planned label) (sym law.2) (record {
+      due = open_here.due;
+      sent = all_without (λ (forward : Forward). MayRun planned label forward.source
+          × Gives planned forward.source forward.variable) x to here.forwards open_here.sent;
+      calls = open_here.calls;
+      params = open_here.params;
+    }),
+  )
 
   -- ---- calls
 
@@ -177,7 +188,9 @@ module _ (placed : PlacedProgram) (label : Label)
         affected statement x calls.0 gives,
         subst (IsOpenTo planned label) (sym law.goes) (record {
           due = open_here.due;
-          sent = sent_to statement x calls.0 gives (other_readers planned me x);
+          sent = all_both (λ (forward : Forward). MayRun planned label forward.source
+              × Gives planned forward.source forward.variable) here.forwards _ open_here.sent
+              (sent_to statement x calls.0 gives (other_readers planned me x));
           calls = calls;
           params = params_left statement _ law.others params;
         }),
@@ -192,7 +205,12 @@ module _ (placed : PlacedProgram) (label : Label)
   cut_open here next number open_here law =
       let due = subst (MayRunAll planned label) law.due open_here.due in
       let P : Due → Type 0 = λ item. MayRun planned label (statement_due item) in
-      subst (IsOpenTo planned label) (sym law.goes) (calm_open _ next.due (all_first P next.due law.behind due))
+      subst (IsOpenTo planned label) (sym law.goes) (record {
+        due = all_first P next.due law.behind due;
+        sent = open_here.sent;
+        calls = tt;
+        params = tt;
+      })
 
   pub call_open : (here next : Position) (statement : BlockTree) (set left : List Argument) (number : ℕ) →
       IsOpenTo planned label here → Pushes planned entries here (arguing statement set left) number next →
@@ -203,7 +221,7 @@ module _ (placed : PlacedProgram) (label : Label)
       brought (call heading site method arguments into rest) due.0 in
       subst (IsOpenTo planned label) (sym law.goes) (record {
         due = own.body;
-        sent = tt;
+        sent = open_here.sent;
         calls = (due.0, tt);
         params = tt;
       })
@@ -230,10 +248,10 @@ module _ (placed : PlacedProgram) (label : Label)
         trusted = needed_all law.behind (all_second P next.due law.behind due);
       }
 
-  pub go_held : (here : Position) (number : ℕ) → IsOpenTo planned label here →
-      EntryIs entries number here (need_due planned here.due) → IsHeldEntry label entries number
-  go_held here number open_here is =
-      record { position = here; need = _; is = is; trusted = needed_all here.due open_here.due }
+  pub go_held : (here there : Position) (number : ℕ) → IsOpenTo planned label here →
+      EntryIs entries number there (need_due planned here.due) → IsHeldEntry label entries number
+  go_held here there number open_here is =
+      record { position = there; need = _; is = is; trusted = needed_all here.due open_here.due }
 
   pub call_held : (here next : Position) (statement : BlockTree) (set left : List Argument) (number : ℕ) →
       IsOpenTo planned label here → Pushes planned entries here (arguing statement set left) number next →
@@ -250,6 +268,15 @@ module _ (placed : PlacedProgram) (label : Label)
       brought (call heading site method arguments into rest) calls.0 in
       record { position = _; need = _; is = law.4; trusted = own.head }
   method_held here _ number is open_here law = absurd law
+
+  -- the same where parameters ride, by the position with nothing left to be sent
+  pub riding_held : (here : Position) (number : ℕ) (riders : List VarId) (on : HostId) →
+      IsOpenTo planned label here → EntersWith planned entries here here.calling number riders on →
+      IsHeldEntry label entries number
+  riding_held here number riders on open_here law =
+      method_held (with_forwards here []) here.calling number refl
+      (record { due = open_here.due; sent = tt; calls = open_here.calls; params = open_here.params })
+      (enters_riding planned entries here here.calling number riders on law).0
 
   -- ---- branches and what is given back
 

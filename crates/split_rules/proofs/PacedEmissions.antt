@@ -1,13 +1,13 @@
 -- How many instructions may still come at a place of a walk before the next step, and parts of walks by what they leave
 -- of that.
 use Rattle.std.proofs.Common.{◌≡◌, ℕ, ◌+◌, ◌≤◌, Bool, true, false, List, [], ◌∷◌, ◌++◌}
-use Rattle.std.proofs.Common.{sym, subst, arith, append_assoc, cond}
+use Rattle.std.proofs.Common.{refl, sym, subst, arith, append_assoc, cond}
 use Rattle.std.specs.Prelude.{⊤}
-use Rattle.js_base.specs.declared.ids.HostId.{HostId}
 use Rattle.host_code.specs.declared.instruction.Op.{Op}
 use Rattle.host_code.specs.declared.instruction.Op.TheVariants as op
-use Rattle.split_rules.specs.Emissions.{Emission, instruction, entry, stands, lands, Emitted, Named}
+use Rattle.split_rules.specs.Emissions.{Emission, instruction, entry, stands, lands, Emitted}
 use Rattle.split_rules.specs.Pace.{is_call}
+use Rattle.split_rules.proofs.Budgets.{IsPlain, IsStep, IsPush, Budget}
 
 -- ---- what may still come
 
@@ -89,12 +89,6 @@ spends_on {xs} {ys} {from} {middle} {to} one two = record {
       subst P (sym (append_assoc xs ys zs)) (one.before (ys ++ zs) (two.before zs behind));
 }
 
--- one emission, and what follows it
-pub spends_then : {x : Emission} {xs : List Emission} {from middle to : ℕ} → Spends (x ∷ []) from middle →
-    Spends xs middle to → Spends (x ∷ xs) from to
-spends_then {x} {xs} {from} {middle} {to} one two =
-    record { before = λ zs behind. one.before (xs ++ zs) (two.before zs behind) }
-
 pub spends_more : {xs : List Emission} {from to : ℕ} (more fewer : ℕ) → Spends xs from to → from ≤ more → fewer ≤ to →
     Spends xs more fewer
 spends_more {xs} {from} {to} more fewer part large small = record {
@@ -105,35 +99,9 @@ spends_more {xs} {from} {to} more fewer part large small = record {
       (so.0, omega arith);
 }
 
-pub spends_nothing : (most : ℕ) → Spends [] most most
-spends_nothing most = record { before = λ ys behind. behind }
-
 -- ---- one emission
 
--- an instruction that makes no step
-abbrev pub IsPlain : Op → Type 0
-IsPlain (op.Read field index) = ⊤
-IsPlain (op.Send x to) = ⊤
-IsPlain (op.Frame site) = ⊤
-IsPlain (op.Arg x value) = ⊤
-IsPlain (op.Pass x to) = ⊤
-IsPlain other = ⊥
-
--- one that makes a step
-abbrev pub IsStep : Op → Type 0
-IsStep (op.Let x value) = ⊤
-IsStep (op.Put field index value) = ⊤
-IsStep (op.Ret x value) = ⊤
-IsStep (op.Branch guard number) = ⊤
-IsStep other = ⊥
-
--- one that pushes an entry, or has it pushed
-abbrev pub IsPush : Op → Type 0
-IsPush (op.Push there) = ⊤
-IsPush (op.Ask there on) = ⊤
-IsPush other = ⊥
-
-plain_paced : (what : Op) (most : ℕ) (ys : List Emission) → IsPlain what → ahead ys ≤ most →
+pub plain_paced : (what : Op) (most : ℕ) (ys : List Emission) → IsPlain what → ahead ys ≤ most →
     OpPaces what ys × (at_op what (calls_first ys) (ahead ys) ≤ most + 1)
 plain_paced (op.Read field index) most ys plain few = (tt, omega arith)
 plain_paced (op.Send x to) most ys plain few = (tt, omega arith)
@@ -142,12 +110,7 @@ plain_paced (op.Arg x value) most ys plain few = (tt, omega arith)
 plain_paced (op.Pass x to) most ys plain few = (tt, omega arith)
 plain_paced other most ys plain few = absurd plain
 
-pub one_plain : (one : Emitted) (most : ℕ) → IsPlain one.op → Spends (instruction one ∷ []) (most + 1) most
-one_plain one most plain = record {
-  before = λ ys behind. let so = plain_paced one.op most ys plain behind.1 in ((so.0, behind.0), so.1);
-}
-
-step_paced : (what : Op) (ys : List Emission) → IsStep what → ahead ys ≤ 530 →
+pub step_paced : (what : Op) (ys : List Emission) → IsStep what → ahead ys ≤ 530 →
     OpPaces what ys × (at_op what (calls_first ys) (ahead ys) ≤ 20)
 step_paced (op.Let x value) ys step few = (few, omega arith)
 step_paced (op.Put field index value) ys step few = (few, omega arith)
@@ -155,12 +118,8 @@ step_paced (op.Ret x value) ys step few = (few, omega arith)
 step_paced (op.Branch guard number) ys step few = (few, omega arith)
 step_paced other ys step few = absurd step
 
-pub one_step : (one : Emitted) → IsStep one.op → Spends (instruction one ∷ []) 20 530
-one_step one step = record {
-  before = λ ys behind. let so = step_paced one.op ys step behind.1 in ((so.0, behind.0), so.1);
-}
-
-push_paced : (what : Op) (most : ℕ) (ys : List Emission) → IsPush what → ahead ys ≤ most →
+-- whatever follows
+pub push_paced : (what : Op) (most : ℕ) (ys : List Emission) → IsPush what → ahead ys ≤ most →
     OpPaces what ys × (at_op what (calls_first ys) (ahead ys) ≤ most + 3)
 push_paced (op.Push there) most ys push few = (tt, by (calls_first ys))
   where
@@ -170,31 +129,37 @@ push_paced (op.Push there) most ys push few = (tt, by (calls_first ys))
 push_paced (op.Ask there on) most ys push few = (tt, omega arith)
 push_paced other most ys push few = absurd push
 
--- whatever follows
-pub one_push : (one : Emitted) (most : ℕ) → IsPush one.op → Spends (instruction one ∷ []) (most + 3) most
-one_push one most push = record {
-  before = λ ys behind. let so = push_paced one.op most ys push behind.1 in ((so.0, behind.0), so.1);
-}
-
 -- the token is given back
-pub one_back : (one : Emitted) (most : ℕ) → one.op ≡ op.Back → Spends (instruction one ∷ []) 512 most
-one_back one most is = record {
-  before = λ ys behind.
-      let P : Op → Type 0 = λ what. OpPaces what ys × (at_op what (calls_first ys) (ahead ys) ≤ 512) in
-      let own : P op.Back = (tt, omega arith) in
-      let so = subst P (sym is) own in
-      ((so.0, behind.0), so.1);
+pub back_paced : (what : Op) (ys : List Emission) → what ≡ op.Back →
+    OpPaces what ys × (at_op what (calls_first ys) (ahead ys) ≤ 512)
+back_paced what ys is =
+    let P : Op → Type 0 = λ it. OpPaces it ys × (at_op it (calls_first ys) (ahead ys) ≤ 512) in
+    let own : P op.Back = (tt, omega arith) in
+    subst P (sym is) own
+
+pub one_paced : (one : Emitted) (from to : ℕ) → ((ys : List Emission) → ahead ys ≤ to →
+    OpPaces one.op ys × (at_op one.op (calls_first ys) (ahead ys) ≤ from)) → Spends (instruction one ∷ []) from to
+one_paced one from to paced = record {
+  before = λ ys behind. let so = paced ys behind.1 in ((so.0, behind.0), so.1);
 }
 
-pub one_entry : (named : Named) (most : ℕ) → Spends (entry named ∷ []) most most
-one_entry named most = record { before = λ ys behind. behind }
-
-pub one_stands : (host : HostId) (number most : ℕ) → most ≤ 512 → Spends (stands host number ∷ []) most most
-one_stands host number most small = record {
-  before = λ ys behind. let few = behind.1 in ((omega arith, behind.0), behind.1);
-}
-
-pub one_lands : (host : HostId) (number most : ℕ) → most ≤ 512 → Spends (lands host number ∷ []) most most
-one_lands host number most small = record {
-  before = λ ys behind. let few = behind.1 in ((omega arith, behind.0), behind.1);
+abbrev pub pace : Budget
+pace = record {
+  Leads = λ k p xs l q. Spends xs p q;
+  still = λ k p. record { before = λ ys behind. behind };
+  on = λ one two. spends_on one two;
+  less = λ one more_units up fewer_units down. spends_more _ _ one up down;
+  plain = λ one k p is. one_paced one (p + 1) p (λ ys few. plain_paced one.op p ys is few);
+  step = λ one k is. one_paced one 20 530 (λ ys few. step_paced one.op ys is few);
+  push = λ one k p is. one_paced one (p + 3) p (λ ys few. push_paced one.op p ys is few);
+  back = λ one k is. one_paced one 512 513 (λ ys few. back_paced one.op ys is);
+  named = λ one k p. record { before = λ ys behind. let few = behind.1 in (behind.0, omega arith) };
+  stood = λ host number k p small.
+      record { before = λ ys behind. let few = behind.1 in ((omega arith, behind.0), omega arith) };
+  landed = λ host number k p small.
+      record { before = λ ys behind. let few = behind.1 in ((omega arith, behind.0), omega arith) };
+  hands = λ from host pc statement there k p small.
+      record { before = λ ys behind. let few = behind.1 in ((refl, (omega arith, behind.0)), omega arith) };
+  enters = λ host home pc statement there method k.
+      record { before = λ ys behind. ((tt, (tt, behind.0)), omega arith) };
 }

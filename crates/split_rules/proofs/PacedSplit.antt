@@ -1,6 +1,6 @@
 -- The code of a split program is paced: the numbers of its places are those of the walk.
 use Rattle.std.proofs.Common.{◌≡◌, ◌∙◌, ℕ, suc, ◌+◌, ◌*◌, ◌<◌, ◌≤◌, ◌⊎◌, Bool, true, false, cond, inl, inr, List, []}
-use Rattle.std.proofs.Common.{◌∷◌, ◌++◌, length, refl, ap, sym, subst, arith, append_assoc}
+use Rattle.std.proofs.Common.{◌∷◌, ◌++◌, length, refl, ap, sym, subst, arith, append_assoc, append-nil}
 use Rattle.std.specs.Prelude.{All, Option, Some, None, slice_get}
 use Rattle.std.proofs.lemmas.List.{length-map}
 use Rattle.std.specs.Option.{option_map}
@@ -39,8 +39,8 @@ use Rattle.split_rules.proofs.SoundParts.{given, code_given, given_emitted, part
 use Rattle.split_rules.proofs.SoundInstructions.{instruction_made, branch_leads}
 use Rattle.split_rules.proofs.WalkedPrograms.{program_goes}
 use Rattle.split_rules.proofs.TypedSplit.{landing_place, entry_place}
-use Rattle.split_rules.proofs.PacedEmissions.{calls_first, at_op, ahead, StandsNext, Paces}
-use Rattle.split_rules.proofs.PacedWalks.{HasFewHosts, methods_paced}
+use Rattle.split_rules.proofs.PacedEmissions.{calls_first, at_op, ahead, StandsNext, Paces, pace}
+use Rattle.split_rules.proofs.Budgets.{HasFewHosts, methods_lead}
 use Rattle.split_rules.proofs.PacedRuns.{begun_few}
 use Rattle.split_rules.proofs.PacedPlaces.{numbered_from, left_in, Spot, spot_there, marked_there, stands_once}
 
@@ -361,9 +361,9 @@ split_is_paced placed splittable =
         record {
           end = goes.0;
           walk = walk_there placed emissions goes.0 splittable goes.1 goes.2;
-          paces = (methods_paced placed.hosts.principals placed.labelled planned few_hosts
-              (few_params placed.labelled.program splittable.within.params) 0 placed.labelled.program.methods
-              splittable.numbered.methods splittable.within.nodes counts).0;
+          paces = subst Paces (append-nil emissions) ((methods_lead pace placed.hosts.principals placed.labelled planned
+              few_hosts (few_params placed.labelled.program splittable.within.params) 0 placed.labelled.program.methods
+              splittable.numbered.methods splittable.within.nodes counts).before [] (tt, omega arith)).0;
         }
 
     P : List Emission → Type 0

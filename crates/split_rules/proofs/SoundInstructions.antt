@@ -1,6 +1,7 @@
 -- Each instruction of the code that is read off a walk fits, and so does each part.
 use Rattle.std.proofs.Common.{◌≡◌, ◌∙◌, ℕ, zero, suc, ◌-◌, ◌<◌, ◌≤◌, ◌⊎◌, inl, List, [], ◌∷◌, ◌++◌, map}
-use Rattle.std.proofs.Common.{length, Option, Some, None, slice_get, refl, ap, sym, subst, arith, append_assoc, IsSomeAnd}
+use Rattle.std.proofs.Common.{length, Option, Some, None, slice_get, refl, ap, sym, subst, arith, append_assoc}
+use Rattle.std.proofs.Common.{IsSomeAnd}
 use Rattle.std.specs.Prelude.{unwrap_or}
 use Rattle.std.specs.List.{flat_map, range_with_len}
 use Rattle.std.proofs.lemmas.List.{map-append, length-map}

@@ -187,7 +187,7 @@ branch_typed walked around level heading guard first second next own others trus
     cuts =
         let P : ℕ → Type 0 = λ need. EntryIs joined number join.position need in
         record {
-          is_calm = refl;
+          idle = (refl, refl);
           behind = others;
           pushed = subst P (sym join_need) (at_last entries join []);
           due = refl;
@@ -341,7 +341,7 @@ loop_typed walked around level heading guard inner next own others trusted inner
     cuts =
         let P : ℕ → Type 0 = λ need. EntryIs headed number head.position need in
         record {
-          is_calm = refl;
+          idle = (refl, refl);
           behind = due;
           pushed = subst P (sym head_need) (at_last entries head []);
           due = refl;

@@ -16,7 +16,7 @@ use Rattle.split_rules.specs.Walk.{Walked, emitted, expr_emissions, pass_emissio
 use Rattle.split_rules.specs.Walk.{call_emissions, need_of}
 use Rattle.split_rules.specs.Positions.{is_on, Due, run, keep, all_due, kept_due, Level, body, field_reads, Argument}
 use Rattle.split_rules.specs.Positions.{arguments_of, arguing, entering, Position, calm, with_reads, with_forwards}
-use Rattle.split_rules.specs.Positions.{forwards_of, due_numbers, Entrance, number_of}
+use Rattle.split_rules.specs.Positions.{forwards_of, due_numbers, Entrance, number_of, IsOf}
 use Rattle.split_rules.specs.Typing.{EntryIs, Frames, PushesCall, nowhere, here, AreTyped, AreDueOn, Covers, need_due}
 use Rattle.split_rules.specs.Typing.{need_of_method, IsParam, Gives}
 use Rattle.split_rules.specs.TypedCode.{AreMethodEntries}
@@ -55,19 +55,19 @@ none_left planned site level due statement set entries branches =
 arguments_typed : (walked : Walked) (site : Site) (level : Level) (due : List Due) (statement : BlockTree)
     (set : List Argument) → IsDueOn walked.planned site.me (calm level due) →
     is_on walked.planned site.me statement ≡ true →
-    is_trusted_for walked.planned site.me (number_of statement) ≡ true → (entries : List Entrance)
-    (branches : List Position) (params : List VarId) (arguments : List ExprTree) →
+    is_trusted_for walked.planned site.me (number_of statement) ≡ true → IsOf walked.planned.program statement →
+    (entries : List Entrance) (branches : List Position) (params : List VarId) (arguments : List ExprTree) →
     ((x : VarId) → IsParam x params → Gives walked.planned statement x) →
     let left = arguments_of params arguments in
     AreTyped walked.planned (known_at (here site.me (arguing_at level due statement set left)) entries branches)
     (argument_emissions walked site.me site.label site.id params arguments)
     (known_at (here site.me (arguing_at level due statement (set ++ left) [])) entries branches)
-arguments_typed walked site level due statement set on_due own trusted entries branches params [] among =
+arguments_typed walked site level due statement set on_due own trusted is_of entries branches params [] among =
     none_left walked.planned site level due statement set entries branches
-arguments_typed walked site level due statement set on_due own trusted entries branches []
+arguments_typed walked site level due statement set on_due own trusted is_of entries branches []
     (argument ∷ arguments) among =
     none_left walked.planned site level due statement set entries branches
-arguments_typed walked site level due statement set on_due own trusted entries branches (param ∷ params)
+arguments_typed walked site level due statement set on_due own trusted is_of entries branches (param ∷ params)
     (argument ∷ arguments) among =
     let planned = walked.planned in
     let one : Argument = record { param = param; value = argument } in
@@ -108,7 +108,6 @@ arguments_typed walked site level due statement set on_due own trusted entries b
             others = left;
             is_next = refl;
             is_value = record { reads = refl; are = refl };
-            forwards = refl;
             on_host = own;
             goes = refl;
           },
@@ -116,10 +115,10 @@ arguments_typed walked site level due statement set on_due own trusted entries b
         ),
       ),
       pass_typed planned site second refl statement (set ++ one ∷ []) left refl on_due.trusted.0 entries branches
-          statement param (record { on_host = own; trusted = trusted; gives = among param (inl refl) }),
+          statement param (record { on_host = own; trusted = trusted; is_of = is_of; gives = among param (inl refl) }),
     ))
     (subst P (append_assoc set (one ∷ []) left)
-    (arguments_typed walked site level due statement (set ++ one ∷ []) on_due own trusted entries branches params
+    (arguments_typed walked site level due statement (set ++ one ∷ []) on_due own trusted is_of entries branches params
     arguments
     (λ x is. among x (inr is))))
 
@@ -164,7 +163,7 @@ kept_typed walked site level heading at method arguments (Some x) (Some result) 
         ),
       ),
       send_typed planned site (calm level others) refl refl trusted.1 entries branches statement x
-          (record { on_host = own; trusted = trusted.0.0; gives = inl refl }),
+          (record { on_host = own; trusted = trusted.0.0; is_of = trusted.0.1; gives = inl refl }),
     )
 
 -- what is due behind a call, with or without its result
@@ -223,8 +222,8 @@ call_typed walked site level heading at method arguments into called is there ot
           typed_on planned (known_at (here site.me (arguing_at level due statement [] all)) more branches)
               (argument_emissions walked site.me site.label site.id called.params arguments) _
               (known_at (here site.me (arguing_at level due statement all [])) more branches) _
-              (arguments_typed walked site level due statement [] on_due own trusted.0.0 more branches called.params
-              arguments params_given) (
+              (arguments_typed walked site level due statement [] on_due own trusted.0.0 trusted.0.1 more branches
+              called.params arguments params_given) (
                 known_at (here site.me inside) more branches,
                 (arguing_at level due statement all [], refl, (trusted, tt), (inside, pushes, refl)),
                 (
@@ -315,7 +314,6 @@ call_typed walked site level heading at method arguments into called is there ot
           others = others;
           due = refl;
           reads = refl;
-          forwards = refl;
           all_set = rw there refl;
           pushed = subst P (sym need_is) (at_last entries behind []);
           goes = rw there refl;

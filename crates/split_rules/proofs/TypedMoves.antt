@@ -398,7 +398,7 @@ push_typed : (planned : PlannedShape) (me back : HostId) (level : Level) (due : 
 push_typed planned me back level due number next entries branches cuts trusted =
     elim (eqb_tells me.0 back.0) [
       | inl same ↦ rw same.0 (next, cuts, refl)
-      | inr other ↦ rw other.0 (next, (cuts, trusted), refl)
+      | inr other ↦ rw other.0 (next, (cuts, trusted, refl), refl)
     ]
 
 lent : (walked : Walked) (around : Around) (level : Level) (from host back : HostId) (tree : BlockTree)
@@ -522,7 +522,7 @@ lent walked around level from host back tree trees due due_back run_there entrie
     cuts =
         let P : ℕ → Type 0 = λ need. EntryIs both number given.position need in
         record {
-          is_calm = refl;
+          idle = (refl, refl);
           behind = map run past;
           pushed = subst P (sym past_need) (still_there one (segment ∷ []) number given (at_last entries given []));
           due = ap (map run) (row_and_past planned host all)

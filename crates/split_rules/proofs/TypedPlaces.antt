@@ -65,8 +65,8 @@ op_grows planned known me from (op.Branch guard number) after typed = record {
   entries = ap (λ one. one.entries) typed.4;
   branches = record { more = typed.1 ∷ []; is = ap (λ one. one.branches) typed.4 };
 }
-op_grows planned known me from (op.GoWith there on riders) after typed = absurd typed.1
-op_grows planned known me from (op.CallWith there on riders) after typed = absurd typed.1
+op_grows planned known me from (op.GoWith there on riders) after typed = place_only known _ after typed.1
+op_grows planned known me from (op.CallWith there on riders) after typed = place_only known _ after typed.1
 
 -- the place alone is another
 still_known : (known after : Known) → OpGrows known after → BothGrow known after

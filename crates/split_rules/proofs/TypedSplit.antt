@@ -4,6 +4,7 @@ use Rattle.std.proofs.Common.{sym, subst, arith, length-append, eq-eqb, ne_eqb}
 use Rattle.std.specs.Prelude.{Some, slice_get, unwrap_or}
 use Rattle.std.specs.List.{AllByRecursion}
 use Rattle.js_base.specs.declared.ids.HostId.{HostId}
+use Rattle.js_base.specs.declared.ids.VarId.{VarId}
 use Rattle.host_decl.specs.Hosts.{HostsShape}
 use Rattle.jif_tree.specs.Trees.{MethodTree, ProgramTree, call}
 use Rattle.host_code.specs.declared.code.Entry.{Entry}
@@ -22,7 +23,7 @@ use Rattle.split_rules.specs.Splittable.{IsSplittable}
 use Rattle.split_rules.specs.Typable.{IsTypableMethod, IsTypable}
 use Rattle.split_rules.specs.Walk.{need_of, methods_emissions, method_entry}
 use Rattle.split_rules.specs.Typing.{AreDueOn, Covers, LeadsTo, EntryIs, Cuts, Pushes, Follows, Enters, Ends, nowhere}
-use Rattle.split_rules.specs.Typing.{here, Known, TypedOp, AreTyped, IsTrustedAt}
+use Rattle.split_rules.specs.Typing.{EntersWith, here, Known, TypedOp, AreTyped, IsTrustedAt}
 use Rattle.split_rules.specs.TypedCode.{IsTypedEntry, Table, IsTypedOp, IsTypedCode}
 use Rattle.split_rules.specs.WalkStart.{front_emissions, known_start}
 use Rattle.split_rules.specs.Flow.{State}
@@ -46,7 +47,7 @@ Kept {X} first more = (number : ℕ) (x : X) → slice_get first number ≡ Some
 cuts_more : (planned : PlannedShape) (entries more : List Entrance) → Kept entries more → (from : Position)
     (number : ℕ) (next : Position) → Cuts planned entries from number next → Cuts planned more from number next
 cuts_more planned entries more kept from number next cuts = record {
-  is_calm = cuts.is_calm;
+  idle = cuts.idle;
   behind = cuts.behind;
   pushed = kept number _ cuts.pushed;
   due = cuts.due;
@@ -63,7 +64,6 @@ pushes_more planned entries more kept from (arguing (call heading site method ar
       others = pushes.others;
       due = pushes.due;
       reads = pushes.reads;
-      forwards = pushes.forwards;
       all_set = pushes.all_set;
       pushed = kept number _ pushes.pushed;
       goes = pushes.goes;
@@ -76,7 +76,7 @@ follows_more : (planned : PlannedShape) (entries more : List Entrance) → Kept 
 follows_more planned entries more kept me from (op.Push there) next follows =
     pushes_more planned entries more kept from from.calling there.0 next follows
 follows_more planned entries more kept me from (op.Ask there on) next follows =
-    (cuts_more planned entries more kept from there.0 next follows.0, follows.1)
+    (cuts_more planned entries more kept from there.0 next follows.0, follows.1, follows.2)
 follows_more planned entries more kept me from other next follows = follows
 
 enters_more : (planned : PlannedShape) (entries more : List Entrance) → Kept entries more → (from : Position)
@@ -86,11 +86,22 @@ enters_more planned entries more kept from (entering (call heading site method a
     (enters.0, enters.1, enters.2, enters.3, kept number _ enters.4)
 enters_more planned entries more kept from other number enters = absurd enters
 
+enters_with_more : (planned : PlannedShape) (entries more : List Entrance) → Kept entries more → (from : Position)
+    (calling : Calling) (number : ℕ) (riders : List VarId) (on : HostId) →
+    EntersWith planned entries from calling number riders on → EntersWith planned more from calling number riders on
+enters_with_more planned entries more kept from (entering (call heading site method arguments into rest)) number riders
+    on enters = (enters.0, enters.1, enters.2, enters.3, kept number _ enters.4)
+enters_with_more planned entries more kept from other number riders on enters = absurd enters
+
 ends_more : (planned : PlannedShape) (entries more : List Entrance) → Kept entries more → (from : Position)
     (what : Op) → Ends planned entries from what → Ends planned more from what
 ends_more planned entries more kept from (op.Go there on) ends = (ends.0, kept there.0 _ ends.1)
 ends_more planned entries more kept from (op.Call there on) ends =
     enters_more planned entries more kept from from.calling there.0 ends
+ends_more planned entries more kept from (op.GoWith there on riders) ends =
+    (ends.0, ends.1, kept there.0 _ ends.2)
+ends_more planned entries more kept from (op.CallWith there on riders) ends =
+    enters_with_more planned entries more kept from from.calling there.0 riders on ends
 ends_more planned entries more kept from op.Back ends = ends
 ends_more planned entries more kept from other ends = ends
 
@@ -377,8 +388,12 @@ op_typed labelled hosts planned main emissions walk before one behind is me own 
         rw here_is (ends_more planned so.known.entries walk.last.entries so.entries so.from (op.Call there on) law.0)
     by op.Back it_is law =
         rw here_is (ends_more planned so.known.entries walk.last.entries so.entries so.from op.Back law.0)
-    by (op.GoWith there on riders) it_is law = absurd law.1
-    by (op.CallWith there on riders) it_is law = absurd law.1
+    by (op.GoWith there on riders) it_is law =
+        rw here_is
+        (ends_more planned so.known.entries walk.last.entries so.entries so.from (op.GoWith there on riders) law.0)
+    by (op.CallWith there on riders) it_is law =
+        rw here_is
+        (ends_more planned so.known.entries walk.last.entries so.entries so.from (op.CallWith there on riders) law.0)
     by other it_is law =
         rw (here_is, next_is law.0 (ap (λ known. known.place) law.2))
         (follows_more planned so.known.entries walk.last.entries so.entries me so.from other law.0 law.1)

@@ -87,7 +87,7 @@ set_local_typed planned site level heading x value others on_host trusted entrie
         ),
       ),
       send_typed planned site (calm level others) refl refl trusted.1 entries branches statement x
-          (record { on_host = on_host; trusted = trusted.0.0; gives = refl }),
+          (record { on_host = on_host; trusted = trusted.0.0; is_of = trusted.0.1; gives = refl }),
     )
 
 pub set_field_typed : (planned : PlannedShape) (site : Site) (level : Level) (heading : Heading) (field : FieldId)

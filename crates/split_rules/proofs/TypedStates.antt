@@ -53,8 +53,8 @@ counts_op planned known me from (op.Branch guard number) after typed =
   where
     more_branches : ℕ → Counts
     more_branches many = record { entries = length known.entries; branches = many }
-counts_op planned known me from (op.GoWith there on riders) after typed = absurd typed.1
-counts_op planned known me from (op.CallWith there on riders) after typed = absurd typed.1
+counts_op planned known me from (op.GoWith there on riders) after typed = ap counts_of typed.1
+counts_op planned known me from (op.CallWith there on riders) after typed = ap counts_of typed.1
 
 counts_one : (planned : PlannedShape) (known : Known) (x : Emission) (after : Known) → Types planned known x after →
     counts_of after ≡ counts_with (counts_of known) x

@@ -1,6 +1,6 @@
 -- The reads of an expression leave what it reads, and variables are sent in the order in which they have to be.
 use Rattle.std.proofs.Common.{◌≡◌, ◌∙◌, ℕ, ◌+◌, true, List, [], ◌∷◌, ◌++◌, map, length, refl, ap, sym, subst}
-use Rattle.std.proofs.Common.{append_assoc, append-nil, length-append}
+use Rattle.std.proofs.Common.{append_assoc, append-nil, length-append, inl, eq-eqb}
 use Rattle.std.proofs.lemmas.List.{map-append}
 use Rattle.std.specs.Prelude.{pos}
 use Rattle.js_base.specs.declared.ids.HostId.{HostId}
@@ -19,8 +19,8 @@ use Rattle.split_rules.specs.Walk.{emitted, read_emissions, expr_emissions, send
 use Rattle.split_rules.specs.Walk.{other_readers}
 use Rattle.split_rules.specs.Positions.{Due, statement_due, is_on, FieldRead, field_reads, Argument, reads_due, arguing}
 use Rattle.split_rules.specs.Positions.{no_call, Forward, Position, with_reads, with_forwards, forwards_of, Entrance}
-use Rattle.split_rules.specs.Positions.{number_of}
-use Rattle.split_rules.specs.Typing.{AreDueOn, IsTrustedAt, AreSourced, Gives, here, AreTyped}
+use Rattle.split_rules.specs.Positions.{number_of, IsOf}
+use Rattle.split_rules.specs.Typing.{AreDueOn, IsTrustedAt, AreSourced, Gives, Sends, here, AreTyped}
 use Rattle.split_rules.proofs.TypedStates.{known_at, typed_on}
 
 pub reads_many : (expr : ExprTree) → length (field_reads expr) ≡ reads_in expr
@@ -168,13 +168,22 @@ forwards_to source x hosts = map (λ host. record { variable = x; host = host; s
 pub record IsGivenOn (planned : PlannedShape) (me : HostId) (source : BlockTree) (x : VarId) : Type 0 where
   pub on_host : is_on planned me source ≡ true
   pub trusted : is_trusted_for planned me (number_of source) ≡ true
+  pub is_of : IsOf planned.program source
   pub gives : Gives planned source x
 
 are_sourced : (planned : PlannedShape) (me : HostId) (source : BlockTree) (x : VarId) →
     IsGivenOn planned me source x → (hosts : List HostId) → AreSourced planned me (forwards_to source x hosts)
 are_sourced planned me source x given [] = tt
 are_sourced planned me source x given (host ∷ hosts) =
-    ((given.on_host, given.trusted, given.gives), are_sourced planned me source x given hosts)
+    ((given.on_host, given.trusted, given.is_of, given.gives), are_sourced planned me source x given hosts)
+
+-- where the first is sent of what has still to be sent, the others are left
+first_sends : (base : Position) → base.reads ≡ [] → (source : BlockTree) (x : VarId) (host : HostId)
+    (hosts : List HostId) →
+    Sends (with_forwards base (forwards_to source x (host ∷ hosts))) x host
+    (with_forwards base (forwards_to source x hosts))
+first_sends base none source x host hosts =
+    (none, inl (refl, refl), rw (eq-eqb x.0 x.0 refl, eq-eqb host.0 host.0 refl) refl)
 
 sends_to : (planned : PlannedShape) (site : Site) (base : Position) → base.reads ≡ [] → base.calling ≡ no_call →
     AreDueOn planned site.me base.due → (entries : List Entrance) (branches : List Position) (source : BlockTree)
@@ -191,7 +200,7 @@ sends_to planned site base none no_calls trusted entries branches source x given
     (trusted, are_sourced planned site.me source x given (host ∷ hosts)),
     (
       with_forwards base (forwards_to source x hosts),
-      (no_calls, (source, forwards_to source x hosts, none, refl, refl)),
+      (no_calls, first_sends base none source x host hosts),
       refl,
     ),
   ),
@@ -224,7 +233,7 @@ passes_to planned site base none statement set left is trusted entries branches 
     (trusted, are_sourced planned site.me source x given (host ∷ hosts)),
     (
       with_forwards base (forwards_to source x hosts),
-      (statement, set, left, is, (source, forwards_to source x hosts, none, refl, refl)),
+      (statement, set, left, is, first_sends base none source x host hosts),
       refl,
     ),
   ),

@@ -3,6 +3,7 @@ pub mod Emissions
 pub mod Expressions
 pub mod Walk
 pub mod Positions
+pub mod Handing
 pub mod Typing
 pub mod Typable
 pub mod TypedCode
@@ -19,3 +20,4 @@ pub mod Pace
 pub mod ThreadRun
 pub mod Opening
 pub mod OpenExamples
+pub mod TypingExamples

@@ -7,6 +7,7 @@ use Rattle.host_code.specs.Code.{CodeShape}
 use Rattle.host_code.specs.declared.instruction.Op.{Op}
 use Rattle.msg_cost.specs.Moves.{PlannedShape}
 use Rattle.split_rules.specs.Opening.{OpensOp}
+use Rattle.split_rules.specs.Placed.{PlacedProgram}
 use Rattle.split_rules.specs.Positions.{run, body, under, Level, Position, calm, with_reads, with_forwards}
 use Rattle.split_rules.specs.SplitCode.{split_code}
 use Rattle.split_rules.specs.TypedCode.{Table}
@@ -20,9 +21,13 @@ untrusted = trusted_by 0
 abbrev pub trusted_by_first : Label
 trusted_by_first = trusted_by 1
 
--- its code, where the first principal trusts each variable
+-- its program, where the first principal trusts each variable
+abbrev pub placed_of : PlannedShape → PlacedProgram
+placed_of planned = placed_with planned (map (λ x. trusted_by_first) planned.program.vars)
+
+-- the code of that
 abbrev pub code_of : PlannedShape → CodeShape
-code_of planned = split_code (placed_with planned (map (λ x. trusted_by_first) planned.program.vars))
+code_of planned = split_code (placed_of planned)
 
 -- the token with which `main` was entered
 abbrev pub main_level : Level

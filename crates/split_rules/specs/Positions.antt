@@ -4,7 +4,8 @@
 -- Positions hold the statements that are due. A position lists what is due as trees of single statements, and not by
 -- their numbers. So the law of an instruction compares it with the statement itself, and no lookup of a number comes
 -- between. The next position is given by the law, and not chosen: `typing_laws` say that it is one.
-use Rattle.std.specs.Prelude.{◌≡◌, ℕ, Bool, pos, List, [], ◌∷◌, ◌++◌, map, Option, Some, if◌then◌else◌, Any, IsSomeAnd}
+use Rattle.std.specs.Prelude.{◌≡◌, ℕ, Bool, ◌&&◌, nat_eq, pos, List, [], ◌∷◌, ◌++◌, map, Option, Some, if◌then◌else◌}
+use Rattle.std.specs.Prelude.{◌⊎◌, Any, IsSomeAnd}
 use Rattle.js_base.specs.declared.ids.HostId.{HostId}
 use Rattle.js_base.specs.declared.ids.FieldId.{FieldId}
 use Rattle.js_base.specs.declared.ids.VarId.{VarId}
@@ -176,8 +177,8 @@ reads_due no_call statement = own_reads statement
 reads_due (arguing called set (next ∷ left)) statement = field_reads next.value
 reads_due other statement = []
 
--- A variable that a host has still to be sent, of the new frame while its parameters are set, otherwise of the frame,
--- and the statement that gave it its value.
+-- A variable that a host has still to be sent, of the new frame while a call is made, otherwise of the frame, and the
+-- statement that gave it its value.
 pub record Forward : Type 0 where
   pub variable : VarId
   pub host : HostId
@@ -222,3 +223,14 @@ with_forwards here forwards = record {
 abbrev pub forwards_of : PlannedShape → HostId → BlockTree → VarId → List Forward
 forwards_of planned me source x =
     map (λ host. record { variable = x; host = host; source = source }) (other_readers planned me x)
+
+-- a variable has still to be sent to a host
+abbrev pub IsOut : List Forward → VarId → HostId → Type 0
+IsOut [] x host = ⊥
+IsOut (forward ∷ out) x host = ((forward.variable ≡ x) × (forward.host ≡ host)) ⊎ IsOut out x host
+
+-- without the first forward of this variable to this host
+abbrev pub without_forward : VarId → HostId → List Forward → List Forward
+without_forward x to [] = []
+without_forward x to (forward ∷ others) =
+    if nat_eq forward.variable.0 x.0 && is_same forward.host to then others else forward ∷ without_forward x to others

@@ -33,6 +33,10 @@ IsTypedOp planned table me place (op.Branch guard target) =
 IsTypedOp planned table me place (op.Go there on) = Ends planned table.entries (table.at me.0 place) (op.Go there on)
 IsTypedOp planned table me place (op.Call there on) =
     Ends planned table.entries (table.at me.0 place) (op.Call there on)
+IsTypedOp planned table me place (op.GoWith there on riders) =
+    Ends planned table.entries (table.at me.0 place) (op.GoWith there on riders)
+IsTypedOp planned table me place (op.CallWith there on riders) =
+    Ends planned table.entries (table.at me.0 place) (op.CallWith there on riders)
 IsTypedOp planned table me place op.Back = Ends planned table.entries (table.at me.0 place) op.Back
 IsTypedOp planned table me place other =
     Follows planned table.entries me (table.at me.0 place) other (table.at me.0 (suc place))

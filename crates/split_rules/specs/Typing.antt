@@ -4,8 +4,8 @@
 -- Needs are exact where entries are pushed. The need of an entry that is pushed or gone to is that of what is due
 -- there, and not only as much. So whoever pushes an entry is trusted for its need, since it is trusted for all that is
 -- due.
-use Rattle.std.specs.Prelude.{◌≡◌, ℕ, suc, true, List, [], ◌∷◌, ◌++◌, length, Option, Some, None, slice_get, ◌⊎◌, ◌≤◌}
-use Rattle.std.specs.Prelude.{slice_index, ◌<◌}
+use Rattle.std.specs.Prelude.{◌≡◌, ℕ, suc, true, List, [], ◌∷◌, ◌++◌, length, map, Option, Some, None, slice_get}
+use Rattle.std.specs.Prelude.{◌⊎◌, ◌≤◌, slice_index, ◌<◌}
 use Rattle.std.specs.Int.{bit_at}
 use Rattle.std.specs.List.{AllByRecursion}
 use Rattle.js_base.specs.declared.ids.HostId.{HostId}
@@ -28,7 +28,7 @@ use Rattle.split_rules.specs.Walk.{need_of}
 use Rattle.split_rules.specs.Positions.{IsIn, IsOf, number_of, due_numbers, Entrance, Due, run, keep, statement_due}
 use Rattle.split_rules.specs.Positions.{is_on, all_due, kept_due, body, under, FieldRead, field_reads, Argument}
 use Rattle.split_rules.specs.Positions.{Calling, no_call, arguing, entering, Forward, arguments_of, reads_due, Position}
-use Rattle.split_rules.specs.Positions.{calm, with_reads, with_forwards, forwards_of}
+use Rattle.split_rules.specs.Positions.{calm, with_reads, with_forwards, forwards_of, IsOut, without_forward}
 
 -- ---- parts of the laws
 
@@ -58,10 +58,11 @@ Gives planned (call heading site method arguments into rest) x =
     (into ≡ Some x) ⊎ IsParam x (params_of (method_at planned.program method))
 Gives planned other x = ⊥
 
--- what has to be sent was given its value by a statement on this host, which is trusted for the statement
+-- What has to be sent was given its value by a statement of the program on this host, which is trusted for the
+-- statement.
 abbrev pub AreSourced : PlannedShape → HostId → List Forward → Type 0
 AreSourced planned me forwards = AllByRecursion (λ forward. (is_on planned me forward.source ≡ true)
-    × (is_trusted_for planned me (number_of forward.source) ≡ true)
+    × (is_trusted_for planned me (number_of forward.source) ≡ true) × IsOf planned.program forward.source
     × Gives planned forward.source forward.variable) forwards
 
 -- a host is trusted for what is due and for what has to be sent
@@ -84,6 +85,15 @@ need_of_method planned (Some method) = need_of planned (method.head ∷ [])
 
 abbrev pub IsCalm : Position → Type 0
 IsCalm position = position ≡ calm position.level position.due
+
+-- nothing was read and no call is made; something may still have to be sent
+abbrev pub IsIdle : Position → Type 0
+IsIdle position = (position.reads ≡ []) × (position.calling ≡ no_call)
+
+-- All that has still to be sent rides to one host: these variables, in their order.
+abbrev pub RidesAll : List VarId → HostId → List Forward → Type 0
+RidesAll riders on forwards = (map (λ forward. forward.variable) forwards ≡ riders)
+    × AllByRecursion (λ forward. forward.host ≡ on) forwards
 
 -- what comes first stands on this host, and nothing has to be sent before it
 pub record BeginsWith (planned : PlannedShape) (me : HostId) (here : Position) (first : Due) (others : List Due) :
@@ -139,22 +149,23 @@ body_of (Some method) = method.body
 
 -- ---- pushes
 
--- What is due is cut in two: what is behind stays with the entry that is pushed.
+-- What is due is cut in two: what is behind stays with the entry that is pushed. What has still to be sent is sent
+-- behind the push, or rides when the thread is handed over.
 pub record Cuts (planned : PlannedShape) (entries : List Entrance) (here : Position) (number : ℕ) (next : Position) :
     Type 0 where
-  pub is_calm : IsCalm here
+  pub idle : IsIdle here
   pub behind : List Due
   pub pushed : EntryIs entries number (calm here.level behind) (need_due planned behind)
   pub due : here.due ≡ next.due ++ behind
-  pub goes : next ≡ calm (under number) next.due
+  pub goes : next ≡ with_forwards (calm (under number) next.due) here.forwards
 
--- The entry behind a call is pushed once all parameters are set. What the called method does is due from then on.
+-- The entry behind a call is pushed once all parameters are set. What the called method does is due from then on, and
+-- the parameters that have still to be sent may ride with the call.
 pub record PushesCall (planned : PlannedShape) (entries : List Entrance) (here : Position) (statement : BlockTree)
     (set : List Argument) (method : MethodId) (arguments : List ExprTree) (number : ℕ) (next : Position) : Type 0 where
   pub others : List Due
   pub due : here.due ≡ run statement ∷ others
   pub reads : here.reads ≡ []
-  pub forwards : here.forwards ≡ []
   pub all_set : set ≡ arguments_of (params_of (method_at planned.program method)) arguments
   pub pushed : EntryIs entries number (calm here.level (kept_due planned statement ++ others))
       (need_due planned here.due)
@@ -163,7 +174,7 @@ pub record PushesCall (planned : PlannedShape) (entries : List Entrance) (here :
     due = all_due (body_of (method_at planned.program method));
     reads = [];
     calling = entering statement;
-    forwards = [];
+    forwards = here.forwards;
   }
 
 abbrev pub Pushes : PlannedShape → List Entrance → Position → Calling → ℕ → Position → Type 0
@@ -190,21 +201,20 @@ pub record Reads (planned : PlannedShape) (me : HostId) (here : Position) (field
   pub are : nodes ≡ nodes_of (length before) index
   pub goes : next ≡ with_reads here (here.reads ++ record { field = field; index = index } ∷ [])
 
--- the parameter is set that is to be set next
+-- the parameter is set that is to be set next, and those set before may still have to be sent
 pub record SetsArgument (planned : PlannedShape) (me : HostId) (here : Position) (statement : BlockTree)
     (set left : List Argument) (x : VarId) (nodes : List Node) (next : Position) : Type 0 where
   pub value : ExprTree
   pub others : List Argument
   pub is_next : left ≡ record { param = x; value = value } ∷ others
   pub is_value : IsValue here value nodes
-  pub forwards : here.forwards ≡ []
   pub on_host : is_on planned me statement ≡ true
   pub goes : next ≡ record {
     level = here.level;
     due = here.due;
     reads = [];
     calling = arguing statement (set ++ record { param = x; value = value } ∷ []) others;
-    forwards = forwards_of planned me statement x;
+    forwards = here.forwards ++ forwards_of planned me statement x;
   }
 
 abbrev pub Argues : PlannedShape → HostId → Position → Calling → VarId → List Node → Position → Type 0
@@ -212,12 +222,10 @@ Argues planned me here (arguing statement set left) x nodes next =
     SetsArgument planned me here statement set left x nodes next
 Argues planned me here other x nodes next = ⊥
 
--- the next forward that is left is sent
+-- one of the forwards that are left is sent
 abbrev pub Sends : Position → VarId → HostId → Position → Type 0
-Sends here x to next =
-    (source : BlockTree) × (left : List Forward) × (here.reads ≡ [])
-    × (here.forwards ≡ record { variable = x; host = to; source = source } ∷ left)
-    × (next ≡ with_forwards here left)
+Sends here x to next = (here.reads ≡ []) × IsOut here.forwards x to
+    × (next ≡ with_forwards here (without_forward x to here.forwards))
 
 -- An instruction of a host at a position behind which the host goes on at the next.
 abbrev pub Follows : PlannedShape → List Entrance → HostId → Position → Op → Position → Type 0
@@ -244,7 +252,7 @@ Follows planned entries me here (op.Pass x to) next =
     × (here.calling ≡ arguing statement set left) × Sends here x to next
 Follows planned entries me here (op.Push there) next = Pushes planned entries here here.calling there.0 next
 Follows planned entries me here (op.Ask there on) next =
-    Cuts planned entries here there.0 next × AreDueOn planned on here.due
+    Cuts planned entries here there.0 next × AreDueOn planned on here.due × (here.forwards ≡ [])
 Follows planned entries me here (op.Ret x value) next =
     (first : Due) × (method : MethodId) × BeginsWith planned me here first [] × (here.calling ≡ no_call)
     × GivesBack here first value × (here.level ≡ body method)
@@ -275,11 +283,23 @@ Enters planned entries here (entering (call heading site method arguments into r
     × EntryIs entries number (calm here.level here.due) (need_of_method planned (method_at planned.program method))
 Enters planned entries here other number = ⊥
 
+-- the entry of the called method is gone to, and all parameters that have still to be sent ride to this host
+abbrev pub EntersWith :
+    PlannedShape → List Entrance → Position → Calling → ℕ → List VarId → HostId → Type 0
+EntersWith planned entries here (entering (call heading site method arguments into rest)) number riders on =
+    (number ≡ suc method.0) × (here.level ≡ body method) × (here.reads ≡ []) × RidesAll riders on here.forwards
+    × EntryIs entries number (calm here.level here.due) (need_of_method planned (method_at planned.program method))
+EntersWith planned entries here other number riders on = ⊥
+
 -- An instruction behind which the thread ends.
 abbrev pub Ends : PlannedShape → List Entrance → Position → Op → Type 0
 Ends planned entries here (op.Go there on) =
     IsCalm here × EntryIs entries there.0 here (need_due planned here.due)
 Ends planned entries here (op.Call there on) = Enters planned entries here here.calling there.0
+Ends planned entries here (op.GoWith there on riders) = IsIdle here × RidesAll riders on here.forwards
+    × EntryIs entries there.0 (calm here.level here.due) (need_due planned here.due)
+Ends planned entries here (op.CallWith there on riders) =
+    EntersWith planned entries here here.calling there.0 riders on
 Ends planned entries here op.Back = here ≡ calm here.level []
 Ends planned entries here other = ⊥
 
@@ -312,6 +332,10 @@ TypedOp planned known me from (op.Go there on) after =
     Ends planned known.entries from (op.Go there on) × (after ≡ with_place known nowhere)
 TypedOp planned known me from (op.Call there on) after =
     Ends planned known.entries from (op.Call there on) × (after ≡ with_place known nowhere)
+TypedOp planned known me from (op.GoWith there on riders) after =
+    Ends planned known.entries from (op.GoWith there on riders) × (after ≡ with_place known nowhere)
+TypedOp planned known me from (op.CallWith there on riders) after =
+    Ends planned known.entries from (op.CallWith there on riders) × (after ≡ with_place known nowhere)
 TypedOp planned known me from op.Back after =
     Ends planned known.entries from op.Back × (after ≡ with_place known nowhere)
 TypedOp planned known me from other after =

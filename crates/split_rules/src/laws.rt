@@ -19,6 +19,8 @@ ghost use Rattle.split_rules.specs.Opening.{IsOpenCode, HasOwnLabels, CoversRuns
 ghost use Rattle.split_rules.specs.Opening.{NamesWithin, IsCoveredBy};
 ghost use Rattle.split_rules.specs.OpenExamples.{code_of, untrusted, trusted_by_first, thread_on_first, lent_table};
 ghost use Rattle.split_rules.specs.OpenExamples.{sent_table, branched_table, looped_table, FirstOpens};
+ghost use Rattle.split_rules.specs.TypingExamples.{first_instead, CanBeTyped, rides, sent_and_rides, kept_back};
+ghost use Rattle.split_rules.specs.TypingExamples.{rides_called, kept_from_call, lent_local, lent_past_local};
 ghost use Rattle.split_rules.specs.Settled.{AreSettled};
 ghost use Rattle.split_rules.specs.Walk.{program_emissions};
 ghost use Rattle.std.specs.Prelude.{◌≡◌, ℕ, ◌+◌, ◌*◌, ◌≤◌, List, ◌∷◌, [], length, pos};
@@ -71,8 +73,8 @@ pub fn asking_laws()
 {}
 
 /// Where a program is split that passes the label check, a host that is trusted for all that is due at a place of its
-/// code, whatever host the place is on, may change what the instruction there changes and what rides with it, is trusted
-/// for the entries that the instruction pushes, asks for or goes to, and is trusted for all that is due behind it. The
+/// code, whatever host the place is on, may change what the instruction there changes and what rides with it. It is
+/// trusted for the entries that the instruction pushes, asks for or goes to, and for all that is due behind it. The
 /// labels are those of the host file and the program. And wherever a thread comes to that enters at an entry, until it
 /// gives back the token with which it entered, the need of the entry has the needs of all that is due there, and of the
 /// entry that the instruction there names.
@@ -111,6 +113,37 @@ pub fn typing_laws()
     ensures one_division { (planned : PlannedShape) (me : HostId) (here : Position) (guard : List Node)
         (next target other other_target : Position) → Divides planned me here guard next target →
         Divides planned me here guard other other_target → (next ≡ other) × (target ≡ other_target) }
+{}
+
+/// Code in which values ride, in place of that of some small programs, and whether there are positions by which it is
+/// typed.
+pub fn typing_examples()
+    // A local is not sent before the thread is handed over, but rides with it.
+    ensures rides_on { first_instead sent_local rides ≡ op.Let (var_id 0) (node.Number (pos 7) ∷ [])
+        ∷ op.GoWith (entry_id 2) (host_id 1) (var_id 0 ∷ []) ∷ [] }
+    ensures local_rides { CanBeTyped sent_local rides }
+    // It rides where the entry behind is pushed between.
+    ensures rides_on_past { first_instead lent_local rides ≡ op.Let (var_id 0) (node.Number (pos 7) ∷ [])
+        ∷ op.Push (entry_id 2) ∷ op.GoWith (entry_id 3) (host_id 1) (var_id 0 ∷ [])
+        ∷ op.Read (field_id 1) first_element
+        ∷ op.Put (field_id 1) first_element (node.Temp 0 ∷ node.Number (pos 1) ∷ node.Binary operator.Add ∷ [])
+        ∷ op.Back ∷ [] }
+    ensures rides_past_push { CanBeTyped lent_local rides }
+    // A parameter rides with the call, behind the push of the entry where the result is kept.
+    ensures rides_on_called { first_instead called rides_called
+        ≡ op.Frame (site_id 1) ∷ op.Arg (var_id 1) (node.Number (pos 3) ∷ [])
+        ∷ op.Push (entry_id 3) ∷ op.CallWith (entry_id 2) (host_id 1) (var_id 1 ∷ [])
+        ∷ op.Let (var_id 0) (node.Var (var_id 2) ∷ []) ∷ op.Back ∷ [] }
+    ensures parameter_rides { CanBeTyped called rides_called }
+    // What rides was not sent, and what was sent does not ride.
+    ensures not_sent_and_rides { ¬ CanBeTyped sent_local sent_and_rides }
+    // A thread is not handed over, and no method called, while something is left to be sent that does not ride.
+    ensures not_kept_back { ¬ CanBeTyped sent_local kept_back }
+    ensures not_kept_from_call { ¬ CanBeTyped called kept_from_call }
+    // Nothing rides where another host is asked for the entry behind.
+    ensures rides_on_asked { first_instead lent_past_local rides ≡ op.Let (var_id 0) (node.Number (pos 7) ∷ [])
+        ∷ op.Ask (entry_id 2) (host_id 2) ∷ op.GoWith (entry_id 3) (host_id 1) (var_id 0 ∷ []) ∷ [] }
+    ensures not_past_ask { ¬ CanBeTyped lent_past_local rides }
 {}
 
 /// The instructions of some small programs on each of their hosts, the hosts of their entries, and which statements are

@@ -4,6 +4,6 @@
 mod laws;
 
 pub use laws::{
-    asking_laws, opening_examples, opening_laws, pace_laws, split_laws, trust_laws, typing_laws,
-    worked_laws,
+    asking_laws, opening_examples, opening_laws, pace_laws, split_laws, trust_laws,
+    typing_examples, typing_laws, worked_laws,
 };

@@ -113,6 +113,10 @@ op_guard scene known me shade (op.Go there on) after law own host ahead place_is
     absurd (not_nowhere host ahead (sym place_is ∙ ap (λ one. one.place) law.1))
 op_guard scene known me shade (op.Call there on) after law own host ahead place_is begins =
     absurd (not_nowhere host ahead (sym place_is ∙ ap (λ one. one.place) law.1))
+op_guard scene known me shade (op.GoWith there on riders) after law own host ahead place_is begins =
+    absurd (not_nowhere host ahead (sym place_is ∙ ap (λ one. one.place) law.1))
+op_guard scene known me shade (op.CallWith there on riders) after law own host ahead place_is begins =
+    absurd (not_nowhere host ahead (sym place_is ∙ ap (λ one. one.place) law.1))
 op_guard scene known me shade op.Back after law own host ahead place_is begins =
     absurd (not_nowhere host ahead (sym place_is ∙ ap (λ one. one.place) law.1))
 op_guard scene known me shade other after law own host ahead place_is begins =

@@ -15,8 +15,8 @@ use Rattle.split_rules.proofs.ToldEmissions.{no_entry}
 use Rattle.split_rules.proofs.WalkedCalls.{still_there}
 use Rattle.split_shades.specs.Shades.{Shade, EntryShade, Ahead, Meets, ahead_of, level_entry}
 use Rattle.split_shades.specs.Shading.{Scene, IsLevelOf, Names, PushesAt, Pushes, Follows, HandsOn}
-use Rattle.split_shades.specs.Shading.{Enters, Ends, IsShade, IsEntryShade, Place, nowhere, here, Known, known_at}
-use Rattle.split_shades.specs.Shading.{ShadedOp, no_begun, Shaded, AreShaded}
+use Rattle.split_shades.specs.Shading.{Enters, GoesTo, CallsOn, Ends, IsShade, IsEntryShade, Place, nowhere, here}
+use Rattle.split_shades.specs.Shading.{Known, known_at, ShadedOp, no_begun, Shaded, AreShaded}
 use Rattle.split_shades.proofs.ReadOff.{GoesOn}
 use Rattle.split_shades.proofs.ShadedStates.{counts_behind, counts_of}
 
@@ -68,8 +68,8 @@ op_keeps scene known me shade (op.Branch guard number) after law = record {
   entries = kept_same known.entries after.entries (ap (λ one. one.entries) law.6);
   branches = kept_longer known.branches (law.1 ∷ []) after.branches (ap (λ one. one.branches) law.6);
 }
-op_keeps scene known me shade (op.GoWith there on riders) after law = absurd law.1
-op_keeps scene known me shade (op.CallWith there on riders) after law = absurd law.1
+op_keeps scene known me shade (op.GoWith there on riders) after law = place_only known _ after law.1
+op_keeps scene known me shade (op.CallWith there on riders) after law = place_only known _ after law.1
 
 pub step_keeps : (scene : Scene) (known : Known) (x : Emission) (after : Known) → Shaded scene known x after →
     BothKept known after
@@ -208,12 +208,26 @@ enters_more entries more kept shade number enters = record {
   below = enters.below;
 }
 
+goes_more : (scene : Scene) (entries more : List EntryShade) → Kept entries more → (shade : Shade) (number : ℕ)
+    (on : HostId) → GoesTo scene entries shade number on → GoesTo scene more shade number on
+goes_more scene entries more kept shade number on goes =
+    (goes.0, goes.1, goes.2, hands_more entries more kept shade number goes.3, goes.4)
+
+calls_more : (scene : Scene) (entries more : List EntryShade) → Kept entries more → (shade : Shade) (number : ℕ)
+    (on : HostId) → CallsOn scene entries shade number on → CallsOn scene more shade number on
+calls_more scene entries more kept shade number on calls =
+    (calls.0, calls.1, calls.2, enters_more entries more kept shade number calls.3, calls.4)
+
 pub ends_more : (scene : Scene) (entries more : List EntryShade) → Kept entries more → (shade : Shade) (what : Op) →
     Ends scene entries shade what → Ends scene more shade what
 ends_more scene entries more kept shade (op.Go there on) ends =
-    (ends.0, ends.1, ends.2, hands_more entries more kept shade there.0 ends.3, ends.4)
+    goes_more scene entries more kept shade there.0 on ends
 ends_more scene entries more kept shade (op.Call there on) ends =
-    (ends.0, ends.1, ends.2, enters_more entries more kept shade there.0 ends.3, ends.4)
+    calls_more scene entries more kept shade there.0 on ends
+ends_more scene entries more kept shade (op.GoWith there on riders) ends =
+    (goes_more scene entries more kept shade there.0 on ends.0, ends.1)
+ends_more scene entries more kept shade (op.CallWith there on riders) ends =
+    (calls_more scene entries more kept shade there.0 on ends.0, ends.1)
 ends_more scene entries more kept shade op.Back ends = ends
 ends_more scene entries more kept shade other ends = ends
 

@@ -234,8 +234,14 @@ op_shaded scene hosts main emissions walk before one behind is me own what what_
     by op.Back it_is so_law =
         let P : Shade → Type 0 = λ it. Ends scene walk.last.entries it op.Back in
         subst P (sym here_is) (ends_more scene so.known.entries walk.last.entries kept shade op.Back so_law.0)
-    by (op.GoWith there on riders) it_is so_law = absurd so_law.1
-    by (op.CallWith there on riders) it_is so_law = absurd so_law.1
+    by (op.GoWith there on riders) it_is so_law =
+        let P : Shade → Type 0 = λ it. Ends scene walk.last.entries it (op.GoWith there on riders) in
+        subst P (sym here_is) (ends_more scene so.known.entries walk.last.entries kept shade
+        (op.GoWith there on riders) so_law.0)
+    by (op.CallWith there on riders) it_is so_law =
+        let P : Shade → Type 0 = λ it. Ends scene walk.last.entries it (op.CallWith there on riders) in
+        subst P (sym here_is) (ends_more scene so.known.entries walk.last.entries kept shade
+        (op.CallWith there on riders) so_law.0)
     by other it_is so_law =
         let P : Shade → Type 0 = λ it. Follows scene walk.last.entries me it other so_law.0 in (
           so_law.0,

@@ -47,8 +47,8 @@ counts_op scene known me shade (op.Branch guard number) after law =
   where
     more_branches : ℕ → Counts
     more_branches many = record { entries = length known.entries; branches = many }
-counts_op scene known me shade (op.GoWith there on riders) after law = absurd law.1
-counts_op scene known me shade (op.CallWith there on riders) after law = absurd law.1
+counts_op scene known me shade (op.GoWith there on riders) after law = ap counts_of law.1
+counts_op scene known me shade (op.CallWith there on riders) after law = ap counts_of law.1
 
 counts_one : (scene : Scene) (known : Known) (x : Emission) (after : Known) → Shaded scene known x after →
     counts_of after ≡ counts_with (counts_of known) x

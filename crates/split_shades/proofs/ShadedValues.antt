@@ -337,7 +337,7 @@ sends_shaded scene site entries branches is calls guard x flows (host ∷ hosts)
         ahead_at site [] None,
         (
           calls,
-          ((refl, refl), guard, flows, see.0),
+          ((refl, refl), guard, (flows, see.0)),
           ap (λ it. record {
             level = site.level;
             block = site.block;
@@ -365,7 +365,7 @@ passes_shaded scene site entries branches is calls guard x flows (host ∷ hosts
         ahead_at site [] None,
         (
           calls,
-          ((refl, refl), guard, flows, see.0),
+          ((refl, refl), guard, (flows, see.0)),
           ap (λ it. record {
             level = site.level;
             block = site.block;

@@ -38,6 +38,10 @@ IsShadedOp scene shades me place (op.Go there on) =
     Ends scene shades.entries (shades.at me place) (op.Go there on)
 IsShadedOp scene shades me place (op.Call there on) =
     Ends scene shades.entries (shades.at me place) (op.Call there on)
+IsShadedOp scene shades me place (op.GoWith there on riders) =
+    Ends scene shades.entries (shades.at me place) (op.GoWith there on riders)
+IsShadedOp scene shades me place (op.CallWith there on riders) =
+    Ends scene shades.entries (shades.at me place) (op.CallWith there on riders)
 IsShadedOp scene shades me place op.Back = Ends scene shades.entries (shades.at me place) op.Back
 IsShadedOp scene shades me place other =
     (next : Ahead) × Follows scene shades.entries me (shades.at me place) other next

@@ -2,6 +2,7 @@
 -- and of the entries that it names.
 use Rattle.std.specs.Prelude.{◌≡◌, ◌⊎◌, ℕ, suc, Bool, true, false, List, [], ◌∷◌, ◌++◌, map, length, Option, Some, None}
 use Rattle.std.specs.Prelude.{IfSome, slice_get}
+use Rattle.std.specs.List.{AllByRecursion}
 use Rattle.js_base.specs.declared.ids.HostId.{HostId}
 use Rattle.js_base.specs.declared.ids.FieldId.{FieldId}
 use Rattle.js_base.specs.declared.ids.VarId.{VarId}
@@ -97,10 +98,14 @@ pub record Stores (scene : Scene) (here : Shade) (field : FieldId) (at nodes : L
 abbrev pub IsPlain : Shade → Type 0
 IsPlain here = (here.temps ≡ []) × (here.released ≡ [])
 
--- a variable to which the program label flows is sent to a host that may see it
-abbrev pub Sends : Scene → Shade → VarId → HostId → Type 0
-Sends scene here x to = IsPlain here × (here.guard ≡ None) × ConfFlows here.pc (label_of scene.basis.labelled x)
+-- a host may be told the value of a variable here: the program label flows to the variable, which the host may see
+abbrev pub MayTell : Scene → Shade → VarId → HostId → Type 0
+MayTell scene here x to = ConfFlows here.pc (label_of scene.basis.labelled x)
     × IsSeenOn scene.planned to (label_of scene.basis.labelled x)
+
+-- a variable is sent to a host
+abbrev pub Sends : Scene → Shade → VarId → HostId → Type 0
+Sends scene here x to = IsPlain here × (here.guard ≡ None) × MayTell scene here x to
 
 -- ---- pushes
 
@@ -206,14 +211,30 @@ pub record Enters (entries : List EntryShade) (here : Shade) (number : ℕ) : Ty
   pub block : it.block ≡ it.label
   pub below : ConfFlows here.block it.block
 
+-- The thread goes on at an entry of the block on a host that may see the program label.
+abbrev pub GoesTo : Scene → List EntryShade → Shade → ℕ → HostId → Type 0
+GoesTo scene entries here number on =
+    IsPlain here × (here.calls ≡ false) × (here.guard ≡ None) × HandsOn entries here number
+    × IsSeenOn scene.planned on here.pc
+
+-- A method is called on such a host.
+abbrev pub CallsOn : Scene → List EntryShade → Shade → ℕ → HostId → Type 0
+CallsOn scene entries here number on =
+    IsPlain here × (here.calls ≡ true) × (here.guard ≡ None) × Enters entries here number
+    × IsSeenOn scene.planned on here.pc
+
+-- The values of these variables ride to a host.
+abbrev pub Rides : Scene → Shade → List VarId → HostId → Type 0
+Rides scene here riders on = AllByRecursion (λ x. MayTell scene here x on) riders
+
 -- An instruction behind which the thread ends.
 abbrev pub Ends : Scene → List EntryShade → Shade → Op → Type 0
-Ends scene entries here (op.Go there on) =
-    IsPlain here × (here.calls ≡ false) × (here.guard ≡ None) × HandsOn entries here there.0
-    × IsSeenOn scene.planned on here.pc
-Ends scene entries here (op.Call there on) =
-    IsPlain here × (here.calls ≡ true) × (here.guard ≡ None) × Enters entries here there.0
-    × IsSeenOn scene.planned on here.pc
+Ends scene entries here (op.Go there on) = GoesTo scene entries here there.0 on
+Ends scene entries here (op.Call there on) = CallsOn scene entries here there.0 on
+Ends scene entries here (op.GoWith there on riders) =
+    GoesTo scene entries here there.0 on × Rides scene here riders on
+Ends scene entries here (op.CallWith there on riders) =
+    CallsOn scene entries here there.0 on × Rides scene here riders on
 Ends scene entries here op.Back = IsPlain here × (here.calls ≡ false) × (here.guard ≡ None)
 Ends scene entries here other = ⊥
 
@@ -265,6 +286,10 @@ ShadedOp scene known me shade (op.Go there on) after =
     Ends scene known.entries shade (op.Go there on) × (after ≡ with_place known nowhere)
 ShadedOp scene known me shade (op.Call there on) after =
     Ends scene known.entries shade (op.Call there on) × (after ≡ with_place known nowhere)
+ShadedOp scene known me shade (op.GoWith there on riders) after =
+    Ends scene known.entries shade (op.GoWith there on riders) × (after ≡ with_place known nowhere)
+ShadedOp scene known me shade (op.CallWith there on riders) after =
+    Ends scene known.entries shade (op.CallWith there on riders) × (after ≡ with_place known nowhere)
 ShadedOp scene known me shade op.Back after =
     Ends scene known.entries shade op.Back × (after ≡ with_place known nowhere)
 ShadedOp scene known me shade other after =

@@ -1,15 +1,17 @@
 -- Small programs whose blocks have labels apart, and what they give.
-use Rattle.std.specs.Prelude.{ℕ, List, [], ◌∷◌, map, true, pos}
+use Rattle.std.specs.Prelude.{ℕ, List, [], ◌∷◌, map, true, false, None, pos, slice_set}
 use Rattle.label_lattice.specs.declared.label.Label.{Label}
+use Rattle.label_lattice.specs.Lattice.{free_rows}
 use Rattle.jif_tree.specs.Trees.{ExprTree, number, scalar, element, declassified, BlockTree, done, set_field, branch}
 use Rattle.jif_tree.specs.Trees.{loop}
 use Rattle.host_code.specs.Code.{CodeShape}
 use Rattle.msg_cost.specs.Moves.{PlannedShape}
-use Rattle.split_rules.specs.Positions.{FieldRead}
+use Rattle.split_rules.specs.Positions.{FieldRead, under}
 use Rattle.split_rules.specs.SplitCode.{emitted_on, entries_in, code_of_emissions}
 use Rattle.split_rules.specs.Worked.{host_id, field_id, heading, trusted_by, a_host, field_with, main_of, program_with}
 use Rattle.split_rules.specs.Worked.{nobody, planned_for, placed_with, emissions_on}
 use Rattle.split_shades.specs.Basis.{Basis}
+use Rattle.split_shades.specs.Shades.{Shade, EntryShade}
 use Rattle.split_shades.specs.Shading.{Scene}
 use Rattle.split_shades.specs.Sites.{program_sites}
 
@@ -84,3 +86,31 @@ indexed_by index = element (field_id 1) index
 
 abbrev pub released_field : ExprTree
 released_field = declassified (scalar (field_id 0)) outer
+
+-- ---- values that ride
+
+-- trusted as `main`, but the first principal lets no other read it
+abbrev pub secret : Label
+secret = record outer { rows = slice_set free_rows 0 1 }
+
+-- one variable has this label; the host may see what all may
+abbrev pub scene_with : Label → Scene
+scene_with label = record (scene_on telling) {
+  basis = record { principals = nobody; labelled = (placed_with telling (label ∷ [])).labelled };
+}
+
+-- an instruction in a block of this program label; whose token is held does not matter here
+abbrev pub shade_under : Label → Shade
+shade_under pc = record {
+  level = under 0;
+  pc = pc;
+  block = pc;
+  guard = None;
+  temps = [];
+  calls = false;
+  released = [];
+}
+
+-- an entry there
+abbrev pub entry_under : Label → EntryShade
+entry_under label = record { level = under 0; block = label; label = label; pushed = None; begun = None }

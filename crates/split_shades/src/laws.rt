@@ -8,7 +8,7 @@ ghost use Rattle.split_rules.specs.Emissions.{counts_after};
 ghost use Rattle.split_rules.specs.Walk.{methods_emissions};
 ghost use Rattle.split_rules.specs.WalkStart.{front_emissions};
 ghost use Rattle.split_shades.specs.Flows.{AreResultsLabelled, AllFlow};
-ghost use Rattle.split_shades.specs.Shading.{Known, nowhere, AreShaded, shades_start};
+ghost use Rattle.split_shades.specs.Shading.{Known, nowhere, AreShaded, shades_start, Rides, Ends};
 ghost use Rattle.split_shades.specs.Sites.{ReleasesNothing, scene_of};
 ghost use Rattle.split_shades.specs.Carried.{AreCarried, IsPushedFor};
 ghost use Rattle.split_shades.specs.ShadedCode.{Shades, IsShadedCode, ReleaseNothing, AreKnownInCode};
@@ -17,11 +17,14 @@ ghost use Rattle.split_shades.specs.Shades.{EntryShade, released_by};
 ghost use Rattle.split_shades.specs.Worked.{branching, looping, scene_on, code_on, entry_words, instruction_words};
 ghost use Rattle.split_shades.specs.Worked.{outer, branching_basis};
 ghost use Rattle.split_shades.specs.Worked.{basis_on, telling, read_at, indexed_by, released_field};
+ghost use Rattle.split_shades.specs.Worked.{secret, scene_with, shade_under, entry_under};
 ghost use Rattle.split_shades.specs.Basis.{read_label};
 ghost use Rattle.jif_tree.specs.LabelRules.{field_label};
-ghost use Rattle.split_rules.specs.Worked.{host_id, field_id, statement_id};
+ghost use Rattle.split_rules.specs.Worked.{host_id, field_id, var_id, statement_id};
+ghost use Rattle.js_base.specs.declared.ids.EntryId.{EntryId};
+ghost use Rattle.host_code.specs.declared.instruction.Op.TheVariants as op;
 ghost use Rattle.host_code.specs.declared.code_expr.Node.TheVariants as node;
-ghost use Rattle.std.specs.Prelude.{◌≡◌, Bool, false, [], ◌∷◌, Some, slice_get};
+ghost use Rattle.std.specs.Prelude.{◌≡◌, Bool, false, List, [], ◌∷◌, Some, slice_get};
 
 /// In a program that was checked and placed, each value flows to where its statement keeps it, and so does the program
 /// label under which it is evaluated. Whoever answers a read may see which element is asked for.
@@ -106,4 +109,15 @@ pub fn worked_laws()
     // evaluated.
     ensures in_index { released_by 0 (indexed_by released_field) ≡ [] }
     ensures by_read { released_by 0 released_field ≡ (node.Temp 0 ∷ []) ∷ [] }
+    // A value rides to a host that may see its variable.
+    ensures rides { (there : EntryId) → there.0 ≡ 0 →
+        Ends (scene_with outer) (entry_under outer ∷ []) (shade_under outer)
+        (op.GoWith there (host_id 0) (var_id 0 ∷ [])) }
+    // None rides to one that may not.
+    ensures rides_unseen { (entries : List EntryShade) (there : EntryId) →
+        ¬ (Ends (scene_with secret) entries (shade_under outer) (op.GoWith there (host_id 0) (var_id 0 ∷ []))) }
+    ensures rides_unseen_there { (entries : List EntryShade) (there : EntryId) →
+        ¬ (Ends (scene_with secret) entries (shade_under outer) (op.CallWith there (host_id 0) (var_id 0 ∷ []))) }
+    // What all may see does not ride where the program label is secret.
+    ensures rides_low { ¬ (Rides (scene_with outer) (shade_under secret) (var_id 0 ∷ []) (host_id 0)) }
 {}

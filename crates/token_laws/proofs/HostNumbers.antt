@@ -19,18 +19,20 @@ use Rattle.host_code.specs.declared.instruction.Op.{Op}
 use Rattle.host_code.specs.declared.instruction.Op.TheVariants as op
 use Rattle.host_code.specs.declared.message.Message.{Message}
 use Rattle.host_code.specs.declared.message.Message.TheVariants as message
+use Rattle.host_code.specs.Riders.{Rider}
 use Rattle.host_code.specs.Thread.{ThreadShape, WaitingShape, Awaited}
 use Rattle.host_code.specs.Thread.Awaited.{value_of_field, acknowledgement, token_of_entry}
 use Rattle.host_code.specs.Code.{CodeShape, CodeFieldShape, halt, field_at, entry_at, instruction_at}
 use Rattle.host_stores.specs.Stores.{is_same_variable}
 use Rattle.host_core.specs.Host.{HostShape, Outcome, with_running, with_one_ignored, with_token, with_temporary}
 use Rattle.host_core.specs.Host.{after_pop, after_entering, after_asking, value_in_thread, without_message}
-use Rattle.host_core.specs.Host.{with_row_written, with_variable_set}
+use Rattle.host_core.specs.Host.{with_row_written, with_variable_set, with_variables_set}
 use Rattle.host_core.specs.Taking.{IsTaking, after_taking, after_answer}
 use Rattle.host_core.specs.Turn.{IsTurn, IsTurnOf, IsRunning, after_operation, after_read, after_put, after_own_push}
-use Rattle.host_core.specs.Turn.{after_ask, after_go, after_own_call, after_return, after_back, with_thread, after_let}
+use Rattle.host_core.specs.Turn.{after_ask, after_go, after_go_with, riders_of, after_own_call, after_return}
+use Rattle.host_core.specs.Turn.{after_back, with_thread, after_let}
 use Rattle.token_laws.specs.Numbers.{HaveNumbers, OperationHasNumbers, CodeHasNumbers, MessageHasNumbers}
-use Rattle.token_laws.specs.Numbers.{ThreadHasNumbers, StateHasNumbers, RowsHaveNumbers}
+use Rattle.token_laws.specs.Numbers.{ThreadHasNumbers, StateHasNumbers, RowsHaveNumbers, RidersHaveNumbers}
 use Rattle.token_laws.proofs.ValueNumbers.{value_fits, row_fits, element_fits, written_fits}
 
 -- what a step leaves and sends
@@ -97,6 +99,14 @@ sets host frame variable value fits also = record {
   running = fits.running;
   waiting = fits.waiting;
 }
+
+-- so does each value that rides
+rides : (host : HostShape) (frame : FrameId) (riders : List Rider) → StateHasNumbers host →
+    RidersHaveNumbers riders → StateHasNumbers (with_variables_set host frame riders)
+rides host frame [] fits all = fits
+rides host frame (rider ∷ riders) fits all =
+    rides (with_variable_set host frame rider.0 rider.1) frame riders (sets host frame rider.0 rider.1 fits all.0)
+    all.1
 
 -- what other parts of the state are is nothing to its numbers
 pub same_parts : (old state : HostShape) → StateHasNumbers old → state.rows ≡ old.rows →
@@ -185,6 +195,20 @@ goes : (host : HostShape) (thread : ThreadShape) (frame : FrameId) (entry : Entr
 goes host thread frame entry on None fits also = goes_on host thread fits also
 goes host thread frame entry on (Some held) fits also = record { state = runs host None fits tt; sent = tt }
 
+-- the values that ride are those of the host's variables
+riders_fit : (host : HostShape) (frame : FrameId) (variables : List VarId) → StateHasNumbers host →
+    RidersHaveNumbers (riders_of host frame variables)
+riders_fit host frame [] fits = tt
+riders_fit host frame (variable ∷ variables) fits =
+    (fits.variables frame variable, riders_fit host frame variables fits)
+
+goes_with : (host : HostShape) (thread : ThreadShape) (frame : FrameId) (entry : EntryId) (on : HostId)
+    (riders : List VarId) (held : Option Token) → StateHasNumbers host → ThreadHasNumbers thread →
+    OutcomeHasNumbers (after_go_with host thread frame entry on riders held)
+goes_with host thread frame entry on riders None fits also = goes_on host thread fits also
+goes_with host thread frame entry on riders (Some held) fits also =
+    record { state = runs host None fits tt; sent = riders_fit host frame riders fits }
+
 calls_own : (host : HostShape) (thread : ThreadShape) (there : Option Entry) → StateHasNumbers host →
     ThreadHasNumbers thread → OutcomeHasNumbers (after_own_call host thread there)
 calls_own host thread None fits also = goes_on host thread fits also
@@ -248,6 +272,10 @@ operation code host thread (op.Ret variable number) passes fits also named =
 operation code host thread op.Back passes fits also named = gives_back code host thread thread.held passes fits also
 operation code host thread (op.Branch guard target) passes fits also named =
     either _ _ _ (goes_on host _ fits no_temporaries) (goes_on host _ fits no_temporaries)
+operation code host thread (op.GoWith entry on riders) passes fits also named =
+    goes_with host thread thread.frame entry on riders thread.held fits also
+operation code host thread (op.CallWith entry on riders) passes fits also named =
+    goes_with host thread thread.new_frame entry on riders thread.held fits also
 
 running_fits : (code : CodeShape) (host : HostShape) (thread : ThreadShape) (there : Option Instr)
     (outcome : Outcome) → CodeHasNumbers code → StateHasNumbers host → ThreadHasNumbers thread →
@@ -311,6 +339,9 @@ takes code host from (message.Sync request frame entry token) true fits named =
     record { state = same_parts host _ fits refl refl refl fits.running; sent = tt }
 takes code host from (message.Rgoto frame entry token) true fits named =
     silent _ (enters host (entry_at code entry) frame token fits)
+takes code host from (message.RgotoWith frame entry token riders) true fits named =
+    silent _ (enters (with_variables_set host frame riders) (entry_at code entry) frame token
+    (rides host frame riders fits named))
 takes code host from (message.Lgoto token) true fits named = silent _ (pops code host host.entries fits)
 takes code host from (message.Value request number) true fits named =
     wakes host _ (with_temporary number) fits

@@ -29,11 +29,14 @@ use Rattle.host_core.specs.Fits.{StateFits}
 use Rattle.host_core.proofs.Kept.{kept_at_rest}
 use Rattle.host_core.specs.Host.{HostShape, Outcome, with_running, with_one_ignored, with_token, with_temporary}
 use Rattle.host_core.specs.Host.{after_pop, after_entering, after_asking, next_request, without_message}
+use Rattle.host_core.specs.Host.{with_variables_set}
 use Rattle.host_core.specs.Taking.{IsTaking, after_taking, after_answer, place_of_awaiting}
 use Rattle.host_core.specs.Turn.{IsTurn, IsTurnOf, IsRunning, after_operation, after_read, after_put, after_own_push}
-use Rattle.host_core.specs.Turn.{after_ask, after_go, after_own_call, after_return, after_back, with_thread}
+use Rattle.host_core.specs.Turn.{after_ask, after_go, after_go_with, after_own_call, after_return, after_back}
+use Rattle.host_core.specs.Turn.{with_thread}
 use Rattle.token_laws.proofs.Counting.{one_if}
 use Rattle.token_laws.proofs.Counting.{is_request, asks, answers, waiting_for_from}
+use Rattle.token_laws.proofs.Riding.{riding_is}
 use Rattle.token_laws.proofs.Sums.{removed_le, removed_at, removed_none}
 use Rattle.token_laws.proofs.Tests.{parts_same, number_same, either_way}
 
@@ -158,6 +161,12 @@ goes host thread frame entry on None = goes_on host thread
 goes host thread frame entry on (Some held) =
     inl (record { waiting = refl; requests = refl; asks = λ request. refl; answers = λ request. refl })
 
+goes_with : (host : HostShape) (thread : ThreadShape) (frame : FrameId) (entry : EntryId) (on : HostId)
+    (riders : List VarId) (held : Option Token) → Turns host (after_go_with host thread frame entry on riders held)
+goes_with host thread frame entry on riders None = goes_on host thread
+goes_with host thread frame entry on riders (Some held) =
+    inl (record { waiting = refl; requests = refl; asks = λ request. refl; answers = λ request. refl })
+
 calls_own : (host : HostShape) (thread : ThreadShape) (there : Option Entry) →
     Turns host (after_own_call host thread there)
 calls_own host thread None = goes_on host thread
@@ -223,6 +232,10 @@ operation code host thread (op.Ret variable value) passes within =
 operation code host thread op.Back passes within = gives_back code host thread thread.held passes
 operation code host thread (op.Branch guard target) passes within =
     either _ host _ _ (goes_on host _) (goes_on host _)
+operation code host thread (op.GoWith entry on riders) passes within =
+    goes_with host thread thread.frame entry on riders thread.held
+operation code host thread (op.CallWith entry on riders) passes within =
+    goes_with host thread thread.new_frame entry on riders thread.held
 
 running_turns : (code : CodeShape) (host : HostShape) (thread : ThreadShape) (there : Option Instr)
     (outcome : Outcome) → StateFits code host → instruction_at code host.me thread.at ≡ there →
@@ -383,6 +396,11 @@ takes code host from (message.Sync request frame entry token) true =
 takes code host from (message.Rgoto frame entry token) true =
     let same = entering_same host (entry_at code entry) frame token in
     keeps host from _ _ same.requests same.waiting (λ number. refl) (λ number. omega arith)
+takes code host from (message.RgotoWith frame entry token riders) true =
+    let same = entering_same (with_variables_set host frame riders) (entry_at code entry) frame token in
+    let rode = riding_is host frame riders in
+    keeps host from _ _ (same.requests ∙ ap (λ (h : HostShape). h.requests) (sym rode))
+    (same.waiting ∙ ap (λ (h : HostShape). h.waiting) (sym rode)) (λ number. refl) (λ number. omega arith)
 takes code host from (message.Lgoto token) true =
     let same = pop_same code host host.entries in
     keeps host from _ _ same.requests same.waiting (λ number. refl) (λ number. omega arith)

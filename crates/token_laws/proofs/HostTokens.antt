@@ -1,5 +1,5 @@
 -- What a step of one host makes of tokens: it keeps or passes on what it had and was given, and makes one at most.
-use Rattle.std.proofs.Common.{◌≡◌, ◌≢◌, ℕ, ◌+◌, ◌<◌, ◌≤◌, Bool, true, false, List, [], ◌∷◌, length}
+use Rattle.std.proofs.Common.{◌≡◌, ◌≢◌, ℕ, ◌+◌, ◌<◌, ◌≤◌, Bool, true, false, List, [], ◌∷◌, length, ℤ}
 use Rattle.std.proofs.Common.{refl, sym, ap, subst, ◌∙◌, arith, Option, Some, None}
 use Rattle.std.specs.Prelude.{if◌then◌else◌, ◌==◌, slice_get, slice_index, remove, sum_by, IsTrue, IsSomeAnd}
 use Rattle.std.specs.Option.{option_map}
@@ -19,6 +19,7 @@ use Rattle.host_code.specs.declared.instruction.Op.{Op}
 use Rattle.host_code.specs.declared.instruction.Op.TheVariants as op
 use Rattle.host_code.specs.declared.message.Message.{Message}
 use Rattle.host_code.specs.declared.message.Message.TheVariants as message
+use Rattle.host_code.specs.Riders.{Rider}
 use Rattle.host_code.specs.Thread.{ThreadShape, WaitingShape, Awaited}
 use Rattle.host_code.specs.Thread.Awaited.{value_of_field, acknowledgement, token_of_entry}
 use Rattle.host_code.specs.Code.{CodeShape, CodeFieldShape, halt, field_at, entry_at, instruction_at, part_of}
@@ -26,13 +27,15 @@ use Rattle.host_code.specs.Sound.{IsSoundCode, IsEntryOn, OperationFits, tempora
 use Rattle.host_core.specs.Fits.{StateFits}
 use Rattle.host_core.specs.Host.{HostShape, Outcome, with_running, with_one_ignored, with_token, with_temporary}
 use Rattle.host_core.specs.Host.{new_token, stack_of, after_pop, after_entering, after_asking}
-use Rattle.host_core.specs.Host.{without_message}
+use Rattle.host_core.specs.Host.{without_message, with_variables_set}
 use Rattle.host_core.specs.Taking.{IsTaking, Passes, after_taking, after_answer}
 use Rattle.host_core.specs.Turn.{IsTurn, IsTurnOf, IsRunning, after_operation, after_read, after_put, after_own_push}
-use Rattle.host_core.specs.Turn.{after_ask, after_go, after_own_call, after_return, after_back, with_thread}
+use Rattle.host_core.specs.Turn.{after_ask, after_go, after_go_with, after_own_call, after_return, after_back}
+use Rattle.host_core.specs.Turn.{with_thread}
 use Rattle.host_core.proofs.CodeFacts.{some_within}
 use Rattle.host_core.proofs.Kept.{kept_at_rest}
 use Rattle.net_world.specs.Told.{token_in}
+use Rattle.token_laws.proofs.Riding.{riding_is}
 use Rattle.token_laws.proofs.Worth.{worth_held, worth_running, worth_state}
 use Rattle.token_laws.proofs.Sums.{removed_le, removed_at}
 
@@ -119,13 +122,22 @@ pushes code host entry frame kept outcome fits named P there counted held = reco
   );
 }
 
-enters : (host : HostShape) (there : Option Entry) (frame : FrameId) (token : Token) →
-    Handles host (Some token) (without_message (after_entering host there frame token))
-enters host None frame token =
-    makes_none host (Some token) (without_message (after_entering host None frame token)) refl (λ worth. omega arith)
-enters host (Some entry) frame token =
-    makes_none host (Some token) (without_message (after_entering host (Some entry) frame token)) refl
-    (λ worth. omega arith)
+-- a thread starts, whatever the host's variables are by then
+enters : (host : HostShape) (variables : FrameId → VarId → ℤ) (there : Option Entry) (frame : FrameId)
+    (token : Token) →
+    Handles host (Some token)
+    (without_message (after_entering (record host { variables = variables }) there frame token))
+enters host variables None frame token = makes_none host (Some token) _ refl (λ worth. omega arith)
+enters host variables (Some entry) frame token = makes_none host (Some token) _ refl (λ worth. omega arith)
+
+-- it starts where values ride with it
+enters_with : (host : HostShape) (there : Option Entry) (frame : FrameId) (token : Token) (riders : List Rider) →
+    Handles host (Some token)
+    (without_message (after_entering (with_variables_set host frame riders) there frame token))
+enters_with host there frame token riders =
+    subst (λ (h : HostShape). Handles host (Some token) (without_message (after_entering h there frame token)))
+    (riding_is host frame riders)
+    (enters host (with_variables_set host frame riders).variables there frame token)
 
 -- ---- an entry that is taken off
 
@@ -223,6 +235,14 @@ goes host thread frame entry on None same = goes_on host thread None same
 goes host thread frame entry on (Some held) same =
     makes_none host (Some held) (after_go host thread frame entry on (Some held)) refl (λ worth. omega arith)
 
+goes_with : (host : HostShape) (thread : ThreadShape) (frame : FrameId) (entry : EntryId) (on : HostId)
+    (riders : List VarId) (held : Option Token) → thread.held ≡ held →
+    Handles host held (after_go_with host thread frame entry on riders held)
+goes_with host thread frame entry on riders None same = goes_on host thread None same
+goes_with host thread frame entry on riders (Some held) same =
+    makes_none host (Some held) (after_go_with host thread frame entry on riders (Some held)) refl
+    (λ worth. omega arith)
+
 calls_own : (host : HostShape) (thread : ThreadShape) (there : Option Entry) →
     Handles host thread.held (after_own_call host thread there)
 calls_own host thread None = goes_on host thread thread.held refl
@@ -291,6 +311,10 @@ operation code host thread op.Back count passes fits names =
     gives_back code host thread thread.held passes refl
 operation code host thread (op.Branch guard target) count passes fits names =
     either _ host thread.held _ _ (goes_on host _ thread.held refl) (goes_on host _ thread.held refl)
+operation code host thread (op.GoWith entry on riders) count passes fits names =
+    goes_with host thread thread.frame entry on riders thread.held refl
+operation code host thread (op.CallWith entry on riders) count passes fits names =
+    goes_with host thread thread.new_frame entry on riders thread.held refl
 
 -- ---- a turn
 
@@ -375,7 +399,9 @@ takes code host from (message.Sync request frame entry token) true fits check =
     (record { token = new_token host entry frame; entry = entry; frame = frame; kept = token }) host.entries in
     omega arith)
 takes code host from (message.Rgoto frame entry token) true fits check =
-    enters host (entry_at code entry) frame token
+    enters host host.variables (entry_at code entry) frame token
+takes code host from (message.RgotoWith frame entry token riders) true fits check =
+    enters_with host (entry_at code entry) frame token riders
 takes code host from (message.Lgoto token) true fits check = pops code host (Some token)
 takes code host from (message.Value request value) true fits check =
     wakes host _ (with_temporary value) None (λ worth thread. omega arith)

@@ -1,4 +1,5 @@
 pub mod Counting
+pub mod Riding
 pub mod Worth
 pub mod Sums
 pub mod Tests

@@ -90,6 +90,8 @@ made_numbers tokens (bad.Sync request frame entry token) m named is =
     made_with (λ known. message.Sync request frame entry known) (token_presented tokens token) m (λ t. tt) is
 made_numbers tokens (bad.Rgoto frame entry token) m named is =
     made_with (λ known. message.Rgoto frame entry known) (token_presented tokens token) m (λ t. tt) is
+made_numbers tokens (bad.RgotoWith frame entry token riders) m named is =
+    made_with (λ known. message.RgotoWith frame entry known riders) (token_presented tokens token) m (λ t. named) is
 made_numbers tokens (bad.Lgoto token) m named is =
     made_with (λ known. message.Lgoto known) (token_presented tokens token) m (λ t. tt) is
 made_numbers tokens (bad.Token request token) m named is =

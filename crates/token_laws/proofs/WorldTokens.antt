@@ -280,6 +280,10 @@ made_is world (bad.Sync request frame entry token) m own is =
 made_is world (bad.Rgoto frame entry token) m own is =
     made_with world (λ known. message.Rgoto frame entry known) (token_presented (tokens_sent world) token) m
     (λ t. refl) (presented_is world token (token_presented (tokens_sent world) token) own refl) is
+made_is world (bad.RgotoWith frame entry token riders) m own is =
+    made_with world (λ known. message.RgotoWith frame entry known riders)
+    (token_presented (tokens_sent world) token) m (λ t. refl)
+    (presented_is world token (token_presented (tokens_sent world) token) own refl) is
 made_is world (bad.Lgoto token) m own is =
     made_with world (λ known. message.Lgoto known) (token_presented (tokens_sent world) token) m (λ t. refl)
     (presented_is world token (token_presented (tokens_sent world) token) own refl) is

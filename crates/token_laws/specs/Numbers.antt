@@ -1,5 +1,6 @@
 -- Hosts, messages, code and events whose numbers have 64 bits.
 use Rattle.std.specs.Prelude.{ℕ, ℤ, ◌≡◌, ⊤, List, All, Some, IfSome}
+use Rattle.std.specs.List.{AllByRecursion}
 use Rattle.js_base.specs.declared.ids.HostId.{HostId}
 use Rattle.js_base.specs.declared.ids.FrameId.{FrameId}
 use Rattle.js_base.specs.declared.ids.VarId.{VarId}
@@ -11,6 +12,7 @@ use Rattle.host_code.specs.declared.instruction.Op.{Op}
 use Rattle.host_code.specs.declared.instruction.Op.TheVariants as op
 use Rattle.host_code.specs.declared.message.Message.{Message}
 use Rattle.host_code.specs.declared.message.Message.TheVariants as message
+use Rattle.host_code.specs.Riders.{Rider}
 use Rattle.host_code.specs.Thread.{ThreadShape}
 use Rattle.host_code.specs.Code.{CodeShape, instruction_at}
 use Rattle.host_core.specs.Host.{HostShape}
@@ -48,10 +50,15 @@ CodeHasNumbers code = (host : HostId) (at : ℕ) (instruction : Instr) → instr
 abbrev pub RowsHaveNumbers : List (List ℤ) → Type 0
 RowsHaveNumbers rows = All (All IsNumber) rows
 
+-- the values that ride
+abbrev pub RidersHaveNumbers : List Rider → Type 0
+RidersHaveNumbers riders = AllByRecursion (λ rider. IsNumber rider.1) riders
+
 abbrev pub MadeHasNumbers : BadMessage → Type 0
 MadeHasNumbers (bad.Get request field index) = IsNumber index
 MadeHasNumbers (bad.Set request field index value) = IsNumber index × IsNumber value
 MadeHasNumbers (bad.Forward request frame variable value) = IsNumber value
+MadeHasNumbers (bad.RgotoWith frame entry token riders) = RidersHaveNumbers riders
 MadeHasNumbers (bad.Value request value) = IsNumber value
 MadeHasNumbers _ = ⊤
 
@@ -65,6 +72,7 @@ abbrev pub MessageHasNumbers : Message → Type 0
 MessageHasNumbers (message.Get request field index) = IsNumber index
 MessageHasNumbers (message.Set request field index value) = IsNumber index × IsNumber value
 MessageHasNumbers (message.Forward request frame variable value) = IsNumber value
+MessageHasNumbers (message.RgotoWith frame entry token riders) = RidersHaveNumbers riders
 MessageHasNumbers (message.Value request value) = IsNumber value
 MessageHasNumbers _ = ⊤
 

@@ -13,7 +13,9 @@ use Rattle.host_code.specs.declared.code_expr.Node.TheVariants as node
 use Rattle.host_code.specs.declared.instruction.Instr.{Instr}
 use Rattle.host_code.specs.declared.instruction.Op.{Op}
 use Rattle.host_code.specs.declared.instruction.Op.TheVariants as op
+use Rattle.host_code.specs.declared.message.Message.{Message}
 use Rattle.host_code.specs.declared.message.Message.TheVariants as message
+use Rattle.host_code.specs.Riders.{Rider}
 use Rattle.host_code.specs.Thread.{ThreadShape}
 use Rattle.host_code.specs.Code.{CodeShape, halt}
 use Rattle.host_core.specs.Host.{HostShape, Outcome, new_token, thread_at, with_running}
@@ -167,3 +169,15 @@ once = kept_by given handed.state
 
 abbrev pub twice : WorldShape
 twice = kept_by once (keeping handed.state).state
+
+-- ---- values that ride
+
+-- two values for one variable, of which the second is this one
+abbrev two_riders : ℤ → List Rider
+two_riders value = (record { 0 = 0 }, pos 5) ∷ (record { 0 = 0 }, value) ∷ []
+
+abbrev pub riding : ℤ → Message
+riding value = message.RgotoWith main_frame (entry_id 3) first_token (two_riders value)
+
+abbrev pub made_riding : ℤ → BadMessage
+made_riding value = bad.RgotoWith main_frame (entry_id 3) (Sent 0) (two_riders value)

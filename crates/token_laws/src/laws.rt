@@ -22,12 +22,12 @@ ghost use Rattle.net_world.specs.World.{WorldShape, IsStep, IsRun, AreHostsOf, w
 ghost use Rattle.token_laws.specs.Holders.{Place, running_on, waiting_on, kept_on, in_flight, HoldsAt, IsHeld};
 ghost use Rattle.token_laws.specs.Holders.{IsSent, IsOld};
 ghost use Rattle.token_laws.specs.Numbers.{CodeHasNumbers, RowsHaveNumbers, EventHasNumbers, WorldHasNumbers};
-ghost use Rattle.token_laws.specs.Numbers.{MessageHasNumbers};
+ghost use Rattle.token_laws.specs.Numbers.{MessageHasNumbers, MadeHasNumbers};
 ghost use Rattle.token_laws.specs.Reached.{IsReached};
 ghost use Rattle.token_laws.specs.Requests.{Spot, IsUnderWay, WaitsFor};
 ghost use Rattle.token_laws.specs.TokenExamples.{host_id, small, start, first_token, second_token, pushed, asked};
 ghost use Rattle.token_laws.specs.TokenExamples.{asking, first_request, spot_of, answered, handing, bad_start, given};
-ghost use Rattle.token_laws.specs.TokenExamples.{good_start, passed_on, presents, twice};
+ghost use Rattle.token_laws.specs.TokenExamples.{good_start, passed_on, presents, twice, riding, made_riding};
 
 /// Which worlds are reached, for whoever goes from event to event: the laws below hold before and after each.
 pub fn reached_laws()
@@ -179,4 +179,9 @@ pub fn token_examples()
     // The greatest number of 64 bits, and the next one.
     ensures narrow { MessageHasNumbers (message.Value first_request (pos (2 ^ 63 - 1))) }
     ensures wide { ¬ MessageHasNumbers (message.Value first_request (pos (2 ^ 63))) }
+    // Each value that rides has to be one, the last as well as the first, also where a misbehaving host sends it.
+    ensures rides_narrow { MessageHasNumbers (riding (pos (2 ^ 63 - 1))) }
+    ensures rides_wide { ¬ MessageHasNumbers (riding (pos (2 ^ 63))) }
+    ensures made_narrow { MadeHasNumbers (made_riding (pos (2 ^ 63 - 1))) }
+    ensures made_wide { ¬ MadeHasNumbers (made_riding (pos (2 ^ 63))) }
 {}

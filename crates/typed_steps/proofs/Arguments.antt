@@ -26,7 +26,7 @@ use Rattle.host_core.specs.Host.{after_step, after_clearing}
 use Rattle.host_core.specs.Values.{value_of_nodes}
 use Rattle.split_rules.specs.Positions as positions
 use Rattle.split_rules.specs.Positions.{Position, Due, Level, Argument, Calling, no_call, arguing, entering}
-use Rattle.split_rules.specs.Positions.{arguments_of}
+use Rattle.split_rules.specs.Positions.{arguments_of, forwards_of}
 use Rattle.split_rules.specs.Positions.{field_reads, statement_due, is_on}
 use Rattle.split_rules.specs.Typing as typing
 use Rattle.split_rules.specs.Typing.{Follows, Frames}
@@ -258,7 +258,7 @@ rising_of split method = by (method_at split.planned.program method) refl
 
 pub record Passes (split : Split) (c : Configuration) (view : View) (host : HostId) (thread : ThreadShape) (x : VarId)
     (value : ℤ) : Type 0 where
-  pub none_out : view.out ≡ []
+  pub sender : view.sender ≡ length c.calls
   pub within : length c.calls < view.naming.count
   pub new_frame : thread.new_frame ≡ view.naming.frame (length c.calls)
   pub plainly : NoneKept c
@@ -298,13 +298,12 @@ argued split c view host thread variables at agrees x nodes (arguing statement s
     (value_of_nodes variables thread.temporaries list)) (sym law.is_value.are)
     (value_there split.exposure c.store (source.variable c.calls call) variables thread.temporaries here.reads [] []
     law.value 0 read at.temporaries (law.is_value.reads ∙ sym (append-nil (field_reads law.value))) refl) in
-    let none = sym at.forwards ∙ law.forwards in
     let plainly = arguing_plainly split c view.keeper call here.due (chain_due split view.chain) statement args.others
     args.due_first at.left in
     let below = below_next (params_of (method_at split.planned.program args.method)) args.arguments set own law.others
     (rising_of split args.method) parts in
     record {
-      none_out = none;
+      sender = args.sender_is;
       within = subst (λ n. count < n) (sym args.count) (omega arith);
       new_frame = args.new_frame_is;
       plainly = plainly;
@@ -334,7 +333,8 @@ argued split c view host thread variables at agrees x nodes (arguing statement s
                 (eq-eqb count count refl)
                 ∙ ap (λ v. if y == x.0 then given else v) (args.passed y)
                 ∙ sym (passed_last P set args.given own given y args.gives below);
-          }) refl (inr plainly) refl (thread.at + 1) (next_place split host thread ∙ law.goes);
+          }) (ap (λ out. out ++ forwards_of split.planned host statement x) at.forwards) (inr plainly) refl
+          (thread.at + 1) (next_place split host thread ∙ law.goes);
     }
   where
     arguments_known : (P : ExprTree → Type 0) (params : List VarId) (values : List ExprTree) →

@@ -15,13 +15,14 @@ use Rattle.ics_stack.specs.Stack.{top_token}
 use Rattle.host_code.specs.declared.code.Entry.{Entry}
 use Rattle.host_code.specs.declared.code_expr.Node.{Node}
 use Rattle.host_code.specs.declared.instruction.Op.TheVariants as op
+use Rattle.host_code.specs.declared.message.Message.TheVariants as message
 use Rattle.host_code.specs.Code.{entry_at, site_at}
 use Rattle.host_code.specs.Sound.{IsEntryOn}
 use Rattle.host_code.specs.Thread.{ThreadShape}
 use Rattle.host_core.specs.Host.{HostShape, with_running, with_variable_set, after_push, after_step}
 use Rattle.host_core.specs.Host.{after_clearing, with_token, thread_at, value_in_thread}
-use Rattle.host_core.specs.Turn.{with_thread, after_frame, after_own_push, after_go, after_call, after_own_call}
-use Rattle.host_core.specs.Turn.{after_return, after_forward, PassesWith}
+use Rattle.host_core.specs.Turn.{with_thread, after_frame, after_own_push, after_go, after_go_with, after_call}
+use Rattle.host_core.specs.Turn.{after_own_call, after_return, after_forward, riders_of, PassesWith}
 use Rattle.split_rules.specs.Asking.{IsGranted}
 use Rattle.split_rules.specs.Pace.{IsPacedOp}
 use Rattle.split_rules.specs.Positions.{Argument, arguing}
@@ -29,27 +30,26 @@ use Rattle.split_rules.specs.Typing as typing
 use Rattle.split_rules.specs.TypedCode.{IsTypedOp}
 use Rattle.net_world.specs.World.{WorldShape}
 use Rattle.net_world.proofs.Present.{same_id}
-use Rattle.typed_steps.specs.Views.{Split, View, values_set, entries_of, place_of, with_chain}
+use Rattle.typed_steps.specs.Views.{Split, View, values_set, entries_of, place_of, with_chain, with_out}
 use Rattle.typed_steps.specs.Chains.{IsLinked}
 use Rattle.typed_steps.specs.Threads.{IsAt, IsCalling}
 use Rattle.typed_steps.specs.Weights.{Paced}
-use Rattle.typed_steps.specs.Requests.{starting}
 use Rattle.typed_steps.proofs.Instructions.{after_setting}
-use Rattle.typed_steps.proofs.Transfers.{calm_calling}
+use Rattle.typed_steps.proofs.Transfers.{calm_calling, none_left_out}
 use Rattle.typed_steps.proofs.Arguments.{framed, frame_at, arg_at}
-use Rattle.typed_steps.proofs.CallsMade.{call_made, enter_at}
+use Rattle.typed_steps.proofs.CallsMade.{call_made, enter_at, enter_with_at}
 use Rattle.typed_steps.proofs.ResultsGiven.{return_at}
-use Rattle.typed_steps.proofs.Holding.{is_sent, own_cell}
+use Rattle.typed_steps.proofs.Holding.{sent_set}
 use Rattle.typed_steps.proofs.HeldSteps.{holds_same, holds_calm, holds_chain, holds_argued, holds_framed, holds_called}
 use Rattle.typed_steps.proofs.HeldSteps.{holds_given}
 use Rattle.typed_steps.proofs.Pops.{pushed_chain, chain_more}
 use Rattle.typed_steps.proofs.Fuel.{falls, falls_at_step, falls_with_call}
-use Rattle.typed_steps.proofs.Turns.{knows, sends_nothing, pushing}
+use Rattle.typed_steps.proofs.Turns.{knows, sends_nothing, pushing, hands_on}
 use Rattle.split_rules.specs.Positions.{Calling}
-use Rattle.typed_steps.specs.Turns.{IsActing, Turned, stays, grows, runs_on, steps, gives, hands}
+use Rattle.typed_steps.specs.Turns.{IsActing, Turned, stays, grows, runs_on, steps, gives}
 use Rattle.host_core.specs.Host.{Outcome}
 use Rattle.typed_steps.proofs.HeldSteps.{kept}
-use Rattle.typed_steps.proofs.Fuel.{entered, handed}
+use Rattle.typed_steps.proofs.Fuel.{entered}
 use Rattle.typed_steps.proofs.Turns.{some_entry}
 
 module _ (split : Split) (c : Configuration) (view : View) (world : WorldShape) (host : HostId) (old : HostShape)
@@ -122,11 +122,11 @@ module _ (split : Split) (c : Configuration) (view : View) (world : WorldShape) 
         grown = stays refl refl;
         is_chain = t.is_chain;
         at = sets.at;
-        sent = is_sent split (values_set view.values call x.0 value call) (state.variables (view.naming.frame call))
-            host sets.from x (own_cell old.variables view.naming view.values call x value);
+        sent = sent_set split view.naming view.values old.variables view.out view.sender host call x value sets.from
+            (inr sets.sender) t.sent;
         keeps = kept split c seen world host new
             (λ after moved. holds_argued split c view world after host old new after.flying x value sets.from t.many
-            t.holds sets.none_out t.there moved refl sets.within refl refl sets.plainly);
+            t.holds sets.sender t.there moved refl sets.within refl refl sets.plainly);
         pace = λ paced. (falls split host thread.at view.chain (pace paced)).1;
       })
 
@@ -161,7 +161,7 @@ module _ (split : Split) (c : Configuration) (view : View) (world : WorldShape) 
         is_chain = pushed_chain split view.naming view.chain link token t.is_chain top
             (subst (λ h. IsEntryOn split.code h entry) (sym me) is_entry) linked refl makes.fits;
         at = makes.at link refl refl me;
-        sent = sends_nothing split seen state host makes.none_out;
+        sent = t.sent;
         keeps = kept split now seen world host new (λ after moved. holds_chain split now view after (link ∷ view.chain)
             (holds_called split c now view after makes.made
             (holds_same split c view world after host old new after.flying t.holds t.there moved refl refl refl)
@@ -184,8 +184,9 @@ module _ (split : Split) (c : Configuration) (view : View) (world : WorldShape) 
       let me = t.fits.me in
       let bare = with_running old None in
       let held = t.at.held ∙ top in
-      let over = enter_at split c view host thread t.at entry on token is_entry.0 held law in
-      let seen = starting view view.chain over.call in
+      let enters = enter_at split c view host thread t.at entry on token is_entry.0 held law in
+      let over = enters.over in
+      let seen = with_out view [] in
       let next = thread_at there thread.new_frame token in
       let near = after_own_call bare thread (entry_at split.code entry) in
       let far = after_go bare thread thread.new_frame entry on thread.held in
@@ -204,7 +205,7 @@ module _ (split : Split) (c : Configuration) (view : View) (world : WorldShape) 
               held = o;
             } in it in
             let threads : make thread.temporaries thread.held ≡ next =
-            ap (λ list. make list thread.held) over.bare ∙ ap (make []) held in
+            ap (λ list. make list thread.held) enters.bare ∙ ap (make []) held in
             let done : with_thread bare next ≡ outcome =
             ap (with_thread bare) (sym threads) ∙ sym (ap (after_own_call bare thread) found)
             ∙ sym (ap (λ (b : Bool). if b then near else far) same.0) ∙ is in
@@ -220,32 +221,37 @@ module _ (split : Split) (c : Configuration) (view : View) (world : WorldShape) 
               at = subst (λ h. IsAt split c seen h next) (on_host ∙ own) (over.at there found);
               sent = tt;
               keeps = kept split c seen world host new (λ after moved. holds_calm split c view after view.chain
-                  over.call
+                  view.sender
                   (holds_same split c view world after host old new after.flying t.holds t.there moved refl refl refl)
-                  over.none_out);
+                  (none_left_out on view.out over.rides));
               pace = λ paced. entered (split.pace host.0 thread.at) (split.pace host.0 there.at) (length view.chain)
                   (lower paced host own);
             })
         | inr apart ↦
             let away : on ≢ host = λ same. apart.1 (ap (λ (h : HostId). h.0) (same ∙ sym me)) in
-            hands (record {
-              to = on;
-              entry = entry;
-              there = there;
-              frame = thread.new_frame;
-              token = token;
-              call = over.call;
-              is = sym (ap (after_go bare thread thread.new_frame entry on) held)
-                  ∙ sym (ap (λ (b : Bool). if b then near else far) apart.0) ∙ is;
-              top = top;
-              may = granted away;
-              found = found;
-              none_out = over.none_out;
-              at = subst (λ h. IsAt split c seen h next) on_host (over.at there found);
-              pace = λ paced. handed (split.pace host.0 thread.at) (split.pace on.0 there.at) (length view.chain)
-                  (lower paced on refl);
-            })
+            hands_on split c view world host old thread t outcome entry on thread.new_frame []
+            (message.Rgoto thread.new_frame entry token) token over refl (granted away) tt pace there found on_host top
+            (sym (ap (after_go bare thread thread.new_frame entry on) held)
+            ∙ sym (ap (λ (b : Bool). if b then near else far) apart.0) ∙ is)
       ]
+
+  -- a method of another host is entered, and parameters ride there
+  pub enters_with : (outcome : Outcome) (entry : EntryId) (on : HostId) (riders : List VarId) →
+      IsTypedOp split.planned split.table host thread.at (op.CallWith entry on riders) →
+      IsGranted split.code host (op.CallWith entry on riders) → IsEntryOn split.code on entry →
+      (Paced split → IsPacedOp split.code split.pace host thread.at (op.CallWith entry on riders)) →
+      (found : Option Entry) → entry_at split.code entry ≡ found → IsSomeAnd found (λ there. there.host ≡ on) →
+      (token : Token) → top_token (entries_of view.chain) ≡ Some token →
+      after_go_with (with_running old None) thread thread.new_frame entry on riders thread.held ≡ outcome →
+      Turned split c view world host old thread outcome
+  enters_with outcome entry on riders law granted is_entry pace None found on_host token top is = absurd on_host
+  enters_with outcome entry on riders law granted is_entry pace (Some there) found on_host token top is =
+      let held = t.at.held ∙ top in
+      let enters = enter_with_at split c view host thread t.at entry on riders token is_entry.0 held law in
+      hands_on split c view world host old thread t outcome entry on thread.new_frame riders
+      (message.RgotoWith thread.new_frame entry token (riders_of old thread.new_frame riders)) token enters.over refl
+      granted.0 granted.1 pace there found on_host top
+      (sym (ap (after_go_with (with_running old None) thread thread.new_frame entry on riders) held) ∙ is)
 
   -- ---- the result
 

@@ -24,11 +24,10 @@ use Rattle.jif_tree.specs.Trees.{method_tree, block_tree, head_of}
 use Rattle.jif_tree.specs.Results.{GivesBack}
 use Rattle.jif_tree.specs.WellNumbered.{is_some}
 use Rattle.capability.specs.declared.token.Token.{Token}
-use Rattle.host_code.specs.declared.code.Entry.{Entry}
 use Rattle.host_code.specs.declared.instruction.Op.TheVariants as op
-use Rattle.host_code.specs.Code.{entry_at, halt}
+use Rattle.host_code.specs.Code.{halt}
 use Rattle.host_code.specs.Thread.{ThreadShape}
-use Rattle.host_core.specs.Host.{after_step, thread_at, with_token}
+use Rattle.host_core.specs.Host.{after_step, with_token}
 use Rattle.need_labels.specs.Plan.{statement_host}
 use Rattle.msg_cost.specs.Moves.{PlannedShape}
 use Rattle.split_rules.specs.Positions as positions
@@ -39,7 +38,7 @@ use Rattle.typed_steps.proofs.Basics.{all_right}
 use Rattle.split_rules.specs.Positions.{Position, Due, Argument, Calling, no_call, arguing, entering, arguments_of}
 use Rattle.split_rules.specs.Positions.{statement_due, is_on, calm, kept_due}
 use Rattle.split_rules.specs.Typing as typing
-use Rattle.split_rules.specs.Typing.{PushesCall, Enters}
+use Rattle.split_rules.specs.Typing.{PushesCall, Enters, EntersWith}
 use Rattle.jif_tree.specs.Altered.{Exposure, MayGive}
 use Rattle.std.specs.List.{AllZip}
 use Rattle.split_rules.specs.Positions.{FieldRead}
@@ -49,14 +48,13 @@ use Rattle.typed_steps.proofs.TreeValues.{tree_may, plainly_may}
 use Rattle.typed_steps.specs.Readers.{IsFit}
 use Rattle.typed_steps.specs.Views.{Split, View, Link, place_of, with_chain}
 use Rattle.typed_steps.specs.Chains.{under, due_at, level_at, chain_due, FitsOver}
-use Rattle.typed_steps.specs.Threads.{alone, Owed, to_run, to_keep, item_of, duty_of, IsLeft, IsCalling, IsAt, NoneKept}
+use Rattle.typed_steps.specs.Threads.{alone, Owed, to_run, to_keep, item_of, duty_of, IsCalling, IsAt, NoneKept}
 use Rattle.typed_steps.specs.Threads.{IsReturn, IsKnown, AreReturned}
-use Rattle.typed_steps.specs.Requests.{starting}
 use Rattle.typed_steps.proofs.Owing.{front_of, BeginsPlainly, EndsWithReturn, block_statements, to_run_all}
 use Rattle.typed_steps.proofs.Owing.{plainly_behind, none_kept, stands_plainly, items_before, duties_before}
 use Rattle.typed_steps.proofs.Owing.{known_before, plainly_before, returned_before, plainly_ending, returned_ending}
 use Rattle.typed_steps.proofs.Instructions.{next_place, stepped, no_temporaries}
-use Rattle.typed_steps.proofs.Transfers.{entrance_due, entrance_level, under_both, starts_at, placed}
+use Rattle.typed_steps.proofs.Transfers.{entrance_due, entrance_level, under_both, HandsOver, over_at, none_rides}
 use Rattle.typed_steps.proofs.Calls.{long_last}
 use Rattle.typed_steps.proofs.Basics.{told_equal}
 
@@ -339,7 +337,6 @@ pub record MakesCall (split : Split) (c : Configuration) (view : View) (host : H
     (entry : EntryId) : Type 0 where
   pub now : Configuration
   pub does : Does split c now
-  pub none_out : view.out ≡ []
   pub store : now.store ≡ c.store
   pub caller : ℕ
   pub within : caller < view.naming.count
@@ -413,14 +410,13 @@ call_made split c view host thread at entry statement set left is pushes =
           let rest = chain_due split view.chain in
           let goes = next_place split host thread ∙ law.goes in
           let fit : IsFit split.code split.planned block = subst (IsFit split.code split.planned) same runs.fit in
-          let none = sym at.forwards ∙ law.forwards in
           let count = args.count in
+          let plainly = none_kept next _ pending behind.plainly in
           let made_at = at.made in
           record {
             now = next;
             does = stepped split c next call own (map item_of runs.behind)
                 (kind.Call what.site args.method what.args args.into) given.values runs.pending what.is given.all refl;
-            none_out = none;
             store = refl;
             caller = call;
             within = omega arith;
@@ -434,7 +430,7 @@ call_made split c view host thread at entry statement set left is pushes =
                 args.passed x
                 ∙ ap (λ list. passed (map (λ (one : Argument). one.param) list) args.given x) all_set
                 ∙ given.same x ∙ ap (λ list. passed list given.values x) (sym method.params);
-            plainly = none_kept next _ pending behind.plainly;
+            plainly = plainly;
             fits = subst (λ l. FitsOver split view.naming l call view.chain)
                 (sym (entrance_level split entry.0 _ _ law.pushed)) at.fits;
             at = λ link entry_is number token.
@@ -491,9 +487,9 @@ call_made split c view host thread at entry statement set left is pushes =
                       });
                   calling = subst (λ (p : Position). IsCalling split next view.naming view.values view.sender host
                       thread.frame thread.new_frame n p.due p.calling) (sym goes)
-                      (args.count ∙ sym long, args.new_frame_is);
-                  forwards = ap (λ (p : Position). p.forwards) goes ∙ sym none;
-                  settled = inl none;
+                      (args.count ∙ sym long, args.new_frame_is, args.sender_is);
+                  forwards = ap (λ (p : Position). p.forwards) goes ∙ at.forwards;
+                  settled = inr plainly;
                   temporaries = subst (AllZip (MayHold split.exposure next.store (source.variable next.calls n))
                       (place_of split host (thread.at + 1)).reads) (sym (none_held (MayHold split.exposure c.store
                       (source.variable c.calls call)) here.reads thread.temporaries law.reads at.temporaries))
@@ -506,60 +502,53 @@ call_made split c view host thread at entry statement set left is pushes =
 
 -- ---- the way in
 
--- the called method is entered, here or elsewhere
-pub record EntersMethod (split : Split) (c : Configuration) (view : View) (host : HostId) (thread : ThreadShape)
-    (entry : EntryId) (token : Token) : Type 0 where
-  pub none_out : view.out ≡ []
-  pub call : ℕ
+-- the called method is entered, here or elsewhere, once these variables have ridden there
+pub record EntersMethod (split : Split) (c : Configuration) (view : View) (thread : ThreadShape) (on : HostId)
+    (entry : EntryId) (token : Token) (riders : List VarId) : Type 0 where
+  pub over : HandsOver split c view on entry thread.new_frame token riders
   pub bare : thread.temporaries ≡ []
-  pub at : (there : Entry) → entry_at split.code entry ≡ Some there →
-      IsAt split c (starting view view.chain call) there.host (thread_at there thread.new_frame token)
 
 entered : (split : Split) (c : Configuration) (view : View) (host : HostId) (thread : ThreadShape) →
-    IsAt split c view host thread → (entry : EntryId) (token : Token) (calling : Calling) → entry ≢ halt →
-    (place_of split host thread.at).calling ≡ calling → thread.held ≡ Some token →
-    Enters split.planned split.table.entries (place_of split host thread.at) calling entry.0 →
-    EntersMethod split c view host thread entry token
-entered split c view host thread at entry token (entering (trees.call heading site method arguments into rest)) apart is
-    held law =
+    IsAt split c view host thread → (entry : EntryId) (on : HostId) (token : Token) (riders : List VarId)
+    (calling : Calling) → entry ≢ halt → (place_of split host thread.at).calling ≡ calling →
+    thread.held ≡ Some token →
+    EntersWith split.planned split.table.entries (place_of split host thread.at) calling entry.0 riders on →
+    EntersMethod split c view thread on entry token riders
+entered split c view host thread at entry on token riders
+    (entering (trees.call heading site method arguments into rest)) apart is held law =
     let here = place_of split host thread.at in
-    let calling = subst (IsCalling split c view.naming view.values view.sender host thread.frame thread.new_frame
-    at.call
-    here.due) is at.calling in
     record {
-      none_out = sym at.forwards ∙ law.3;
-      call = at.call;
+      over = over_at split c view host thread at on entry thread.new_frame token riders _ apart law.3 law.4
+          (subst (IsCalling split c view.naming view.values view.sender host thread.frame thread.new_frame at.call
+          here.due) is at.calling) held;
       bare = none_held (MayHold split.exposure c.store (source.variable c.calls at.call)) here.reads thread.temporaries
           law.2 at.temporaries;
-      at = λ there found.
-          starts_at split c view view.chain at.call entry.0 there thread.new_frame token
-          (placed split entry there apart found) at.made calling.0 calling.1 (sym held ∙ at.held)
-          (subst (λ l. FitsOver split view.naming l at.call view.chain)
-          (sym (entrance_level split entry.0 (calm here.level here.due) _ law.4)) at.fits)
-          (subst (λ list. IsLeft split c view.keeper (under at.call list ++ chain_due split view.chain))
-          (sym (entrance_due split entry.0 (calm here.level here.due) _ law.4)) at.left);
     }
-entered split c view host thread at entry token no_call apart is held law = absurd law
-entered split c view host thread at entry token (arguing statement set left) apart is held law = absurd law
-entered split c view host thread at entry token (entering trees.done) apart is held law = absurd law
-entered split c view host thread at entry token (entering (trees.set_local heading x value rest)) apart is held law =
-    absurd law
-entered split c view host thread at entry token (entering (trees.set_field heading field value rest)) apart is held
-    law =
-    absurd law
-entered split c view host thread at entry token (entering (trees.set_element heading field index value rest)) apart is
-    held law = absurd law
-entered split c view host thread at entry token (entering (trees.branch heading guard first second rest)) apart is held
-    law = absurd law
-entered split c view host thread at entry token (entering (trees.loop heading guard body rest)) apart is held law =
-    absurd law
-entered split c view host thread at entry token (entering (trees.give_back heading value rest)) apart is held law =
-    absurd law
+entered split c view host thread at entry on token riders calling apart is held law = absurd law
+
+pub enter_with_at : (split : Split) (c : Configuration) (view : View) (host : HostId) (thread : ThreadShape) →
+    IsAt split c view host thread → (entry : EntryId) (on : HostId) (riders : List VarId) (token : Token) →
+    entry ≢ halt → thread.held ≡ Some token →
+    typing.Ends split.planned split.table.entries (place_of split host thread.at) (op.CallWith entry on riders) →
+    EntersMethod split c view thread on entry token riders
+enter_with_at split c view host thread at entry on riders token apart held law =
+    entered split c view host thread at entry on token riders (place_of split host thread.at).calling apart refl held
+    law
+
+-- where nothing rides
+pub enters_bare : (split : Split) (here : Position) (calling : Calling) (number : ℕ) (on : HostId) →
+    Enters split.planned split.table.entries here calling number →
+    EntersWith split.planned split.table.entries here calling number [] on
+enters_bare split here (entering (trees.call heading site method arguments into rest)) number on law =
+    (law.0, law.1, law.2, none_rides on here.forwards law.3, law.4)
+enters_bare split here calling number on law = absurd law
 
 pub enter_at : (split : Split) (c : Configuration) (view : View) (host : HostId) (thread : ThreadShape) →
     IsAt split c view host thread → (entry : EntryId) (on : HostId) (token : Token) → entry ≢ halt →
     thread.held ≡ Some token →
     typing.Ends split.planned split.table.entries (place_of split host thread.at) (op.Call entry on) →
-    EntersMethod split c view host thread entry token
+    EntersMethod split c view thread on entry token []
 enter_at split c view host thread at entry on token apart held law =
-    entered split c view host thread at entry token (place_of split host thread.at).calling apart refl held law
+    let here = place_of split host thread.at in
+    enter_with_at split c view host thread at entry on [] token apart held
+    (enters_bare split here here.calling entry.0 on law)

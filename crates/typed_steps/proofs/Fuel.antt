@@ -16,7 +16,7 @@ use Rattle.net_world.specs.Fits.{IsStateOf}
 use Rattle.split_rules.specs.Pace.{PACE, Allowance, Falls, FallsWithStep, FallsWithEntry, Pushes, calls_at, is_call}
 use Rattle.split_rules.specs.Pace.{is_call_there}
 use Rattle.split_rules.specs.Positions.{no_call}
-use Rattle.split_rules.specs.Typing.{Enters}
+use Rattle.split_rules.specs.Typing.{Enters, EntersWith}
 use Rattle.split_rules.specs.TypedCode.{IsTypedOp}
 use Rattle.typed_steps.specs.Views.{Split, Naming, Link, place_of}
 use Rattle.typed_steps.specs.Chains.{IsChain}
@@ -139,6 +139,9 @@ none_called split host at none = of_found (instruction_at split.code host at) re
         absurd (subst (λ calling. Enters split.planned split.table.entries (place_of split host at) calling there.0)
         none
         law)
+    of_law (op.CallWith there on riders) law =
+        absurd (subst (λ calling.
+        EntersWith split.planned split.table.entries (place_of split host at) calling there.0 riders on) none law)
     of_law _ law = refl
 
     of_found : (found : Option Instr) → instruction_at split.code host at ≡ found → is_call_there found ≡ false

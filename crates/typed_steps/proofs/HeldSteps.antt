@@ -1,8 +1,9 @@
 -- What all hosts have of a configuration after a step of one of them, and after the step of the plain run that it
 -- makes.
 use Rattle.std.proofs.Common.{◌≡◌, ◌≢◌, ◌∙◌, ℕ, suc, ◌+◌, ◌<◌, ◌≤◌, inl, inr, Bool, true, List, [], ◌∷◌, ◌++◌}
-use Rattle.std.proofs.Common.{length, Some, ap, sym, subst, arith}
+use Rattle.std.proofs.Common.{length, map, Some, ap, sym, subst, arith}
 use Rattle.std.specs.Prelude.{ℤ, pos, ◌==◌, if◌then◌else◌, slice_get, slice_index, slice_set}
+use Rattle.std.specs.List.{AllByRecursion}
 use Rattle.std.proofs.lemmas.Bool.Decides.{eqb_tells}
 use Rattle.std.proofs.lemmas.Bool.{cases_lt, ne_eqb}
 use Rattle.std.proofs.lemmas.List.{get_or-set_same, get_or-set_other}
@@ -17,11 +18,13 @@ use Rattle.jif_tree.specs.Store.{store_after_write}
 use Rattle.jif_tree.specs.Trees.{BlockTree}
 use Rattle.host_code.specs.Code.{CodeShape, site_at}
 use Rattle.host_stores.specs.Stores.{with_variable}
-use Rattle.host_core.specs.Host.{HostShape}
+use Rattle.host_code.specs.Riders.{Rider, names_of}
+use Rattle.host_core.specs.Host.{HostShape, with_variables_set}
 use Rattle.msg_cost.specs.Terms.{reads_on}
 use Rattle.net_world.specs.Flying.{Flying}
 use Rattle.net_world.specs.World.{WorldShape, state_at}
-use Rattle.split_rules.specs.Positions.{Forward, forwards_of}
+use Rattle.split_rules.specs.Handing.{Arrival}
+use Rattle.split_rules.specs.Positions.{Forward, forwards_of, without_forward}
 use Rattle.net_world.proofs.Moved.{Moved, either, mover_state}
 use Rattle.typed_steps.specs.Values.{AreAlike}
 use Rattle.typed_steps.proofs.Alike.{alike_by, alike_on, alike_both}
@@ -31,12 +34,12 @@ use Rattle.typed_steps.specs.Views.{Split, Naming, View, Link, values_set, with_
 use Rattle.typed_steps.specs.Threads.{NoneKept}
 use Rattle.typed_steps.specs.Values.{AreRowsAlike}
 use Rattle.typed_steps.specs.Variables.{Agree, IsUnused, AreFresh, HasResult, Holds}
-use Rattle.typed_steps.specs.Requests.{IsFieldOn}
+use Rattle.typed_steps.specs.Requests.{IsFieldOn, RidesOut}
 use Rattle.typed_steps.proofs.Rows.{fields_kept, fields_same, fields_written}
 use Rattle.typed_steps.proofs.Calls.{long_set, value_set, named_set, get_front, get_last, long_last, value_front}
 use Rattle.typed_steps.proofs.Calls.{value_last}
 use Rattle.typed_steps.proofs.Holding.{agree_kept, agree_calm, agree_set, agree_forwarded, agree_given, fresh_kept}
-use Rattle.typed_steps.proofs.Holding.{fresh_set, own_cell}
+use Rattle.typed_steps.proofs.Holding.{fresh_set, fresh_rode, own_cell, agree_rode, agree_told}
 use Rattle.typed_steps.specs.Variables.{HaveFields}
 use Rattle.typed_steps.specs.Turns.{Keeps}
 use Rattle.std.proofs.Common.{refl}
@@ -210,7 +213,7 @@ pub holds_set : (split : Split) (c now : Configuration) (view : View) (world aft
     state.variables ≡ with_variable old.variables (view.naming.frame call) x value → state.frames ≡ old.frames →
     call < length c.calls → now.store ≡ c.store → now.calls ≡ calls_after c.calls call x.0 value → NoneKept now →
     Holds split now (record view {
-      out = forwards_of split.planned host source x;
+      out = view.out ++ forwards_of split.planned host source x;
       sender = call;
       values = values_set view.values call x.0 value;
     }) after
@@ -232,22 +235,21 @@ holds_set split c now view world after host old state flying call x value source
           values_kept view.values c.calls call x.0 value made holds.valued k y (subst (λ n. k < n) many there)
           ∙ ap (λ list. plain.variable list k y) (sym calls);
       agree = agree_set split view.naming view.values view.out view.sender world after host old state flying call x
-          value source long holds.agree none obeys moved (same_call split c view world holds call within) variables;
+          value source long holds.agree (inl none) obeys moved (same_call split c view world holds call within)
+          variables;
       result = λ k into kept behind there pending is. absurd (plainly k into kept behind pending);
     }
 
 -- a host was sent a variable
-pub holds_forwarded : (split : Split) (c : Configuration) (view : View) (left : List Forward) (world after : WorldShape)
-    (host : HostId) (old state : HostShape) (flying : Flying) (x : VarId) (value : ℤ) (source : BlockTree) →
-    Holds split c view world → view.out ≡ record { variable = x; host = host; source = source } ∷ left →
+pub holds_forwarded : (split : Split) (c : Configuration) (view : View) (world after : WorldShape)
+    (host : HostId) (old state : HostShape) (flying : Flying) (x : VarId) (value : ℤ) → Holds split c view world →
     state_at world host ≡ Some old → Moved world host state flying after → state.rows ≡ old.rows →
     state.variables ≡ with_variable old.variables (view.naming.frame view.sender) x value →
     state.frames ≡ old.frames → AreAlike split.exposure x value (view.values view.sender x.0) →
     view.sender < view.naming.count → NoneKept c →
-    Holds split c (with_out view left) after
-holds_forwarded split c view left world after host old state flying x value source holds first obeys moved rows
-    variables
-    frames is within plainly = record {
+    Holds split c (with_out view (without_forward x host view.out)) after
+holds_forwarded split c view world after host old state flying x value holds obeys moved rows variables frames is within
+    plainly = record {
       fields = fields_same split world after host old state flying c.store holds.fields obeys moved rows;
       known = holds.known;
       apart = holds.apart;
@@ -255,28 +257,80 @@ holds_forwarded split c view left world after host old state flying x value sour
       fresh = fresh_set split view.naming world after host old state flying view.sender x value holds.fresh obeys
           moved within variables frames;
       valued = holds.valued;
-      agree = agree_forwarded split view.naming view.values left view.sender world after host old state flying x value
-          source (subst (λ out. Agree split view.naming view.values out view.sender world) first holds.agree) obeys
-          moved (same_call split c view world holds view.sender within) variables is;
+      agree = agree_forwarded split view.naming view.values view.out view.sender world after host old state flying x
+          value holds.agree obeys moved (same_call split c view world holds view.sender within) variables is;
       result = λ k into kept behind there pending is. absurd (plainly k into kept behind pending);
     }
+
+-- where no names ride nothing rides
+no_riders : (riders : List Rider) → [] ≡ names_of riders → riders ≡ []
+no_riders [] none = refl
+no_riders (rider ∷ riders) none = absurd (cc)
+
+-- a host took what was still to be sent, with the token
+pub holds_rode : (split : Split) (c : Configuration) (view : View) (world after : WorldShape) (host : HostId)
+    (old state : HostShape) (flying : Flying) (arrival : Arrival) → Holds split c view world →
+    RidesOut split c view host arrival → state_at world host ≡ Some old → Moved world host state flying after →
+    state.rows ≡ old.rows →
+    state.variables ≡ (with_variables_set old arrival.frame arrival.riders).variables → state.frames ≡ old.frames →
+    Holds split c (with_out view []) after
+holds_rode split c view world after host old state flying arrival holds rides obeys moved rows variables frames =
+    let set : state.variables ≡ (with_variables_set old (view.naming.frame view.sender) arrival.riders).variables =
+    variables ∙ ap (λ f. (with_variables_set old f arrival.riders).variables) rides.frame_is in
+    record {
+      fields = fields_same split world after host old state flying c.store holds.fields obeys moved rows;
+      known = holds.known;
+      apart = holds.apart;
+      named = holds.named;
+      fresh = fresh_rode split view.naming world after host old state flying view.sender arrival.riders holds.fresh
+          obeys moved rides.known set frames;
+      valued = holds.valued;
+      agree = agree_rode split view.naming view.values view.out view.sender world after host old state flying
+          arrival.riders holds.agree obeys moved (same_call split c view world holds view.sender rides.known) set
+          rides.all rides.alike;
+      result = elim rides.settled [
+        | inl none ↦
+            let riders : arrival.riders ≡ [] =
+            no_riders arrival.riders
+            (ap (λ (out : List Forward). map (λ forward. forward.variable) out) (sym none) ∙ rides.all.0) in
+            result_kept split c view world after host old state flying holds.result obeys moved
+            (variables_same split old state
+            (variables ∙ ap (λ list. (with_variables_set old arrival.frame list).variables) riders))
+        | inr plainly ↦ none_result split c (with_out view []) after plainly
+      ];
+    }
+
+-- a host without a state was told what was still to be sent, with the token
+pub holds_told : (split : Split) (c : Configuration) (view : View) (world : WorldShape) (to : HostId) →
+    Holds split c view world → ((state : HostShape) → state_at world to ≡ Some state → ⊥) →
+    AllByRecursion (λ forward. forward.host ≡ to) view.out → Holds split c (with_out view []) world
+holds_told split c view world to holds none all = record {
+  fields = holds.fields;
+  known = holds.known;
+  apart = holds.apart;
+  named = holds.named;
+  fresh = holds.fresh;
+  valued = holds.valued;
+  agree = agree_told split view.naming view.values view.out view.sender world to holds.agree none all;
+  result = holds.result;
+}
 
 -- ---- calls
 
 -- a parameter was set in the frame for a call
 pub holds_argued : (split : Split) (c : Configuration) (view : View) (world after : WorldShape) (host : HostId)
     (old state : HostShape) (flying : Flying) (x : VarId) (value : ℤ) (source : BlockTree) →
-    length world.hosts ≡ length split.code.hosts → Holds split c view world → view.out ≡ [] →
+    length world.hosts ≡ length split.code.hosts → Holds split c view world → view.sender ≡ length c.calls →
     state_at world host ≡ Some old → Moved world host state flying after → state.rows ≡ old.rows →
     length c.calls < view.naming.count →
     state.variables ≡ with_variable old.variables (view.naming.frame (length c.calls)) x value →
     state.frames ≡ old.frames → NoneKept c →
     Holds split c (record view {
-      out = forwards_of split.planned host source x;
+      out = view.out ++ forwards_of split.planned host source x;
       sender = length c.calls;
       values = values_set view.values (length c.calls) x.0 value;
     }) after
-holds_argued split c view world after host old state flying x value source long holds none obeys moved rows within
+holds_argued split c view world after host old state flying x value source long holds sender obeys moved rows within
     variables frames plainly =
     let call = length c.calls in
     record {
@@ -291,7 +345,8 @@ holds_argued split c view world after host old state flying x value source long 
           (ne_eqb k call (λ same. omega (arith, same, there)))
           ∙ holds.valued k y there;
       agree = agree_set split view.naming view.values view.out view.sender world after host old state flying call x
-          value source long holds.agree none obeys moved (same_call split c view world holds call within) variables;
+          value source long holds.agree (inr sender) obeys moved (same_call split c view world holds call within)
+          variables;
       result = λ k into kept behind there pending is. absurd (plainly k into kept behind pending);
     }
 

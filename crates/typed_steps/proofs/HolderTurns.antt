@@ -32,8 +32,8 @@ use Rattle.typed_steps.proofs.Holding.{host_within}
 use Rattle.typed_steps.proofs.Pops.{top_of}
 use Rattle.typed_steps.proofs.Fuel.{none_within, place_there}
 use Rattle.typed_steps.proofs.Turns.{read_found, set_local, put_found, forwards, branches, pushes, syncs, hands_over}
-use Rattle.typed_steps.proofs.Turns.{gives_back}
-use Rattle.typed_steps.proofs.CallTurns.{makes_frame, sets_argument, pushes_call, enters, returns_value}
+use Rattle.typed_steps.proofs.Turns.{hands_over_with, gives_back}
+use Rattle.typed_steps.proofs.CallTurns.{makes_frame, sets_argument, pushes_call, enters, enters_with, returns_value}
 use Rattle.typed_steps.specs.Turns.{IsActing, Turned}
 use Rattle.host_code.specs.Thread.{ThreadShape}
 use Rattle.typed_steps.specs.Views.{View}
@@ -116,6 +116,12 @@ module _ (split : Split) (c : Configuration) (view : View) (world : WorldShape) 
       gives_back split c view world host old thread t outcome law pace passes checked token top is
   operation outcome count (op.Branch guard target) law granted fits pace token top passes checked is =
       branches split c view world host old thread t outcome guard target law pace is
+  operation outcome count (op.GoWith entry on riders) law granted fits pace token top passes checked is =
+      hands_over_with split c view world host old thread t outcome entry on riders law granted fits.0 pace
+      (entry_at split.code entry) refl fits.0.1 token top is
+  operation outcome count (op.CallWith entry on riders) law granted fits pace token top passes checked is =
+      enters_with split c view world host old thread t outcome entry on riders law granted fits.0 pace
+      (entry_at split.code entry) refl fits.0.1 token top is
 
   -- ---- a turn
 

@@ -1,9 +1,9 @@
 -- What a step of one host leaves of what all hosts have: fields, variables, and frames that are still unused.
 use Rattle.std.proofs.Common.{◌≡◌, ◌≢◌, ◌∙◌, ℕ, zero, suc, ◌<◌, ◌≤◌, ◌⊎◌, inl, inr, Bool, true, false, List, []}
-use Rattle.std.proofs.Common.{◌∷◌, length, map, Some, refl, ap, sym, subst, arith}
+use Rattle.std.proofs.Common.{◌∷◌, ◌++◌, length, map, Some, refl, ap, sym, subst, arith}
 use Rattle.std.specs.Prelude.{ℤ, pos, cond, ◌==◌, ◌&&◌, not, nat_eq, if◌then◌else◌, slice_get, slice_index}
 use Rattle.std.specs.Prelude.{filter}
-use Rattle.std.specs.List.{range_with_len}
+use Rattle.std.specs.List.{range_with_len, AllByRecursion}
 use Rattle.std.proofs.lemmas.Bool.Decides.{eqb_tells}
 use Rattle.std.proofs.lemmas.Bool.{eq-eqb, ne_eqb}
 use Rattle.js_base.specs.declared.ids.HostId.{HostId}
@@ -16,18 +16,22 @@ use Rattle.jif_tree.specs.Trees.{BlockTree}
 use Rattle.jif_tree.specs.Altered.{Exposure, VariableIsAffected, MayRead}
 use Rattle.host_code.specs.Code.{CodeShape, site_at}
 use Rattle.host_stores.specs.Stores.{with_variable}
-use Rattle.host_core.specs.Host.{HostShape}
+use Rattle.host_code.specs.Riders.{Rider, names_of}
+use Rattle.host_core.specs.Host.{HostShape, with_variable_set, with_variables_set}
+use Rattle.msg_cost.specs.Moves.{is_same}
 use Rattle.msg_cost.specs.Terms.{reads_on, is_other_reader}
 use Rattle.net_world.specs.Flying.{Flying}
 use Rattle.net_world.specs.World.{WorldShape, state_at}
-use Rattle.split_rules.specs.Positions.{Forward, forwards_of}
+use Rattle.split_rules.specs.Positions.{Forward, forwards_of, IsOut, without_forward}
+use Rattle.split_rules.specs.Typing.{RidesAll}
 use Rattle.split_rules.proofs.NumberedLists.{number_there}
 use Rattle.net_world.proofs.Moved.{Moved, either}
 use Rattle.net_world.proofs.Present.{same_id}
 use Rattle.typed_steps.specs.Values.{AreAlike, HoldsNumbers}
 use Rattle.typed_steps.proofs.Alike.{alike_by, alike_on, alike_both, may_read}
 use Rattle.typed_steps.specs.Views.{Split, Naming, View, values_set}
-use Rattle.typed_steps.specs.Variables.{IsOut, AreSent, Sends, Agree, IsUnused, AreFresh, Holds}
+use Rattle.typed_steps.specs.Variables.{CanSend, AreSent, Sends, Agree, IsUnused, AreFresh, Holds}
+use Rattle.typed_steps.proofs.Basics.{told_equal, all_map, all_both}
 use Rattle.std.specs.Prelude.{Option}
 use Rattle.net_world.specs.World.{given}
 
@@ -165,6 +169,25 @@ fresh_set split naming world after host old state flying call x value fresh obey
     (λ frame y apart none. alike_by split.exposure y _ _ _ (ap (λ (v : FrameId → VarId → ℤ). v frame y) variables
     ∙ other_frame old.variables (naming.frame call) frame x y value (apart call known)) none)
 
+-- the variables of other frames stay
+pub rode_elsewhere : (state : HostShape) (frame other : FrameId) (y : VarId) (riders : List Rider) → frame ≢ other →
+    (with_variables_set state frame riders).variables other y ≡ state.variables other y
+rode_elsewhere state frame other y [] apart = refl
+rode_elsewhere state frame other y (rider ∷ riders) apart =
+    rode_elsewhere (with_variable_set state frame rider.0 rider.1) frame other y riders apart
+    ∙ other_frame state.variables frame other rider.0 y rider.1 apart
+
+-- variables of a call were set
+pub fresh_rode : (split : Split) (naming : Naming) (world after : WorldShape) (host : HostId) (old state : HostShape)
+    (flying : Flying) (call : ℕ) (riders : List Rider) → AreFresh split naming world →
+    state_at world host ≡ Some old → Moved world host state flying after → call < naming.count →
+    state.variables ≡ (with_variables_set old (naming.frame call) riders).variables → state.frames ≡ old.frames →
+    AreFresh split naming after
+fresh_rode split naming world after host old state flying call riders fresh obeys moved known variables frames =
+    fresh_moved split naming world after host old state flying fresh obeys moved (same_counts old state frames)
+    (λ frame y apart none. alike_by split.exposure y _ _ _ (ap (λ (v : FrameId → VarId → ℤ). v frame y) variables
+    ∙ rode_elsewhere old (naming.frame call) frame y riders (apart call known)) none)
+
 -- ---- agreement
 
 -- a host has a variable of a call, or is still to be sent it
@@ -270,7 +293,7 @@ sent_more : (split : Split) (values : ℕ → ℤ) (variables : VarId → ℤ) (
     (own ≡ false → first ≢ me.0) → AreSent split values variables me (for_hosts x source numbers) →
     AreSent split values variables me (for_hosts x source (cond (not own && q) (first ∷ numbers) numbers))
 sent_more split values variables me x source first numbers true q same apart sent = sent
-sent_more split values variables me x source first numbers false true same apart sent = (inl same, apart refl, sent)
+sent_more split values variables me x source first numbers false true same apart sent = ((inl same, apart refl), sent)
 sent_more split values variables me x source first numbers false false same apart sent = sent
 
 apart_false : (a b : ℕ) → nat_eq a b ≡ false → a ≢ b
@@ -292,12 +315,25 @@ is_sent split values variables me source x same =
     sent_among split values variables me x source (reads_on split.planned x) same
     (range_with_len 0 (length split.planned.hosts.hosts))
 
+-- what holds of all that is still to be sent holds of one of it
+pub of_out : (P : VarId → HostId → Type 0) (x : VarId) (host : HostId) (out : List Forward) →
+    AllByRecursion (λ forward. P forward.variable forward.host) out → IsOut out x host → P x host
+of_out P x host [] all is_out = absurd is_out
+of_out P x host (forward ∷ out) all (inl own) =
+    subst (λ y. P y host) own.0 (subst (P forward.variable) own.1 all.0)
+of_out P x host (forward ∷ out) all (inr other) = of_out P x host out all.1 other
+
+-- one of it is what the host can send
+pub sent_out : (split : Split) (values : ℕ → ℤ) (variables : VarId → ℤ) (me : HostId) (out : List Forward)
+    (x : VarId) (host : HostId) → AreSent split values variables me out → IsOut out x host →
+    AreAlike split.exposure x (variables x) (values x.0) × (host.0 ≢ me.0)
+sent_out split values variables me out x host sent is_out =
+    of_out (λ y to. AreAlike split.exposure y (variables y) (values y.0) × (to.0 ≢ me.0)) x host out sent is_out
+
 pub not_out : (split : Split) (values : ℕ → ℤ) (variables : VarId → ℤ) (host : HostId) (out : List Forward)
     (x : VarId) → AreSent split values variables host out → IsOut out x host → ⊥
-not_out split values variables host [] x sent is_out = is_out
-not_out split values variables host (forward ∷ out) x sent (inl own) = sent.1 (ap (λ (h : HostId). h.0) own.1)
-not_out split values variables host (forward ∷ out) x sent (inr other) =
-    not_out split values variables host out x sent.2 other
+not_out split values variables host out x sent is_out =
+    (sent_out split values variables host out x host sent is_out).1 refl
 
 -- who acts has the variables of a call that it reads
 pub holder_agrees : (split : Split) (c : Configuration) (view : View) (world : WorldShape) (host : HostId)
@@ -331,27 +367,74 @@ host_within code world host state count obeys =
     within_of (first ∷ hosts) zero state is = omega arith
     within_of (first ∷ hosts) (suc place) state is = let more = within_of hosts place state is in omega arith
 
+-- what was still to be sent is so with more behind it
+out_front : (x : VarId) (host : HostId) (out more : List Forward) → IsOut out x host → IsOut (out ++ more) x host
+out_front x host [] more is_out = absurd is_out
+out_front x host (forward ∷ out) more (inl own) = inl own
+out_front x host (forward ∷ out) more (inr other) = inr (out_front x host out more other)
+
+out_behind : (x : VarId) (host : HostId) (out more : List Forward) → IsOut more x host → IsOut (out ++ more) x host
+out_behind x host [] more is_out = is_out
+out_behind x host (forward ∷ out) more is_out = inr (out_behind x host out more is_out)
+
+-- where nothing was to be sent, or of this call
+still_out : (x : VarId) (host : HostId) (out more : List Forward) (sender call other : ℕ) →
+    (out ≡ []) ⊎ (sender ≡ call) → (other ≡ sender) × IsOut out x host →
+    (other ≡ call) × IsOut (out ++ more) x host
+still_out x host out more sender call other (inl none) is_out = absurd (none_out x host out none is_out.1)
+still_out x host out more sender call other (inr same) is_out =
+    (is_out.0 ∙ same, out_front x host out more is_out.1)
+
+-- Who acts has what was to be sent, and what is now to be sent behind that, once a variable is set.
+pub sent_set : (split : Split) (naming : Naming) (values : ℕ → ℕ → ℤ) (variables : FrameId → VarId → ℤ)
+    (out : List Forward) (sender : ℕ) (host : HostId) (call : ℕ) (x : VarId) (value : ℤ) (source : BlockTree) →
+    (out ≡ []) ⊎ (sender ≡ call) →
+    AreSent split (values sender) (variables (naming.frame sender)) host out →
+    AreSent split (values_set values call x.0 value call)
+    (with_variable variables (naming.frame call) x value (naming.frame call)) host
+    (out ++ forwards_of split.planned host source x)
+sent_set split naming values variables out sender host call x value source one sent =
+    let now = values_set values call x.0 value call in
+    let after = with_variable variables (naming.frame call) x value (naming.frame call) in
+    all_both (CanSend split now after host) out (forwards_of split.planned host source x) (before one)
+    (is_sent split now after host source x (own_cell variables naming values call x value))
+  where
+    before : (out ≡ []) ⊎ (sender ≡ call) →
+        AreSent split (values_set values call x.0 value call)
+        (with_variable variables (naming.frame call) x value (naming.frame call)) host out
+    before (inl none) =
+        subst (AreSent split (values_set values call x.0 value call)
+        (with_variable variables (naming.frame call) x value (naming.frame call)) host) (sym none) tt
+    before (inr same) =
+        all_map (CanSend split (values call) (variables (naming.frame call)) host) _
+        (λ forward can. (
+          cell_alike split.exposure variables naming values call call x forward.variable value (λ frames. refl) can.0,
+          can.1,
+        )) out
+        (subst (λ k. AreSent split (values k) (variables (naming.frame k)) host out) same sent)
+
 -- Who acts set a variable of a call, which is now to be sent to the others that read it.
 pub agree_set : (split : Split) (naming : Naming) (values : ℕ → ℕ → ℤ) (out : List Forward) (sender : ℕ)
     (world after : WorldShape) (host : HostId) (old state : HostShape) (flying : Flying) (call : ℕ) (x : VarId)
     (value : ℤ) (source : BlockTree) → length world.hosts ≡ length split.code.hosts →
     Agree split naming values out sender world →
-    out ≡ [] → state_at world host ≡ Some old → Moved world host state flying after →
+    (out ≡ []) ⊎ (sender ≡ call) → state_at world host ≡ Some old → Moved world host state flying after →
     ((other : ℕ) → other < naming.count → naming.frame call ≡ naming.frame other → call ≡ other) →
     state.variables ≡ with_variable old.variables (naming.frame call) x value →
-    Agree split naming (values_set values call x.0 value) (forwards_of split.planned host source x) call after
-agree_set split naming values out sender world after host old state flying call x value source many agree none obeys
-    moved apart variables =
-    agree_moved split naming values (values_set values call x.0 value) out (forwards_of split.planned host source x)
+    Agree split naming (values_set values call x.0 value) (out ++ forwards_of split.planned host source x) call after
+agree_set split naming values out sender world after host old state flying call x value source many agree settled
+    obeys moved apart variables =
+    let more = forwards_of split.planned host source x in
+    agree_moved split naming values (values_set values call x.0 value) out (out ++ more)
     sender call world after host old state flying agree obeys moved
     (λ other y known reads before. elim before [
-      | inl is_out ↦ absurd (none_out y host out none is_out.1)
+      | inl is_out ↦ inl (still_out y host out more sender call other settled is_out)
       | inr same ↦ inr (alike_by split.exposure y _ _ _
           (ap (λ (v : FrameId → VarId → ℤ). v (naming.frame other) y) variables)
           (cell_alike split.exposure old.variables naming values call other x y value (apart other known) same))
     ])
     (λ other another there y known is differs reads before. elim before [
-      | inl is_out ↦ absurd (none_out y another out none is_out.1)
+      | inl is_out ↦ inl (still_out y another out more sender call other settled is_out)
       | inr same ↦ elim (eqb_tells other call) [
         | inl one ↦ elim (eqb_tells y.0 x.0) [
           | inl var ↦
@@ -361,9 +444,9 @@ agree_set split naming values out sender world after host old state flying call 
               let equal : y ≡ x = ap var_of var.1 in
               inl (
                 one.1,
-                subst (λ z. IsOut (forwards_of split.planned host source x) z another) (sym equal)
+                out_behind y another out more (subst (λ z. IsOut more z another) (sym equal)
                     (is_to_be_sent split host another source x (omega arith) differs
-                    (subst (λ z. reads_on split.planned z another.0 ≡ true) equal reads)),
+                    (subst (λ z. reads_on split.planned z another.0 ≡ true) equal reads))),
               )
           | inr var ↦ inr (alike_on split.exposure y _ _ _ same
               (ap (λ (b : Bool). if b then value else values other y.0) (sym var.0)
@@ -376,19 +459,40 @@ agree_set split naming values out sender world after host old state flying call 
       ]
     ])
 
+-- What is sent to a host is not still to be sent to it. All else is.
+pub out_without : (x : VarId) (to : HostId) (y : VarId) (host : HostId) (out : List Forward) →
+    (y ≡ x → host ≡ to → ⊥) → IsOut out y host → IsOut (without_forward x to out) y host
+out_without x to y host [] apart is_out = is_out
+out_without x to y host (forward ∷ out) apart is_out =
+    by (nat_eq forward.variable.0 x.0) (is_same forward.host to) refl refl is_out
+    (λ later. out_without x to y host out apart later)
+  where
+    by : (one other : Bool) → nat_eq forward.variable.0 x.0 ≡ one → is_same forward.host to ≡ other →
+        IsOut (forward ∷ out) y host → (IsOut out y host → IsOut (without_forward x to out) y host) →
+        IsOut (if one && other then out else forward ∷ without_forward x to out) y host
+    by true true var there (inl own) more =
+        let var_of : ℕ → VarId = λ n. record { 0 = n } in
+        absurd (apart (sym own.0 ∙ ap var_of (told_equal forward.variable.0 x.0 var))
+        (sym own.1 ∙ same_id forward.host to (told_equal forward.host.0 to.0 there)))
+    by true true var there (inr later) more = later
+    by true false var there (inl own) more = inl own
+    by true false var there (inr later) more = inr (more later)
+    by false other var there (inl own) more = inl own
+    by false other var there (inr later) more = inr (more later)
+
 -- A host was sent a variable.
-pub agree_forwarded : (split : Split) (naming : Naming) (values : ℕ → ℕ → ℤ) (left : List Forward) (sender : ℕ)
-    (world after : WorldShape) (host : HostId) (old state : HostShape) (flying : Flying) (x : VarId) (value : ℤ)
-    (source : BlockTree) →
-    Agree split naming values (record { variable = x; host = host; source = source } ∷ left) sender world →
+pub agree_forwarded : (split : Split) (naming : Naming) (values : ℕ → ℕ → ℤ) (out : List Forward) (sender : ℕ)
+    (world after : WorldShape) (host : HostId) (old state : HostShape) (flying : Flying) (x : VarId) (value : ℤ) →
+    Agree split naming values out sender world →
     state_at world host ≡ Some old → Moved world host state flying after →
     ((other : ℕ) → other < naming.count → naming.frame sender ≡ naming.frame other → sender ≡ other) →
     state.variables ≡ with_variable old.variables (naming.frame sender) x value →
-    AreAlike split.exposure x value (values sender x.0) → Agree split naming values left sender after
-agree_forwarded split naming values left sender world after host old state flying x value source agree obeys moved
-    apart variables is =
-    let out = record { variable = x; host = host; source = source } ∷ left in
-    agree_moved split naming values values out left sender sender world after host old state flying agree obeys moved
+    AreAlike split.exposure x value (values sender x.0) →
+    Agree split naming values (without_forward x host out) sender after
+agree_forwarded split naming values out sender world after host old state flying x value agree obeys moved apart
+    variables is =
+    agree_moved split naming values values out (without_forward x host out) sender sender world after host old state
+    flying agree obeys moved
     (λ call y known reads before. elim (eqb_tells call sender) [
       | inl one ↦
           let seen : state.variables (naming.frame call) y
@@ -406,10 +510,11 @@ agree_forwarded split naming values left sender world after host old state flyin
                 let kept = seen ∙ ap (λ (b : Bool). if b then value else old.variables (naming.frame call) y) differs.0
                 in
                 elim before [
-                  | inl is_out ↦ elim is_out.1 [
-                    | inl own ↦ absurd (differs.1 (ap (λ (v : VarId). v.0) own.0))
-                    | inr others ↦ inl (is_out.0, others)
-                  ]
+                  | inl is_out ↦ inl (
+                    is_out.0,
+                    out_without x host y host out (λ var there. differs.1 (ap (λ (v : VarId). v.0) (sym var)))
+                        is_out.1,
+                  )
                   | inr same ↦ inr (alike_by split.exposure y _ _ _ kept same)
                 ]
           ]
@@ -422,12 +527,101 @@ agree_forwarded split naming values left sender world after host old state flyin
       ]
     ])
     (λ call another there y known at differs reads before. elim before [
-      | inl is_out ↦ elim is_out.1 [
-        | inl own ↦ absurd (differs (ap (λ (h : HostId). h.0) (sym own.1)))
-        | inr others ↦ inl (is_out.0, others)
-      ]
+      | inl is_out ↦ inl (
+        is_out.0,
+        out_without x host y another out (λ var here. differs (ap (λ (h : HostId). h.0) here)) is_out.1,
+      )
       | inr same ↦ inr same
     ])
+
+-- ---- what rides
+
+-- A host that has a variable, or awaits it, has it once all is set that was still to be sent.
+rode_here : (exposure : Exposure) (state : HostShape) (frame : FrameId) (given : ℕ → ℤ) (y : VarId) (host : HostId)
+    (out : List Forward) (riders : List Rider) → map (λ forward. forward.variable) out ≡ names_of riders →
+    AllByRecursion (λ rider. AreAlike exposure rider.0 rider.1 (given rider.0.0)) riders →
+    IsOut out y host ⊎ AreAlike exposure y (state.variables frame y) (given y.0) →
+    AreAlike exposure y ((with_variables_set state frame riders).variables frame y) (given y.0)
+rode_here exposure state frame given y host [] [] names all (inl is_out) = absurd is_out
+rode_here exposure state frame given y host [] [] names all (inr same) = same
+rode_here exposure state frame given y host [] (rider ∷ riders) names all before = absurd (cc)
+rode_here exposure state frame given y host (forward ∷ out) [] names all before = absurd (cc)
+rode_here exposure state frame given y host (forward ∷ out) (rider ∷ riders) names all before =
+    let first : forward.variable ≡ rider.0 = cc in
+    let rest : map (λ (one : Forward). one.variable) out ≡ names_of riders = cc in
+    let seen = own_frame state.variables frame frame rider.0 y rider.1 refl in
+    rode_here exposure (with_variable_set state frame rider.0 rider.1) frame given y host out riders rest all.1
+    (elim (eqb_tells rider.0.0 y.0) [
+      | inl same ↦
+          let var_of : ℕ → VarId = λ n. record { 0 = n } in
+          inr (alike_by exposure y _ _ _
+          (seen ∙ ap (λ (b : Bool). if b then rider.1 else state.variables frame y) same.0)
+          (subst (λ (z : VarId). AreAlike exposure z rider.1 (given z.0)) (ap var_of same.1) all.0))
+      | inr apart ↦ elim before [
+        | inl is_out ↦ elim is_out [
+          | inl own ↦ absurd (apart.1 (ap (λ (v : VarId). v.0) (sym first ∙ own.0)))
+          | inr later ↦ inl later
+        ]
+        | inr same ↦ inr (alike_by exposure y _ _ _
+            (seen ∙ ap (λ (b : Bool). if b then rider.1 else state.variables frame y) apart.0) same)
+      ]
+    ])
+
+-- what is still to be sent goes to one host alone
+out_to : (x : VarId) (host to : HostId) (out : List Forward) → AllByRecursion (λ forward. forward.host ≡ to) out →
+    IsOut out x host → host ≡ to
+out_to x host to out all is_out = of_out (λ y other. other ≡ to) x host out all is_out
+
+-- A host took all that was still to be sent.
+pub agree_rode : (split : Split) (naming : Naming) (values : ℕ → ℕ → ℤ) (out : List Forward) (sender : ℕ)
+    (world after : WorldShape) (host : HostId) (old state : HostShape) (flying : Flying) (riders : List Rider) →
+    Agree split naming values out sender world → state_at world host ≡ Some old →
+    Moved world host state flying after →
+    ((other : ℕ) → other < naming.count → naming.frame sender ≡ naming.frame other → sender ≡ other) →
+    state.variables ≡ (with_variables_set old (naming.frame sender) riders).variables →
+    RidesAll (names_of riders) host out →
+    AllByRecursion (λ rider. AreAlike split.exposure rider.0 rider.1 (values sender rider.0.0)) riders →
+    Agree split naming values [] sender after
+agree_rode split naming values out sender world after host old state flying riders agree obeys moved apart variables
+    all alike =
+    agree_moved split naming values values out [] sender sender world after host old state flying agree obeys moved
+    (λ call y known reads before. elim (eqb_tells call sender) [
+      | inl one ↦
+          inr (alike_by split.exposure y _ _ _
+          (ap (λ (v : FrameId → VarId → ℤ). v (naming.frame call) y) variables
+          ∙ ap (λ k. (with_variables_set old (naming.frame sender) riders).variables (naming.frame k) y) one.1)
+          (subst (λ k. AreAlike split.exposure y
+          ((with_variables_set old (naming.frame sender) riders).variables (naming.frame sender) y) (values k y.0))
+          (sym one.1)
+          (rode_here split.exposure old (naming.frame sender) (values sender) y host out riders all.0 alike
+          (elim before [
+            | inl is_out ↦ inl is_out.1
+            | inr same ↦ inr (subst (λ k. AreAlike split.exposure y (old.variables (naming.frame k) y) (values k y.0))
+                one.1 same)
+          ]))))
+      | inr one ↦ elim before [
+        | inl is_out ↦ absurd (one.1 is_out.0)
+        | inr same ↦ inr (alike_by split.exposure y _ _ _
+            (ap (λ (v : FrameId → VarId → ℤ). v (naming.frame call) y) variables
+            ∙ rode_elsewhere old (naming.frame sender) (naming.frame call) y riders
+            (λ frames. one.1 (sym (apart call known frames)))) same)
+      ]
+    ])
+    (λ call another there y known at differs reads before. elim before [
+      | inl is_out ↦ absurd (differs (ap (λ (h : HostId). h.0) (out_to y another host out all.1 is_out.1)))
+      | inr same ↦ inr same
+    ])
+
+-- A host without a state was told all that was still to be sent.
+pub agree_told : (split : Split) (naming : Naming) (values : ℕ → ℕ → ℤ) (out : List Forward) (sender : ℕ)
+    (world : WorldShape) (to : HostId) → Agree split naming values out sender world →
+    ((state : HostShape) → state_at world to ≡ Some state → ⊥) →
+    AllByRecursion (λ forward. forward.host ≡ to) out → Agree split naming values [] sender world
+agree_told split naming values out sender world to agree none all call host state x known is reads =
+    elim (agree call host state x known is reads) [
+      | inl is_out ↦ absurd (none state (ap (state_at world) (sym (out_to x host to out all is_out.1)) ∙ is))
+      | inr same ↦ inr same
+    ]
 
 -- A host was given a variable that nobody reads.
 pub agree_given : (split : Split) (naming : Naming) (values : ℕ → ℕ → ℤ) (out : List Forward) (sender : ℕ)

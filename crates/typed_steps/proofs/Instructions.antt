@@ -33,9 +33,9 @@ use Rattle.msg_cost.specs.Moves.{PlannedShape}
 use Rattle.msg_cost.specs.Terms.{reads_on}
 use Rattle.split_rules.specs.Expressions.{reads_in, nodes_of}
 use Rattle.split_rules.specs.Positions as positions
-use Rattle.split_rules.specs.Positions.{Position, Due, FieldRead, Forward, Argument, Calling, arguments_of, field_reads}
+use Rattle.split_rules.specs.Positions.{Position, Due, FieldRead, Argument, Calling, arguments_of, field_reads}
 use Rattle.split_rules.specs.Positions.{own_reads, reads_due, number_of, statement_due, is_on, no_call, arguing}
-use Rattle.split_rules.specs.Positions.{entering, with_reads, with_forwards, forwards_of}
+use Rattle.split_rules.specs.Positions.{entering, with_reads, forwards_of, IsOut, without_forward}
 use Rattle.split_rules.specs.Typing as typing
 use Rattle.split_rules.specs.Typing.{Reads, Sets, Stores, IsValue, Follows}
 use Rattle.split_rules.proofs.TypedValues.{reads_many}
@@ -301,7 +301,7 @@ assigns_local split c host call variables agrees here _ heading x nodes on_host 
 -- what the setting of a variable leaves to be seen
 abbrev pub after_setting : Split → View → HostId → BlockTree → ℕ → VarId → ℤ → View
 after_setting split view host from call x value = record view {
-  out = forwards_of split.planned host from x;
+  out = view.out ++ forwards_of split.planned host from x;
   sender = call;
   values = values_set view.values call x.0 value;
 }
@@ -371,10 +371,11 @@ let_at split c view host thread variables at agrees kept x nodes law =
     (set : now.calls ≡ calls) (left : IsLeft split now view.keeper (under call law.1 ++ chain_due split view.chain))
     (plainly : NoneKept now).
     let many : length now.calls ≡ length c.calls = ap length set ∙ long in
+    let none = sym at.forwards ∙ law.2.forwards in
     let it : SetsLocal split c view host thread x given = record {
       now = now;
       does = does;
-      none_out = sym at.forwards ∙ law.2.forwards;
+      none_out = none;
       store = store;
       call = call;
       made = at.made;
@@ -383,8 +384,9 @@ let_at split c view host thread variables at agrees kept x nodes law =
       plainly = plainly;
       from = from;
       at = cleared split now (after_setting split view host from call x given) host thread _ call
-          (subst (λ n. call < n) (sym many) at.made) at.held left at.fits (calling.0 ∙ sym many, calling.1, refl) refl
-          (inr plainly) refl (thread.at + 1) (next_place split host thread ∙ law.5);
+          (subst (λ n. call < n) (sym many) at.made) at.held left at.fits (calling.0 ∙ sym many, calling.1, refl)
+          (ap (λ out. out ++ forwards_of split.planned host from x) (sym none)) (inr plainly) refl (thread.at + 1)
+          (next_place split host thread ∙ law.5);
     } in it in
     elim (front_of split c view.keeper call here.due (chain_due split view.chain) law.0 law.1 law.2.due at.left) [
       | inl runs ↦
@@ -543,13 +545,10 @@ put_at split c view host thread variables at agrees field index nodes law =
 -- ---- forwards
 
 pub record SendsNext (split : Split) (c : Configuration) (view : View) (host : HostId) (thread : ThreadShape)
-    (x : VarId)
-    (to : HostId) : Type 0 where
-  pub from : BlockTree
-  pub left : List Forward
-  pub first : view.out ≡ record { variable = x; host = to; source = from } ∷ left
+    (x : VarId) (to : HostId) : Type 0 where
+  pub is_out : IsOut view.out x to
   pub plainly : NoneKept c
-  pub at : IsAt split c (with_out view left) host (after_step thread)
+  pub at : IsAt split c (with_out view (without_forward x to view.out)) host (after_step thread)
 
 pub send_at : (split : Split) (c : Configuration) (view : View) (host : HostId) (thread : ThreadShape) →
     IsAt split c view host thread → (x : VarId) (to : HostId) →
@@ -558,16 +557,14 @@ pub send_at : (split : Split) (c : Configuration) (view : View) (host : HostId) 
 send_at split c view host thread at x to law =
     let here = place_of split host thread.at in
     let call = at.call in
-    let goes : place_of split host (thread.at + 1) ≡ with_forwards here law.1 = next_place split host thread ∙ law.4 in
-    let first = sym at.forwards ∙ law.3 in
+    let goes = next_place split host thread ∙ law.2 in
+    let is_out = subst (λ out. IsOut out x to) at.forwards law.1 in
     let plainly : NoneKept c = elim at.settled [
-      | inl none ↦ absurd (let both = sym none ∙ first in cc)
+      | inl none ↦ absurd (subst (λ out. IsOut out x to) none is_out)
       | inr some ↦ some
     ] in
     record {
-      from = law.0;
-      left = law.1;
-      first = first;
+      is_out = is_out;
       plainly = plainly;
       at = record {
         call = call;
@@ -578,7 +575,7 @@ send_at split c view host thread at x to law =
         fits = subst (λ (p : Position). FitsOver split view.naming p.level call view.chain) (sym goes) at.fits;
         calling = subst (λ (p : Position). IsCalling split c view.naming view.values view.sender host thread.frame
             thread.new_frame call p.due p.calling) (sym goes) at.calling;
-        forwards = ap (λ (p : Position). p.forwards) goes;
+        forwards = ap (λ (p : Position). p.forwards) goes ∙ ap (without_forward x to) at.forwards;
         settled = inr plainly;
         temporaries = subst (λ (p : Position). AllZip (MayHold split.exposure c.store (source.variable c.calls call))
             p.reads thread.temporaries) (sym goes) at.temporaries;

@@ -20,3 +20,4 @@ pub mod Turns
 pub mod CallTurns
 pub mod HolderTurns
 pub mod Takes
+pub mod RidingExamples

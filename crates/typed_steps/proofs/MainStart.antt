@@ -1,11 +1,10 @@
 -- Where the program starts: what is due there, who was called, and the thread at `main`.
-use Rattle.std.proofs.Common.{◌≡◌, ◌≢◌, ◌∙◌, ℕ, suc, ◌+◌, inl, List, [], ◌∷◌, ◌++◌}
+use Rattle.std.proofs.Common.{◌≡◌, ◌≢◌, ◌∙◌, ℕ, suc, inl, List, [], ◌∷◌, ◌++◌}
 use Rattle.std.proofs.Common.{map, Option, Some, None, refl, ap, sym, subst, arith, append-nil}
 use Rattle.std.specs.Prelude.{ℤ, pos, slice_get}
 use Rattle.js_base.specs.declared.ids.HostId.{HostId}
 use Rattle.js_base.specs.declared.ids.FrameId.{FrameId}
 use Rattle.js_base.specs.declared.ids.SiteId.{SiteId}
-use Rattle.host_decl.specs.Hosts as declared_hosts
 use Rattle.jif_tree.specs.LabelRules.{method_at, result_of}
 use Rattle.jif_tree.specs.SourceRun as source
 use Rattle.jif_tree.specs.SourceRun.{Call, configuration_at_start, main_body}

@@ -1,41 +1,45 @@
 -- Taking a request by its owner, and an answer by the host that waits, seen from the host that takes.
-use Rattle.std.proofs.Common.{◌≡◌, ◌∙◌, ℕ, ◌∷◌, Some, refl, ap, sym, subst, arith, ◌+◌, ◌≤◌}
+use Rattle.std.proofs.Common.{◌≡◌, ◌∙◌, ℕ, [], ◌∷◌, Some, refl, ap, sym, subst, arith, ◌+◌, ◌≤◌}
 use Rattle.std.specs.Prelude.{ℤ, IsSome}
 use Rattle.js_base.specs.declared.ids.HostId.{HostId}
-use Rattle.js_base.specs.declared.ids.EntryId.{EntryId}
 use Rattle.js_base.specs.declared.ids.FrameId.{FrameId}
 use Rattle.js_base.specs.declared.ids.RequestId.{RequestId}
 use Rattle.js_base.specs.declared.ids.VarId.{VarId}
 use Rattle.jif_tree.specs.SourceRun.{Configuration}
 use Rattle.jif_tree.specs.Store.{element_at, row_of}
-use Rattle.capability.specs.declared.token.Token.{Token}
 use Rattle.ics_stack.specs.declared.stack.StackEntry.{StackEntry}
 use Rattle.host_code.specs.declared.code.Entry.{Entry}
 use Rattle.host_code.specs.declared.message.Message.{Message}
 use Rattle.host_code.specs.declared.message.Message.TheVariants as message
 use Rattle.host_code.specs.Code.{entry_at}
+use Rattle.host_code.specs.Riders.{names_of}
 use Rattle.host_code.specs.Sound.{IsEntryOn}
 use Rattle.host_code.specs.Thread.{WaitingShape}
 use Rattle.host_code.specs.Thread.Awaited.{value_of_field, acknowledgement, token_of_entry}
 use Rattle.entry_check.specs.declared.ask.Ask.{Ask}
 use Rattle.entry_check.specs.declared.ask.Ask.TheVariants as ask
-use Rattle.entry_check.specs.Checks.{May}
+use Rattle.entry_check.specs.Checks.{May, MayRide}
 use Rattle.host_stores.specs.Stores.{with_variable}
 use Rattle.host_core.specs.Host.{HostShape, Outcome, without_message, with_row_written, after_push}
 use Rattle.host_core.specs.Host.{with_variable_set, with_temporary, with_token, new_token, after_entering}
-use Rattle.host_core.specs.Host.{with_running, thread_at}
+use Rattle.host_core.specs.Host.{with_running, with_variables_set, thread_at}
 use Rattle.host_core.specs.Taking.{IsTaking, Passes, after_taking, after_passing, after_answer, place_of_awaiting}
-use Rattle.net_world.specs.World.{WorldShape}
+use Rattle.net_world.specs.World.{WorldShape, state_at}
+use Rattle.split_rules.specs.Handing.{Arrival, arrival_in}
+use Rattle.split_rules.specs.Positions.{without_forward}
+use Rattle.split_rules.proofs.Riding.{all_without}
+use Rattle.token_laws.proofs.Riding.{riding_is}
 use Rattle.typed_steps.proofs.Alike.{row_read}
 use Rattle.typed_steps.specs.Views.{Split, View, Link, with_chain, with_out, values_set}
 use Rattle.typed_steps.specs.Chains.{IsLinked}
-use Rattle.typed_steps.specs.Variables.{AreSent}
-use Rattle.typed_steps.specs.Requests.{IsRequest, IsAnswer, GivesResult}
+use Rattle.typed_steps.specs.Variables.{CanSend, Holds}
+use Rattle.typed_steps.specs.Requests.{IsRequest, IsAnswer, GivesResult, GoesTo}
 use Rattle.typed_steps.specs.Weights.{STEP, weight_at, IsFueledRequest}
-use Rattle.typed_steps.specs.Turns.{stays, grows}
-use Rattle.typed_steps.specs.Takes.{IsOwner, Answered, answers, steps, Resumes}
+use Rattle.typed_steps.specs.Turns.{Keeps, stays, grows}
+use Rattle.typed_steps.specs.Takes.{IsOwner, Answered, answers, steps, Arrives, Resumes}
 use Rattle.typed_steps.proofs.Rows.{row_there}
 use Rattle.typed_steps.proofs.HeldSteps.{kept, holds_same, holds_chain, holds_written, holds_forwarded, holds_given}
+use Rattle.typed_steps.proofs.HeldSteps.{holds_rode}
 use Rattle.typed_steps.proofs.Pops.{pushed_chain}
 use Rattle.typed_steps.proofs.Turns.{sends_nothing}
 
@@ -49,6 +53,42 @@ passing split state from m outcome takes may =
 pub may_here : (split : Split) (state : HostShape) (owner : HostId) (what : Ask) (from : HostId) → state.me ≡ owner →
     May split.code owner what from → May split.code state.me what from
 may_here split state owner what from me may = subst (λ host. May split.code host what from) (sym me) may
+
+-- a message that hands a thread over passes where its thread may enter and what rides may be set
+pub arrival_passes : (split : Split) (state : HostShape) (owner from : HostId) (said : Message) (arrival : Arrival) →
+    state.me ≡ owner → arrival_in said ≡ Some arrival →
+    May split.code owner (ask.Enter arrival.entry) from × MayRide split.code owner from (names_of arrival.riders) →
+    Passes split.code state from said
+arrival_passes split state owner from (message.Rgoto frame entry token) arrival me is may =
+    let own : Arrival = record { frame = frame; entry = entry; token = token; riders = [] } in
+    let same : own ≡ arrival = cc in
+    may_here split state owner (ask.Enter entry) from me
+    (subst (λ (a : Arrival). May split.code owner (ask.Enter a.entry) from) (sym same) may.0)
+arrival_passes split state owner from (message.RgotoWith frame entry token riders) arrival me is may =
+    let own : Arrival = record { frame = frame; entry = entry; token = token; riders = riders } in
+    let same : own ≡ arrival = cc in
+    subst (λ host. May split.code host (ask.Enter entry) from × MayRide split.code host from (names_of riders)) (sym me)
+    (subst (λ (a : Arrival). May split.code owner (ask.Enter a.entry) from
+    × MayRide split.code owner from (names_of a.riders)) (sym same) may)
+arrival_passes split state owner from _ arrival me is may = absurd (cc)
+
+-- it sets what rides, and enters
+arrival_does : (split : Split) (state : HostShape) (from : HostId) (said : Message) (arrival : Arrival) →
+    arrival_in said ≡ Some arrival →
+    after_passing split.code state from said
+    ≡ without_message (after_entering (with_variables_set state arrival.frame arrival.riders)
+    (entry_at split.code arrival.entry) arrival.frame arrival.token)
+arrival_does split state from (message.Rgoto frame entry token) arrival is =
+    let own : Arrival = record { frame = frame; entry = entry; token = token; riders = [] } in
+    let same : own ≡ arrival = cc in
+    ap (λ (a : Arrival). without_message (after_entering (with_variables_set state a.frame a.riders)
+    (entry_at split.code a.entry) a.frame a.token)) same
+arrival_does split state from (message.RgotoWith frame entry token riders) arrival is =
+    let own : Arrival = record { frame = frame; entry = entry; token = token; riders = riders } in
+    let same : own ≡ arrival = cc in
+    ap (λ (a : Arrival). without_message (after_entering (with_variables_set state a.frame a.riders)
+    (entry_at split.code a.entry) a.frame a.token)) same
+arrival_does split state from _ arrival is = absurd (cc)
 
 module _ (split : Split) (c : Configuration) (view : View) (world : WorldShape) (holder owner : HostId)
     (waiting : WaitingShape) (old : HostShape) (o : IsOwner split c view world owner old) where
@@ -106,7 +146,7 @@ module _ (split : Split) (c : Configuration) (view : View) (world : WorldShape) 
       })
   request_taken (message.Forward request frame x value) asks outcome takes =
       let new = with_variable_set old frame x value in
-      let seen = with_out view asks.8 in
+      let seen = with_out view (without_forward x owner view.out) in
       answers (record {
         seen = seen;
         new = new;
@@ -118,14 +158,12 @@ module _ (split : Split) (c : Configuration) (view : View) (world : WorldShape) 
         grown = stays refl refl;
         is_chain = o.is_chain;
         sent = λ state sent.
-            let all = subst (AreSent split (view.values view.sender) (state.variables (view.naming.frame view.sender))
-            holder) asks.9 sent in
-            all.2;
-        ready = (asks.0, asks.1, asks.10);
+            all_without (CanSend split (view.values view.sender) (state.variables (view.naming.frame view.sender))
+            holder) x owner view.out sent;
+        ready = (asks.0, asks.1, asks.8);
         keeps = kept split c seen world owner new
-            (λ after moved. holds_forwarded split c view asks.8 world after owner old new after.flying x value asks.7
-            o.holds asks.9 o.there moved refl (ap (λ f. with_variable old.variables f x value) asks.3) refl asks.4
-            asks.5 asks.6);
+            (λ after moved. holds_forwarded split c view world after owner old new after.flying x value o.holds o.there
+            moved refl (ap (λ f. with_variable old.variables f x value) asks.3) refl asks.4 asks.5 asks.6);
         pace = λ paced fuel enough. omega arith;
       })
   request_taken (message.Sync request frame entry token) asks outcome takes =
@@ -191,6 +229,49 @@ module _ (split : Split) (c : Configuration) (view : View) (world : WorldShape) 
         pace = λ paced fuel enough. omega arith;
       })
 
+-- ---- the token
+
+-- a host that has what rode, and runs the thread that was handed over
+abbrev pub arrived : HostShape → Entry → Arrival → HostShape
+arrived old there arrival =
+    with_running (record old { variables = (with_variables_set old arrival.frame arrival.riders).variables })
+    (Some (thread_at there arrival.frame arrival.token))
+
+module _ (split : Split) (c : Configuration) (view : View) (world : WorldShape) (from owner : HostId) (old : HostShape)
+    (arrival : Arrival) (goes : GoesTo split c view from owner arrival) where
+  -- it is what the taking leaves
+  pub arrived_is : (said : Message) (outcome : Outcome) → old.me ≡ owner → arrival_in said ≡ Some arrival →
+      IsTaking split.code old from said outcome → without_message (arrived old goes.there arrival) ≡ outcome
+  arrived_is said outcome me arrives takes =
+      let thread = thread_at goes.there arrival.frame arrival.token in
+      ap (λ s. without_message (with_running s (Some thread))) (riding_is old arrival.frame arrival.riders)
+      ∙ sym (ap (λ e. without_message (after_entering (with_variables_set old arrival.frame arrival.riders) e
+      arrival.frame arrival.token)) goes.found)
+      ∙ sym (arrival_does split old from said arrival arrives)
+      ∙ passing split old from said outcome takes (arrival_passes split old owner from said arrival me arrives goes.may)
+
+  -- and nothing is still to be sent
+  pub arrived_keeps : state_at world owner ≡ Some old → Holds split c view world →
+      Keeps split c (with_out view []) world owner (arrived old goes.there arrival)
+  arrived_keeps there holds =
+      let new = arrived old goes.there arrival in
+      kept split c (with_out view []) world owner new
+      (λ after moved. holds_rode split c view world after owner old new after.flying arrival holds goes.rides there
+      moved refl refl refl)
+
+pub arrival_taken : (split : Split) (c : Configuration) (view : View) (world : WorldShape) (from owner : HostId)
+    (old : HostShape) → IsOwner split c view world owner old → (said : Message) (arrival : Arrival) →
+    arrival_in said ≡ Some arrival → (goes : GoesTo split c view from owner arrival) → (outcome : Outcome) →
+    IsTaking split.code old from said outcome → Arrives split c view world owner old goes.there arrival outcome
+arrival_taken split c view world from owner old o said arrival arrives goes outcome takes = record {
+  new = arrived old goes.there arrival;
+  is = arrived_is split c view world from owner old arrival goes said outcome o.me arrives takes;
+  running = refl;
+  steady = record { me = refl; ignored = refl; halted = refl; waiting = refl };
+  entries = refl;
+  keeps = arrived_keeps split c view world from owner old arrival goes o.there o.holds;
+}
+
 -- ---- answers
 
 -- The thread of a host that an answer is for goes on as it is after the answer.
@@ -232,16 +313,3 @@ answer_taken split c view holder owner waiting state place first (message.Token 
       stays = refl;
     }
 answer_taken split c view holder owner waiting state place first _ answer outcome takes = absurd answer
-
--- ---- the token
-
--- an entry is gone to
-pub token_goes : (split : Split) (from to : HostId) (old : HostShape) (entry : EntryId) (there : Entry)
-    (frame : FrameId) (token : Token) (outcome : Outcome) → old.me ≡ to → entry_at split.code entry ≡ Some there →
-    May split.code to (ask.Enter entry) from →
-    IsTaking split.code old from (message.Rgoto frame entry token) outcome →
-    without_message (with_running old (Some (thread_at there frame token))) ≡ outcome
-token_goes split from to old entry there frame token outcome me found may takes =
-    sym (ap (λ f. without_message (after_entering old f frame token)) found)
-    ∙ passing split old from (message.Rgoto frame entry token) outcome takes
-    (may_here split old to (ask.Enter entry) from me may)

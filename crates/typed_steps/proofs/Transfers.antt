@@ -1,6 +1,6 @@
 -- What pushes, transfers and branches make of what is still to be done, by the laws of their positions.
-use Rattle.std.proofs.Common.{◌≡◌, ◌≢◌, ◌∙◌, ℕ, zero, suc, ◌+◌, ◌<◌, inl, inr, Bool, true, false, List, [], ◌∷◌, ◌++◌}
-use Rattle.std.proofs.Common.{map, length, Some, refl, ap, sym, subst, append_assoc}
+use Rattle.std.proofs.Common.{◌≡◌, ◌≢◌, ◌∙◌, ◌⊎◌, ℕ, zero, suc, ◌+◌, ◌<◌, inl, inr, Bool, true, false, List, []}
+use Rattle.std.proofs.Common.{◌∷◌, ◌++◌, map, length, Some, refl, ap, sym, subst, append_assoc}
 use Rattle.std.specs.Prelude.{ℤ, pos, slice_get, not, if◌then◌else◌}
 use Rattle.std.specs.List.{AllByRecursion}
 use Rattle.std.specs.Ordering.{int_eq}
@@ -21,19 +21,23 @@ use Rattle.host_code.specs.declared.code_expr.Node.{Node}
 use Rattle.host_code.specs.declared.instruction.Op.TheVariants as op
 use Rattle.host_code.specs.Code.{halt, entry_at}
 use Rattle.host_code.specs.Thread.{ThreadShape}
-use Rattle.host_core.specs.Host.{with_token, after_step, after_clearing, thread_at}
+use Rattle.host_code.specs.Riders.{Rider}
+use Rattle.host_core.specs.Host.{HostShape, with_token, after_step, after_clearing, thread_at}
+use Rattle.host_core.specs.Turn.{riders_of}
 use Rattle.host_core.specs.Values.{value_of_nodes}
 use Rattle.split_rules.specs.Positions as positions
 use Rattle.split_rules.specs.Positions.{Position, Due, Level, Forward, statement_due, is_on, calm, no_call}
 use Rattle.split_rules.specs.Positions.{all_due}
-use Rattle.split_rules.specs.Typing.{EntryIs, Cuts, Branches, Divides, Ends, IsCalm}
+use Rattle.split_rules.specs.Typing.{EntryIs, Cuts, Branches, Divides, Ends, IsCalm, RidesAll, need_due}
+use Rattle.token_laws.proofs.Riding.{names_ride}
 use Rattle.jif_tree.specs.Altered.{MayGive}
 use Rattle.std.specs.List.{AllZip}
 use Rattle.typed_steps.specs.Requests.{Does}
-use Rattle.typed_steps.specs.Values.{MayHold}
+use Rattle.typed_steps.specs.Values.{MayHold, AreAlike}
 use Rattle.typed_steps.proofs.Instructions.{no_temporaries, read_there}
 use Rattle.typed_steps.specs.Readers.{IsFit}
-use Rattle.typed_steps.specs.Views.{Split, View, Link, entries_of, place_of, with_chain}
+use Rattle.typed_steps.specs.Variables.{AreSent, Sends}
+use Rattle.typed_steps.specs.Views.{Split, View, Link, entries_of, place_of, with_chain, with_out}
 use Rattle.typed_steps.specs.Chains.{Duty, under, due_at, level_at, chain_due, FitsOver, IsChain}
 use Rattle.typed_steps.specs.Threads.{alone, Owed, to_run, item_of, duty_of, IsReturn, MayFollow, AreReturned, IsKnown}
 use Rattle.typed_steps.specs.Threads.{IsLeft, IsCalling, IsAt, NoneKept}
@@ -41,13 +45,9 @@ use Rattle.typed_steps.proofs.Owing.{front_of, plainly_behind, none_kept, stands
 use Rattle.typed_steps.proofs.Owing.{to_run_all, row_statements, items_before, duties_before, known_before}
 use Rattle.typed_steps.proofs.Owing.{plainly_before, returned_before}
 use Rattle.typed_steps.proofs.Instructions.{next_place, stepped, cleared, only_value, Agrees}
-use Rattle.typed_steps.specs.Requests.{starting, GivesUp}
+use Rattle.typed_steps.specs.Requests.{starting, GivesUp, RidesOut}
 
 -- ---- entries
-
--- where nothing was read, and nothing has to be sent
-calm_out : (here : Position) (out : List Forward) → here.forwards ≡ out → IsCalm here → out ≡ []
-calm_out here out forwards is_calm = sym forwards ∙ ap (λ (p : Position). p.forwards) is_calm
 
 pub entrance_due : (split : Split) (number : ℕ) (position : Position) (need : ℕ) →
     EntryIs split.table.entries number position need → due_at (slice_get split.table.entries number) ≡ position.due
@@ -97,7 +97,7 @@ push_at split c view host thread at entry law link is number =
     ∙ ap (λ n. under call next.due ++ (under n (due_at (slice_get split.table.entries link.entry.entry.0)) ++ rest))
     (sym number) in
     let P = MayHold split.exposure c.store (source.variable c.calls call) in
-    let calling = calm_calling split c view host thread at (ap (λ (p : Position). p.calling) law.is_calm) in
+    let calling = calm_calling split c view host thread at law.idle.1 in
     record {
       call = call;
       made = at.made;
@@ -106,11 +106,10 @@ push_at split c view host thread at entry law link is number =
       fits = subst (λ (p : Position). FitsOver split view.naming p.level call (link ∷ view.chain)) (sym goes) tt;
       calling = subst (λ (p : Position). IsCalling split c view.naming view.values view.sender host thread.frame
           thread.new_frame call p.due p.calling) (sym goes) calling;
-      forwards = ap (λ (p : Position). p.forwards) goes
-          ∙ sym (calm_out here view.out at.forwards law.is_calm);
-      settled = inl (calm_out here view.out at.forwards law.is_calm);
+      forwards = ap (λ (p : Position). p.forwards) goes ∙ at.forwards;
+      settled = at.settled;
       temporaries = subst (λ (p : Position). AllZip P p.reads thread.temporaries) (sym goes)
-          (subst (λ (p : Position). AllZip P p.reads thread.temporaries) law.is_calm at.temporaries);
+          (subst (λ reads. AllZip P reads thread.temporaries) law.idle.0 at.temporaries);
     }
 
 -- what stands behind the entry that is pushed fits over the chain
@@ -122,14 +121,6 @@ pub pushed_fits : (split : Split) (c : Configuration) (view : View) (host : Host
 pushed_fits split c view host thread at entry law =
     subst (λ level. FitsOver split view.naming level at.call view.chain)
     (sym (entrance_level split entry.0 _ _ law.pushed)) at.fits
-
-pub push_calm : (split : Split) (c : Configuration) (view : View) (host : HostId) (thread : ThreadShape) →
-    IsAt split c view host thread → (entry : EntryId) →
-    Cuts split.planned split.table.entries (place_of split host thread.at) entry.0
-    (place_of split host (suc thread.at)) →
-    view.out ≡ []
-push_calm split c view host thread at entry law =
-    calm_out (place_of split host thread.at) view.out at.forwards law.is_calm
 
 -- the place of an entry of the code has the position of the entry
 pub record IsPlaced (split : Split) (number : ℕ) (there : Entry) : Type 0 where
@@ -188,32 +179,100 @@ starts_at split c view chain call number there frame token is made count frame_i
           (ap (λ (p : Position). p.reads) calm_there);
     }
 
--- the thread is handed over at an entry
-pub record HandsOver (split : Split) (c : Configuration) (view : View) (entry : EntryId) (frame : FrameId)
-    (token : Token) : Type 0 where
-  pub none_out : view.out ≡ []
-  pub call : ℕ
+-- The thread goes on at an entry, in a frame, once these variables have ridden there. They are all that is still to be
+-- sent.
+pub record HandsOver (split : Split) (c : Configuration) (view : View) (on : HostId) (entry : EntryId) (frame : FrameId)
+    (token : Token) (riders : List VarId) : Type 0 where
+  pub rides : RidesAll riders on view.out
+  pub settled : (view.out ≡ []) ⊎ NoneKept c
+  pub frame_is : frame ≡ view.naming.frame view.sender
+  pub known : view.sender < view.naming.count
   pub at : (there : Entry) → entry_at split.code entry ≡ Some there →
-      IsAt split c (starting view view.chain call) there.host (thread_at there frame token)
+      IsAt split c (with_out view []) there.host (thread_at there frame token)
+
+-- in the frame of its call, or in that for a call
+pub over_at : (split : Split) (c : Configuration) (view : View) (host : HostId) (thread : ThreadShape)
+    (at : IsAt split c view host thread) → (on : HostId) (entry : EntryId) (frame : FrameId) (token : Token)
+    (riders : List VarId) (need : ℕ) → entry ≢ halt → RidesAll riders on (place_of split host thread.at).forwards →
+    EntryIs split.table.entries entry.0
+    (calm (place_of split host thread.at).level (place_of split host thread.at).due) need →
+    (view.naming.count ≡ length c.calls) × (frame ≡ view.naming.frame at.call) × (view.sender ≡ at.call) →
+    thread.held ≡ Some token → HandsOver split c view on entry frame token riders
+over_at split c view host thread at on entry frame token riders need apart rides pushed calling held =
+    let here = place_of split host thread.at in
+    record {
+      rides = subst (RidesAll riders on) at.forwards rides;
+      settled = at.settled;
+      frame_is = calling.1 ∙ sym (ap view.naming.frame calling.2);
+      known = subst (λ n. n < view.naming.count) (sym calling.2)
+          (subst (λ n. at.call < n) (sym calling.0) at.made);
+      at = λ there is.
+          subst (λ k. IsAt split c (starting view view.chain k) there.host (thread_at there frame token))
+          (sym calling.2)
+          (starts_at split c view view.chain at.call entry.0 there frame token (placed split entry there apart is)
+          at.made calling.0 calling.1 (sym held ∙ at.held)
+          (subst (λ l. FitsOver split view.naming l at.call view.chain)
+          (sym (entrance_level split entry.0 (calm here.level here.due) need pushed)) at.fits)
+          (subst (λ list. IsLeft split c view.keeper (under at.call list ++ chain_due split view.chain))
+          (sym (entrance_due split entry.0 (calm here.level here.due) need pushed)) at.left));
+    }
+
+-- where nothing is still to be sent nothing rides
+pub none_rides : (on : HostId) (forwards : List Forward) → forwards ≡ [] → RidesAll [] on forwards
+none_rides on forwards none = subst (RidesAll [] on) (sym none) (refl, tt)
+
+-- and the other way round
+pub none_left_out : (on : HostId) (forwards : List Forward) → RidesAll [] on forwards → forwards ≡ []
+none_left_out on [] rides = refl
+none_left_out on (forward ∷ forwards) rides = absurd (let none = rides.0 in cc)
 
 pub go_at : (split : Split) (c : Configuration) (view : View) (host : HostId) (thread : ThreadShape) →
     IsAt split c view host thread → (entry : EntryId) (on : HostId) → entry ≢ halt →
     Ends split.planned split.table.entries (place_of split host thread.at) (op.Go entry on) → (token : Token) →
-    thread.held ≡ Some token → HandsOver split c view entry thread.frame token
+    thread.held ≡ Some token → HandsOver split c view on entry thread.frame token []
 go_at split c view host thread at entry on apart law token held =
     let here = place_of split host thread.at in
-    let calling = calm_calling split c view host thread at (ap (λ (p : Position). p.calling) law.0) in
-    record {
-      none_out = calm_out here view.out at.forwards law.0;
-      call = at.call;
-      at = λ there is.
-          starts_at split c view view.chain at.call entry.0 there thread.frame token (placed split entry there apart is)
-          at.made calling.0 calling.1 (sym held ∙ at.held)
-          (subst (λ l. FitsOver split view.naming l at.call view.chain)
-          (sym (entrance_level split entry.0 here _ law.1)) at.fits)
-          (subst (λ list. IsLeft split c view.keeper (under at.call list ++ chain_due split view.chain))
-          (sym (entrance_due split entry.0 here _ law.1)) at.left);
-    }
+    over_at split c view host thread at on entry thread.frame token [] (need_due split.planned here.due) apart
+    (none_rides on here.forwards (ap (λ (p : Position). p.forwards) law.0))
+    (subst (λ (p : Position). EntryIs split.table.entries entry.0 p (need_due split.planned here.due)) law.0 law.1)
+    (calm_calling split c view host thread at (ap (λ (p : Position). p.calling) law.0)) held
+
+-- the same with what rides
+pub go_with_at : (split : Split) (c : Configuration) (view : View) (host : HostId) (thread : ThreadShape) →
+    IsAt split c view host thread → (entry : EntryId) (on : HostId) (riders : List VarId) → entry ≢ halt →
+    Ends split.planned split.table.entries (place_of split host thread.at) (op.GoWith entry on riders) →
+    (token : Token) → thread.held ≡ Some token → HandsOver split c view on entry thread.frame token riders
+go_with_at split c view host thread at entry on riders apart law token held =
+    over_at split c view host thread at on entry thread.frame token riders _ apart law.1 law.2
+    (calm_calling split c view host thread at law.0.1) held
+
+-- what rides has the values that are to be sent
+carried : (split : Split) (values : ℕ → ℤ) (variables : VarId → ℤ) (host : HostId) (out : List Forward) →
+    AreSent split values variables host out →
+    AllByRecursion (λ (rider : Rider). AreAlike split.exposure rider.0 rider.1 (values rider.0.0))
+    (map (λ x. (x, variables x)) (map (λ (forward : Forward). forward.variable) out))
+carried split values variables host [] sent = tt
+carried split values variables host (forward ∷ out) sent =
+    (sent.0.0, carried split values variables host out sent.1)
+
+-- so the host of a state lets ride what is to ride
+pub rides_out : (split : Split) (c : Configuration) (view : View) (host : HostId) (state : HostShape) (on : HostId)
+    (entry : EntryId) (frame : FrameId) (token : Token) (riders : List VarId) →
+    HandsOver split c view on entry frame token riders → Sends split view state host →
+    RidesOut split c view on
+    (record { frame = frame; entry = entry; token = token; riders = riders_of state frame riders })
+rides_out split c view host state on entry frame token riders over sent = record {
+  all = subst (λ names. RidesAll names on view.out) (sym (names_ride state frame riders)) over.rides;
+  alike = subst (λ list. AllByRecursion
+      (λ (rider : Rider). AreAlike split.exposure rider.0 rider.1 (view.values view.sender rider.0.0))
+      (riders_of state frame list)) over.rides.0
+      (carried split (view.values view.sender) (state.variables frame) host view.out
+      (subst (λ f. AreSent split (view.values view.sender) (state.variables f) host view.out) (sym over.frame_is)
+      sent));
+  settled = over.settled;
+  frame_is = over.frame_is;
+  known = over.known;
+}
 
 -- ---- the way back
 

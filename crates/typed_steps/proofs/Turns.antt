@@ -17,6 +17,7 @@ use Rattle.ics_stack.specs.Stack.{top_token}
 use Rattle.host_code.specs.declared.code.Entry.{Entry}
 use Rattle.host_code.specs.declared.code_expr.Node.{Node}
 use Rattle.host_code.specs.declared.instruction.Op.TheVariants as op
+use Rattle.host_code.specs.declared.message.Message.{Message}
 use Rattle.host_code.specs.declared.message.Message.TheVariants as message
 use Rattle.host_code.specs.Code.{CodeFieldShape, field_at, entry_at}
 use Rattle.host_code.specs.Sound.{IsField, IsEntryOn}
@@ -26,11 +27,14 @@ use Rattle.host_core.specs.Host.{HostShape, without_message, with_message, with_
 use Rattle.host_core.specs.Host.{with_variable_set, after_pop, after_push, after_step, after_clearing, with_temporary}
 use Rattle.host_core.specs.Host.{with_token, with_one_ignored, thread_at, new_token, value_in_thread, next_request}
 use Rattle.host_core.specs.Host.{after_asking}
-use Rattle.host_core.specs.Turn.{with_thread, after_read, after_put, after_own_push, after_ask, after_go, after_back}
-use Rattle.host_core.specs.Turn.{after_branch, PassesWith}
+use Rattle.host_core.specs.Turn.{with_thread, after_read, after_put, after_own_push, after_ask, after_go, after_go_with}
+use Rattle.host_core.specs.Turn.{after_back, after_branch, riders_of, PassesWith}
+use Rattle.entry_check.specs.declared.ask.Ask.TheVariants as ask
+use Rattle.entry_check.specs.Checks.{May, MayRide}
 use Rattle.split_rules.specs.Asking.{IsGranted, IfElsewhere}
 use Rattle.split_rules.specs.Pace as pace_rules
-use Rattle.split_rules.specs.Pace.{IsPacedOp, calls_at}
+use Rattle.split_rules.specs.Handing.{arrival_in}
+use Rattle.split_rules.specs.Pace.{IsPacedOp, EntersLower, calls_at}
 use Rattle.split_rules.specs.Positions.{Position, FieldRead, Calling, reads_due, no_call, arguing, entering}
 use Rattle.split_rules.specs.Positions.{statement_due}
 use Rattle.split_rules.specs.Typing as typing
@@ -39,16 +43,18 @@ use Rattle.split_rules.specs.TypedCode.{IsTypedOp}
 use Rattle.net_world.specs.World.{WorldShape}
 use Rattle.net_world.proofs.Present.{same_id}
 use Rattle.typed_steps.proofs.Alike.{alike_by, may_read, row_read}
-use Rattle.typed_steps.specs.Views.{Split, View, Link, values_set, entries_of, place_of, with_chain}
+use Rattle.token_laws.proofs.Riding.{names_ride}
+use Rattle.typed_steps.specs.Views.{Split, View, Link, entries_of, place_of, with_chain, with_out}
 use Rattle.typed_steps.specs.Chains.{IsLinked}
 use Rattle.typed_steps.specs.Threads.{IsAt, IsCalling}
 use Rattle.typed_steps.specs.Variables.{AreSent, Sends}
-use Rattle.typed_steps.specs.Requests.{IsFieldOn, starting}
+use Rattle.typed_steps.specs.Requests.{IsFieldOn}
 use Rattle.typed_steps.specs.Weights.{Paced, STEP, weight_at}
 use Rattle.typed_steps.proofs.Instructions.{Agrees, after_setting, read_at, let_at, put_at, send_at}
-use Rattle.typed_steps.proofs.Transfers.{calm_calling, push_at, pushed_fits, push_calm, go_at, back_at, branch_at}
+use Rattle.typed_steps.proofs.Transfers.{calm_calling, push_at, pushed_fits, HandsOver, go_at, go_with_at, rides_out}
+use Rattle.typed_steps.proofs.Transfers.{back_at, branch_at}
 use Rattle.typed_steps.proofs.Rows.{row_there}
-use Rattle.typed_steps.proofs.Holding.{holder_agrees, is_sent, own_cell}
+use Rattle.typed_steps.proofs.Holding.{holder_agrees, sent_set, sent_out}
 use Rattle.typed_steps.proofs.HeldSteps.{holds_same, holds_now, holds_chain, holds_written, holds_set}
 use Rattle.typed_steps.proofs.Pops.{pushed_chain}
 use Rattle.typed_steps.proofs.Fuel.{back_fuel, falls, falls_with_step, falls_at_step, falls_with_entry}
@@ -231,9 +237,8 @@ module _ (split : Split) (c : Configuration) (view : View) (world : WorldShape) 
         grown = stays refl refl;
         is_chain = t.is_chain;
         at = sets.at;
-        sent = is_sent split (values_set view.values sets.call x.0 value sets.call)
-            (state.variables (view.naming.frame sets.call)) host sets.from x
-            (own_cell old.variables view.naming view.values sets.call x value);
+        sent = sent_set split view.naming view.values old.variables view.out view.sender host sets.call x value
+            sets.from (inl sets.none_out) t.sent;
         keeps = kept split now seen world host new
             (λ after moved. holds_set split c now view world after host old new after.flying sets.call x value sets.from
             t.many t.holds sets.none_out t.there moved refl refl refl sets.made sets.store sets.calls sets.plainly);
@@ -317,8 +322,8 @@ module _ (split : Split) (c : Configuration) (view : View) (world : WorldShape) 
       Turned split c view world host old thread outcome
   forwards outcome frame x to frame_is within law granted pace is =
       let sends = send_at split c view host thread t.at x to law in
-      let sent = subst (AreSent split (view.values view.sender) (old.variables (view.naming.frame view.sender)) host)
-      sends.first t.sent in
+      let sent = sent_out split (view.values view.sender) (old.variables (view.naming.frame view.sender)) host view.out
+      x to t.sent sends.is_out in
       asks (record {
         next = after_step thread;
         awaited = acknowledgement;
@@ -334,9 +339,7 @@ module _ (split : Split) (c : Configuration) (view : View) (world : WorldShape) 
           alike_by split.exposure x _ _ _ (ap (λ f. old.variables f x) frame_is) sent.0,
           within,
           sends.plainly,
-          sends.from,
-          sends.left,
-          sends.first,
+          sends.is_out,
           sends.at,
         );
         pace = λ paced. let less = falls split host thread.at view.chain (pace paced) in (less.0, less.2);
@@ -396,11 +399,10 @@ module _ (split : Split) (c : Configuration) (view : View) (world : WorldShape) 
       let state = after_push bare entry thread.frame token in
       let next = with_token (Some link.entry.token) (after_step thread) in
       let new = with_running state (Some next) in
-      let calling = calm_calling split c view host thread t.at (ap (λ (p : Position). p.calling) law.is_calm) in
+      let calling = calm_calling split c view host thread t.at law.idle.1 in
       let known = t.holds.known in
       let made = t.at.made in
       let linked : IsLinked view.naming link = record { frame = calling.1; token = refl; known = omega arith } in
-      let none = push_calm split c view host thread t.at entry law in
       let uncalled : calls_at split.code host (suc thread.at) ≡ false =
       none_called split host (suc thread.at) (ap (λ (p : Position). p.calling) law.goes) in
       runs_on (record {
@@ -414,7 +416,7 @@ module _ (split : Split) (c : Configuration) (view : View) (world : WorldShape) 
             (subst (λ h. IsEntryOn split.code h entry) (sym me) is_entry) linked refl
             (pushed_fits split c view host thread t.at entry law);
         at = push_at split c view host thread t.at entry law link refl refl;
-        sent = sends_nothing split seen state host none;
+        sent = t.sent;
         keeps = kept split c seen world host new (λ after moved. holds_chain split c view after (link ∷ view.chain)
             (holds_same split c view world after host old new after.flying t.holds t.there moved refl refl refl));
         pace = λ paced. (falls_with_entry split host thread.at view.chain link
@@ -431,7 +433,7 @@ module _ (split : Split) (c : Configuration) (view : View) (world : WorldShape) 
       after_ask (with_running old None) thread entry on thread.held ≡ outcome →
       Turned split c view world host old thread outcome
   syncs outcome entry on law granted is_entry apart pace token top is =
-      let calling = calm_calling split c view host thread t.at (ap (λ (p : Position). p.calling) law.0.is_calm) in
+      let calling = calm_calling split c view host thread t.at law.0.idle.1 in
       let known = t.holds.known in
       let made = t.at.made in
       asks (record {
@@ -459,6 +461,38 @@ module _ (split : Split) (c : Configuration) (view : View) (world : WorldShape) 
             (less.0, less.2);
       })
 
+  -- The thread goes on at an entry of another host, in a frame, and these variables ride there.
+  pub hands_on : (outcome : Outcome) (entry : EntryId) (on : HostId) (frame : FrameId) (riders : List VarId)
+      (said : Message) (token : Token) → HandsOver split c view on entry frame token riders →
+      arrival_in said
+      ≡ Some (record { frame = frame; entry = entry; token = token; riders = riders_of old frame riders }) →
+      May split.code on (ask.Enter entry) host → MayRide split.code on host riders →
+      (Paced split → EntersLower split.code split.pace host thread.at entry) → (there : Entry) →
+      entry_at split.code entry ≡ Some there → there.host ≡ on → top_token (entries_of view.chain) ≡ Some token →
+      with_message (with_running old None) on said ≡ outcome → Turned split c view world host old thread outcome
+  hands_on outcome entry on frame riders said token over arrives may ride pace there found on_host top is =
+      hands (record {
+        to = on;
+        arrival = record { frame = frame; entry = entry; token = token; riders = riders_of old frame riders };
+        said = said;
+        arrives = arrives;
+        is = is;
+        top = top;
+        goes = record {
+          there = there;
+          found = found;
+          may = (may, subst (MayRide split.code on host) (sym (names_ride old frame riders)) ride);
+          rides = rides_out split c view host old on entry frame token riders over t.sent;
+          at = subst (λ h. IsAt split c (with_out view []) h (thread_at there frame token)) on_host
+              (over.at there found);
+        };
+        pace = λ paced.
+            let here : split.pace there.host.0 there.at ≡ split.pace on.0 there.at =
+            ap (λ (h : HostId). split.pace h.0 there.at) on_host in
+            handed (split.pace host.0 thread.at) (split.pace on.0 there.at) (length view.chain)
+            (subst (λ n. n < split.pace host.0 thread.at) here (pace paced there found));
+      })
+
   pub hands_over : (outcome : Outcome) (entry : EntryId) (on : HostId) →
       IsTypedOp split.planned split.table host thread.at (op.Go entry on) →
       IsGranted split.code host (op.Go entry on) → IsEntryOn split.code on entry →
@@ -470,27 +504,26 @@ module _ (split : Split) (c : Configuration) (view : View) (world : WorldShape) 
   hands_over outcome entry on law granted is_entry pace None found on_host token top is = absurd on_host
   hands_over outcome entry on law granted is_entry pace (Some there) found on_host token top is =
       let held = t.at.held ∙ top in
-      let over = go_at split c view host thread t.at entry on is_entry.0 law token held in
-      hands (record {
-        to = on;
-        entry = entry;
-        there = there;
-        frame = thread.frame;
-        token = token;
-        call = over.call;
-        is = sym (ap (after_go (with_running old None) thread thread.frame entry on) held) ∙ is;
-        top = top;
-        may = granted;
-        found = found;
-        none_out = over.none_out;
-        at = subst (λ h. IsAt split c (starting view view.chain over.call) h (thread_at there thread.frame token))
-            on_host (over.at there found);
-        pace = λ paced.
-            let here : split.pace there.host.0 there.at ≡ split.pace on.0 there.at =
-            ap (λ (h : HostId). split.pace h.0 there.at) on_host in
-            handed (split.pace host.0 thread.at) (split.pace on.0 there.at) (length view.chain)
-            (subst (λ n. n < split.pace host.0 thread.at) here (pace paced there found));
-      })
+      hands_on outcome entry on thread.frame [] (message.Rgoto thread.frame entry token) token
+      (go_at split c view host thread t.at entry on is_entry.0 law token held) refl granted tt pace there found on_host
+      top (sym (ap (after_go (with_running old None) thread thread.frame entry on) held) ∙ is)
+
+  pub hands_over_with : (outcome : Outcome) (entry : EntryId) (on : HostId) (riders : List VarId) →
+      IsTypedOp split.planned split.table host thread.at (op.GoWith entry on riders) →
+      IsGranted split.code host (op.GoWith entry on riders) → IsEntryOn split.code on entry →
+      (Paced split → IsPacedOp split.code split.pace host thread.at (op.GoWith entry on riders)) →
+      (found : Option Entry) → entry_at split.code entry ≡ found → IsSomeAnd found (λ there. there.host ≡ on) →
+      (token : Token) → top_token (entries_of view.chain) ≡ Some token →
+      after_go_with (with_running old None) thread thread.frame entry on riders thread.held ≡ outcome →
+      Turned split c view world host old thread outcome
+  hands_over_with outcome entry on riders law granted is_entry pace None found on_host token top is = absurd on_host
+  hands_over_with outcome entry on riders law granted is_entry pace (Some there) found on_host token top is =
+      let held = t.at.held ∙ top in
+      hands_on outcome entry on thread.frame riders
+      (message.RgotoWith thread.frame entry token (riders_of old thread.frame riders)) token
+      (go_with_at split c view host thread t.at entry on riders is_entry.0 law token held) refl granted.0 granted.1 pace
+      there found on_host top
+      (sym (ap (after_go_with (with_running old None) thread thread.frame entry on riders) held) ∙ is)
 
   -- ---- the way back
 

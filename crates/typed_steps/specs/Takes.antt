@@ -1,15 +1,17 @@
--- What is made where the owner of a request takes it, and where the thread that waits takes the answer, seen from the
--- host that takes.
-use Rattle.std.specs.Prelude.{◌≡◌, ℕ, ◌+◌, ◌<◌, Some}
+-- What is made where the owner of a request takes it, where a host takes the token with what rides, and where the thread
+-- that waits takes the answer, seen from the host that takes.
+use Rattle.std.specs.Prelude.{◌≡◌, ℕ, ◌+◌, ◌<◌, [], Some}
 use Rattle.js_base.specs.declared.ids.HostId.{HostId}
 use Rattle.jif_tree.specs.SourceRun.{Configuration}
+use Rattle.host_code.specs.declared.code.Entry.{Entry}
 use Rattle.host_code.specs.declared.message.Message.{Message}
 use Rattle.host_code.specs.Thread.{ThreadShape, WaitingShape}
-use Rattle.host_core.specs.Host.{HostShape, Outcome, without_message, with_message}
+use Rattle.host_core.specs.Host.{HostShape, Outcome, without_message, with_message, thread_at}
 use Rattle.host_core.specs.Taking.{after_answer}
 use Rattle.net_world.specs.World.{WorldShape, state_at}
+use Rattle.split_rules.specs.Handing.{Arrival}
 use Rattle.typed_steps.specs.Values.{HoldsNumbers}
-use Rattle.typed_steps.specs.Views.{Split, View}
+use Rattle.typed_steps.specs.Views.{Split, View, with_out}
 use Rattle.typed_steps.specs.Chains.{IsChain}
 use Rattle.typed_steps.specs.Threads.{IsAt}
 use Rattle.typed_steps.specs.Variables.{Sends, Holds}
@@ -51,6 +53,16 @@ pub data Answered (split : Split) (c : Configuration) (view : View) (world : Wor
   steps : (now : Configuration) → Does split c now →
       Answers split view world holder owner waiting old enough now STEP outcome →
       Answered split c view world holder owner waiting old enough outcome
+
+-- The host to which the token goes has what rode with it, and its thread starts. Nothing is still to be sent.
+pub record Arrives (split : Split) (c : Configuration) (view : View) (world : WorldShape) (to : HostId)
+    (old : HostShape) (there : Entry) (arrival : Arrival) (outcome : Outcome) : Type 0 where
+  pub new : HostShape
+  pub is : without_message new ≡ outcome
+  pub running : new.running ≡ Some (thread_at there arrival.frame arrival.token)
+  pub steady : IsSteady old new
+  pub entries : new.entries ≡ old.entries
+  pub keeps : Keeps split c (with_out view []) world to new
 
 -- The thread that waits at a place goes on as it is after the answer.
 pub record Resumes (split : Split) (c : Configuration) (view : View) (holder : HostId) (waiting : WaitingShape)

@@ -145,7 +145,7 @@ IsCalling split c naming values sender host frame new_frame call due no_call =
 IsCalling split c naming values sender host frame new_frame call due (arguing statement set left) =
     IsArguing split c naming values sender host frame new_frame call due statement set left
 IsCalling split c naming values sender host frame new_frame call due (entering statement) =
-    (naming.count ≡ length c.calls) × (new_frame ≡ naming.frame call)
+    (naming.count ≡ length c.calls) × (new_frame ≡ naming.frame call) × (sender ≡ call)
 
 -- A thread, which holds the token of the first entry of the chain, goes on for a call at an instruction of a host. What
 -- is due there, and behind the chain, is what is still to be done. Its temporaries hold what was read, and these

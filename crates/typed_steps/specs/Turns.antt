@@ -1,8 +1,7 @@
 -- What a turn of the host that holds the token makes, seen from that host: what it leaves and sends, and what it keeps
 -- of all that the hosts have of a configuration. Nothing is said of other hosts, nor of what else is in flight.
-use Rattle.std.specs.Prelude.{◌≡◌, ◌≢◌, ◌↔◌, ℕ, ◌+◌, ◌-◌, ◌*◌, ◌<◌, ◌≤◌, ℤ, Bool, IsTrue, if◌then◌else◌, List, [], ◌∷◌}
+use Rattle.std.specs.Prelude.{◌≡◌, ◌≢◌, ◌↔◌, ℕ, ◌+◌, ◌-◌, ◌*◌, ◌<◌, ◌≤◌, ℤ, Bool, IsTrue, if◌then◌else◌, List, ◌∷◌}
 use Rattle.std.specs.Prelude.{length, Some, None, slice_set}
-use Rattle.js_base.specs.declared.ids.EntryId.{EntryId}
 use Rattle.js_base.specs.declared.ids.FrameId.{FrameId}
 use Rattle.js_base.specs.declared.ids.HostId.{HostId}
 use Rattle.js_base.specs.declared.ids.VarId.{VarId}
@@ -10,17 +9,16 @@ use Rattle.jif_tree.specs.SourceRun.{Configuration}
 use Rattle.capability.specs.declared.token.Token.{Token}
 use Rattle.ics_stack.specs.declared.stack.StackEntry.{StackEntry}
 use Rattle.ics_stack.specs.Stack.{top_token}
-use Rattle.host_code.specs.declared.code.Entry.{Entry}
 use Rattle.host_code.specs.declared.message.Message.{Message}
 use Rattle.host_code.specs.declared.message.Message.TheVariants as message
-use Rattle.host_code.specs.Code.{entry_at}
 use Rattle.host_code.specs.Thread.{ThreadShape, Awaited, WaitingShape}
 use Rattle.host_code.specs.Thread.Awaited.{acknowledgement}
 use Rattle.entry_check.specs.declared.ask.Ask.TheVariants as ask
 use Rattle.entry_check.specs.Checks.{May}
 use Rattle.host_core.specs.Host.{HostShape, Outcome, without_message, with_message, with_one_ignored, with_running}
-use Rattle.host_core.specs.Host.{after_pop, after_asking, next_request, thread_at}
+use Rattle.host_core.specs.Host.{after_pop, after_asking, next_request}
 use Rattle.host_core.specs.Turn.{with_thread}
+use Rattle.split_rules.specs.Handing.{Arrival, arrival_in}
 use Rattle.split_rules.specs.Pace.{PACE}
 use Rattle.net_world.specs.Fits.{IsStateOf}
 use Rattle.net_world.specs.World.{WorldShape, state_at}
@@ -29,7 +27,7 @@ use Rattle.typed_steps.specs.Views.{Split, Link, entries_of, View}
 use Rattle.typed_steps.specs.Chains.{IsChain}
 use Rattle.typed_steps.specs.Threads.{IsAt}
 use Rattle.typed_steps.specs.Variables.{Sends, Holds}
-use Rattle.typed_steps.specs.Requests.{Does, IsRequest, GivesResult, starting, GivesUp}
+use Rattle.typed_steps.specs.Requests.{Does, IsRequest, GivesResult, GoesTo, GivesUp}
 use Rattle.typed_steps.specs.Weights.{Paced, STEP, weight_at, IsFueledRequest}
 
 -- ---- before and after
@@ -117,23 +115,18 @@ pub record Gives (split : Split) (c : Configuration) (view : View) (host : HostI
   pub pace : Paced split → (0 < weight_at split view.chain host thread.at)
       × (weight_at split view.chain host next.at + 2 ≤ (weight_at split view.chain host thread.at - 1) + STEP)
 
--- The thread ends, and its token goes to an entry.
+-- The thread ends, and its token goes to an entry, with all that is still to be sent.
 pub record Hands (split : Split) (c : Configuration) (view : View) (host : HostId) (old : HostShape)
     (thread : ThreadShape) (outcome : Outcome) : Type 0 where
   pub to : HostId
-  pub entry : EntryId
-  pub there : Entry
-  pub frame : FrameId
-  pub token : Token
-  pub call : ℕ
-  pub is : with_message (with_running old None) to (message.Rgoto frame entry token) ≡ outcome
-  pub top : top_token (entries_of view.chain) ≡ Some token
-  pub may : May split.code to (ask.Enter entry) host
-  pub found : entry_at split.code entry ≡ Some there
-  pub none_out : view.out ≡ []
-  pub at : IsAt split c (starting view view.chain call) to (thread_at there frame token)
+  pub arrival : Arrival
+  pub said : Message
+  pub arrives : arrival_in said ≡ Some arrival
+  pub is : with_message (with_running old None) to said ≡ outcome
+  pub top : top_token (entries_of view.chain) ≡ Some arrival.token
+  pub goes : GoesTo split c view host to arrival
   pub pace : Paced split → (0 < weight_at split view.chain host thread.at)
-      × (weight_at split view.chain to there.at + 1 ≤ weight_at split view.chain host thread.at - 1)
+      × (weight_at split view.chain to goes.there.at + 1 ≤ weight_at split view.chain host thread.at - 1)
 
 -- The thread ends, and its token goes back to the host that gave it.
 pub record Returns (split : Split) (c : Configuration) (view : View) (host : HostId) (old : HostShape)

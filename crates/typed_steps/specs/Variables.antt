@@ -1,7 +1,8 @@
 -- What all hosts have of a configuration of the plain run: its fields and its variables.
-use Rattle.std.specs.Prelude.{◌≡◌, ◌≢◌, ℕ, ◌⊎◌, true, List, [], ◌∷◌, length, Some}
+use Rattle.std.specs.Prelude.{◌≡◌, ◌≢◌, ℕ, ◌⊎◌, true, List, ◌∷◌, length, Some}
 use Rattle.std.specs.Prelude.{◌<◌, ◌≤◌}
-use Rattle.std.specs.Prelude.{ℤ, pos, slice_get, slice_index, ⊤}
+use Rattle.std.specs.Prelude.{ℤ, pos, slice_get, slice_index}
+use Rattle.std.specs.List.{AllByRecursion}
 use Rattle.js_base.specs.declared.ids.HostId.{HostId}
 use Rattle.js_base.specs.declared.ids.FrameId.{FrameId}
 use Rattle.js_base.specs.declared.ids.SiteId.{SiteId}
@@ -12,7 +13,7 @@ use Rattle.jif_tree.specs.Store.{row_of}
 use Rattle.host_code.specs.Code.{CodeFieldShape, site_at}
 use Rattle.host_core.specs.Host.{HostShape}
 use Rattle.msg_cost.specs.Terms.{reads_on}
-use Rattle.split_rules.specs.Positions.{Forward}
+use Rattle.split_rules.specs.Positions.{Forward, IsOut}
 use Rattle.net_world.specs.World.{WorldShape, state_at}
 use Rattle.typed_steps.specs.Values.{AreAlike, AreRowsAlike}
 use Rattle.typed_steps.specs.Views.{Split, Naming, View}
@@ -24,17 +25,15 @@ HaveFields split world store =
     state_at world field.host ≡ Some state →
     AreRowsAlike split.exposure number (row_of state.rows number) (row_of store number)
 
--- a variable is still to be sent to a host
-abbrev pub IsOut : List Forward → VarId → HostId → Type 0
-IsOut [] x host = ⊥
-IsOut (forward ∷ out) x host = ((forward.variable ≡ x) × (forward.host ≡ host)) ⊎ IsOut out x host
-
--- what is still to be sent is sent to others, and these variables have its values, or may be affected
-abbrev pub AreSent : Split → (ℕ → ℤ) → (VarId → ℤ) → HostId → List Forward → Type 0
-AreSent split values variables host [] = ⊤
-AreSent split values variables host (forward ∷ out) =
+-- what is still to be sent goes to another host, and the variable has its value here, or may be affected
+abbrev pub CanSend : Split → (ℕ → ℤ) → (VarId → ℤ) → HostId → Forward → Type 0
+CanSend split values variables host forward =
     AreAlike split.exposure forward.variable (variables forward.variable) (values forward.variable.0)
-    × (forward.host.0 ≢ host.0) × AreSent split values variables host out
+    × (forward.host.0 ≢ host.0)
+
+-- and so does all of it
+abbrev pub AreSent : Split → (ℕ → ℤ) → (VarId → ℤ) → HostId → List Forward → Type 0
+AreSent split values variables host out = AllByRecursion (CanSend split values variables host) out
 
 -- who acts has the variables that are still to be sent
 abbrev pub Sends : Split → View → HostShape → HostId → Type 0

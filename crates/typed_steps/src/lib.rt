@@ -5,4 +5,4 @@
 
 mod laws;
 
-pub use laws::{take_laws, turn_laws};
+pub use laws::{riding_examples, take_laws, turn_laws};

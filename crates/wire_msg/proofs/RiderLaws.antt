@@ -1,9 +1,8 @@
 -- Laws of the reader of an rgoto with which values ride.
-use Rattle.std.proofs.Common.{◌≡◌, ℕ, ◌+◌, ◌*◌, ◌^◌, ◌<◌, ◌≤◌, true, List, [], ◌∷◌, ◌++◌, length, refl, sym, ap, ◌∙◌}
+use Rattle.std.proofs.Common.{◌≡◌, ℕ, ◌+◌, ◌*◌, ◌^◌, ◌<◌, true, List, [], ◌∷◌, ◌++◌, length, refl, sym, ap, ◌∙◌}
 use Rattle.std.proofs.Common.{append_assoc, arith}
-use Rattle.std.specs.Prelude.{nat_lt, nat_le}
+use Rattle.std.specs.Prelude.{nat_lt}
 use Rattle.std.specs.List.{flat_map}
-use Rattle.std.proofs.lemmas.Bool.{and_parts, leb-true, le-leb}
 use Rattle.std.proofs.lemmas.List.{length-append}
 use Rattle.js_base.specs.declared.ids.EntryId.{EntryId}
 use Rattle.js_base.specs.declared.ids.FrameId.{FrameId}
@@ -12,7 +11,7 @@ use Rattle.capability.specs.declared.tags.TheConstants.{TAG_BYTES}
 use Rattle.capability.specs.declared.token.Token.{Token}
 use Rattle.host_code.specs.declared.message.Message.TheVariants as message
 use Rattle.host_code.specs.declared.riders.TheConstants.{MOST_RIDERS}
-use Rattle.host_code.specs.Riders.{Rider, AreFew}
+use Rattle.host_code.specs.Riders.{Rider}
 use Rattle.byte_format.specs.Numbers.{number_bytes, word_bytes}
 use Rattle.byte_format.proofs.NumberLaws.{byte_reads, byte_again, integer_reads, integer_again}
 use Rattle.byte_format.proofs.Sequels.{Reads, Again, reads_then, reads_last, reads_require, again_then, again_last}
@@ -21,7 +20,7 @@ use Rattle.byte_format.proofs.ItemLaws.{all_weaker, all_read, items_again, each_
 use Rattle.byte_format.proofs.ItemLaws.{counted_within, within_again}
 use Rattle.wire_msg.specs.declared.error.WireError.TheVariants as refusal
 use Rattle.wire_msg.specs.declared.riding.Riding.{Riding}
-use Rattle.wire_msg.specs.Frames.{IsFrameId, IsToken, IsRider, IsMessage, may_ride}
+use Rattle.wire_msg.specs.Frames.{IsFrameId, IsToken, IsRider, IsMessage}
 use Rattle.wire_msg.specs.Spelling.{frame_id_bytes, token_bytes, rider_bytes, message_bytes}
 use Rattle.wire_msg.specs.Reading.{riding_at, rider_at, rgoto_with_at}
 use Rattle.wire_msg.proofs.FieldLaws.{variable_reads, variable_again, entry_reads, entry_again, frame_id_reads}

@@ -60,6 +60,7 @@ fn fields_of(kind: u8, bytes: &[u8]) -> Result<(Frame, &[u8]), WireError>
     if kind == DONE {
         return Ok((Frame::Done, bytes));
     }
+    // A `match`, since a `?` on a message, which may have riders, beside a slice has no proof.
     match message_of(kind, bytes) {
         Ok((message, rest)) => Ok((Frame::Message(message), rest)),
         Err(error) => Err(error),
@@ -75,6 +76,7 @@ fn sent_of(body: &[u8]) -> Result<(HostId, Frame), WireError>
     if from as usize >= HOSTS {
         return Err(WireError::BadField);
     }
+    // As for the message.
     let (frame, rest) = match fields_of(kind, rest) {
         Ok(read) => read,
         Err(error) => return Err(error),

@@ -78,6 +78,7 @@ pub fn rgoto_with_of(bytes: &[u8]) -> Result<(Message, &[u8]), WireError>
     if riding.count == 0 || riding.count as usize > MOST_RIDERS {
         return Err(WireError::BadField);
     }
+    // A `match`, since a `?` on riders beside a slice has no proof.
     match riders_of(riding.count, rest) {
         Ok((pairs, rest)) => {
             let message = Message::RgotoWith {

@@ -13,5 +13,8 @@ returns c = record {
   sets = worked.sets;
   sets_more = worked.sets_more;
   answered = refl;
+  rides = worked.rides;
+  rides_more = worked.rides_more;
+  rides_first = worked.rides_first;
   unseen_element = λ state index. refl;
 }

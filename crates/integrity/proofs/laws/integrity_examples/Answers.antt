@@ -48,3 +48,12 @@ returns-clause-halt_denied c = example.halt_denied
 
 pub returns-clause-stands_for_denied : goal.returns-clause-stands_for_denied
 returns-clause-stands_for_denied c = example.stands_for_denied
+
+pub returns-clause-riding_denied : goal.returns-clause-riding_denied
+returns-clause-riding_denied c = example.riding_denied
+
+pub returns-clause-riding_behind_denied : goal.returns-clause-riding_behind_denied
+returns-clause-riding_behind_denied c = example.riding_behind_denied
+
+pub returns-clause-riding_entry_denied : goal.returns-clause-riding_entry_denied
+returns-clause-riding_entry_denied c = example.riding_entry_denied

@@ -3,7 +3,7 @@ use Rattle.seen_world.proofs.Granted.{turn_granted}
 use Rattle.seen_world.proofs.LabelsSent.{turn_labelled, answer_labelled}
 use Rattle.seen_world.proofs.PointsAtStart.{starts_keep}
 use Rattle.seen_world.proofs.PointsKept.{points_kept, request_passes, take_silent, secret_events}
-use Rattle.seen_world.proofs.SecretSets.{flight_sets, flight_enters}
+use Rattle.seen_world.proofs.SecretSets.{flight_sets, flight_enters, rider_hidden}
 use Rattle.seen_world.proofs.SecretTurns.{secret_told, secret_silent}
 use Rattle.seen_world.proofs.SentWell.{turn_carries}
 use Rattle.seen_world.proofs.TakesKept.{take_keeps, taken_world}
@@ -27,6 +27,7 @@ returns c = record {
   granted = turn_granted;
   passes_request = request_passes;
   sets = flight_sets;
+  rides = rider_hidden;
   enters = flight_enters;
   answered_openly = answer_shows;
   told_openly = turn_shows;

@@ -2,9 +2,10 @@ use Rattle.split_cli.proofs.Compared.{PrivateLaws, compare_is_private}
 use Rattle.split_cli.proofs.Faithful.{AllLaws, replay_is_faithful, drive_is_faithful}
 use Rattle.split_cli.proofs.RestingDrives.{comes_to_rest}
 use Rattle.split_cli.proofs.SilentComparisons.{never_differs}
+use Rattle.split_cli.proofs.WordsOfTexts.{WordLaws, never_differs_by_text}
 use Rattle.split_cli.proofs.laws.headline_laws.Goals as goal
 
-all_laws : (c : goal.After-integrity_laws) → AllLaws
+all_laws : (c : goal.After-word_laws) → AllLaws
 all_laws c = record {
   reading = record {
     hosts = c.host_file_laws.ensures.sound;
@@ -36,6 +37,11 @@ all_laws c = record {
   next = c.obeying_laws.ensures.next;
   ending = c.ending_laws.ensures.ends;
   altered = c.integrity_laws.ensures.follows;
+  sources = record {
+    steady = c.steady_laws.ensures.steady;
+    starts = c.steady_laws.ensures.starts;
+    keeps_up = c.steady_laws.ensures.keeps_up;
+  };
   scripts = record {
     sound = c.split_laws.ensures.sound;
     said_own = c.script_laws.ensures.own;
@@ -43,8 +49,15 @@ all_laws c = record {
   };
 }
 
-private_laws : (c : goal.After-integrity_laws) → PrivateLaws
+private_laws : (c : goal.After-word_laws) → PrivateLaws
 private_laws c = record { told_alike = c.run_laws.ensures.split; one_step = c.step_laws.ensures.one }
+
+words : (c : goal.After-word_laws) → WordLaws
+words c = record {
+  once = c.lex_laws.ensures;
+  releases = c.word_laws.ensures.releases;
+  endorses = c.word_laws.ensures.endorses;
+}
 
 pub returns-clause-replayed : goal.returns-clause-replayed
 returns-clause-replayed c = replay_is_faithful (all_laws c)
@@ -60,3 +73,6 @@ returns-clause-comes_to_rest c = comes_to_rest (all_laws c) c.ending_laws.ensure
 
 pub returns-clause-never_differs : goal.returns-clause-never_differs
 returns-clause-never_differs c = never_differs (all_laws c) (private_laws c) c.source_laws.ensures.one_plan
+
+pub returns-clause-never_differs_by_text : goal.returns-clause-never_differs_by_text
+returns-clause-never_differs_by_text c = never_differs_by_text (all_laws c) (private_laws c) (words c)

@@ -42,20 +42,17 @@ returns-clause-compared g c = λ program hosts one other asked success.
     (returns-clause-answer g c) (⊎_elim (λ done. inl done) (λ differs. inr (inr differs)) success)
 
 pub returns-clause-complete : goal.returns-clause-complete
-returns-clause-complete g c = λ holds number status text tells due calm below quiet under.
-    complete c.due_laws.ensures.one_verdict _ _ _ _ _ holds number status text
-    (returns-clause-answer g c) tells due calm
-    below quiet under
+returns-clause-complete g c = λ holds number status text tells due.
+    complete c.due_laws.ensures.one_verdict _ _ _ _ _ holds number status text (returns-clause-answer g c) tells due
 
 pub returns-clause-comes_to_rest : goal.returns-clause-comes_to_rest
 returns-clause-comes_to_rest g c =
     λ program hosts start p h s events steps holds placed tree values few asked tells told_p told_h told_s is_placed
-    short read ends enough calm below quiet under.
+    short read ends enough.
     let due = c.headline_laws.ensures.comes_to_rest program hosts start p h s events steps holds placed tree values few
     told_p told_h told_s is_placed short read ends enough in
     returns-clause-complete g c holds 3 Done due.0 tells
-    (subst (λ (words : List (List ℕ)). Due words (Some holds) 3 (Print Done due.0)) (sym asked) due.1) calm below quiet
-    under
+    (subst (λ (words : List (List ℕ)). Due words (Some holds) 3 (Print Done due.0)) (sym asked) due.1)
 
 pub returns-clause-never_differs : goal.returns-clause-never_differs
 returns-clause-never_differs g c =
@@ -63,6 +60,19 @@ returns-clause-never_differs g c =
     (put_due (λ status text. ¬ (status ≡ Differ)) _ _ _ _ _
     (λ number status text due is. c.headline_laws.ensures.never_differs program hosts one other p h holds number text
     placed told_p told_h accepted silent
+    (subst (λ (s : Status). Due (words_of (Compare program hosts one other)) (Some holds) number (Print s text)) is
+    (subst (λ (held : Option (List ℕ → Option (List ℕ))).
+    Due (words_of (Compare program hosts one other)) held number (Print status text)) tells
+    (subst (λ (words : List (List ℕ)). Due words (g.F.Files.held c.args.files.now) number (Print status text)) asked
+    due))))
+    (returns-clause-answer g c) (inr (inr differs))).1 differs
+
+pub returns-clause-never_differs_by_text : goal.returns-clause-never_differs_by_text
+returns-clause-never_differs_by_text g c =
+    λ program hosts one other p list holds asked tells told reads lacks differs.
+    (put_due (λ status text. ¬ (status ≡ Differ)) _ _ _ _ _
+    (λ number status text due is. c.headline_laws.ensures.never_differs_by_text program hosts one other p list holds
+    number text told reads lacks
     (subst (λ (s : Status). Due (words_of (Compare program hosts one other)) (Some holds) number (Print s text)) is
     (subst (λ (held : Option (List ℕ → Option (List ℕ))).
     Due (words_of (Compare program hosts one other)) held number (Print status text)) tells

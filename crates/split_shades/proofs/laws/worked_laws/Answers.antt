@@ -1,11 +1,13 @@
 use Rattle.std.proofs.Common.{◌≡◌, ◌∙◌, ℕ, refl, ap, sym, arith}
-use Rattle.std.specs.Prelude.{Option, unwrap_or}
+use Rattle.std.specs.Prelude.{Option, unwrap_or, [], ◌∷◌, slice_get}
 use Rattle.std.specs.Option.{option_map}
 use Rattle.label_lattice.specs.declared.label.Label.{Label}
+use Rattle.label_lattice.specs.Label.{ConfFlows}
 use Rattle.label_lattice.specs.Lattice.{join_of}
 use Rattle.msg_cost.specs.Moves.{is_trusted_by}
 use Rattle.split_rules.specs.Worked.{host_id}
-use Rattle.split_shades.specs.Worked.{branching, looping, scene_on, code_on}
+use Rattle.split_shades.specs.Shading.{HandsOn}
+use Rattle.split_shades.specs.Worked.{branching, looping, scene_on, code_on, outer, secret, shade_under, entry_under}
 use Rattle.split_shades.proofs.WorkedShades.{pushed_under, label_there, not_pushed}
 use Rattle.split_shades.proofs.laws.worked_laws.Goals as goal
 
@@ -76,3 +78,30 @@ returns-clause-guard_apart c shades shaded own =
 pub returns-clause-index_told : goal.returns-clause-index_told
 unfolding join_of
 returns-clause-index_told c same = apart_words 1 3 refl refl (ap (λ label. label.trust) same)
+
+pub returns-clause-rides : goal.returns-clause-rides
+returns-clause-rides c there first =
+    let seen : ConfFlows outer outer = λ owner reader own read forbidden. forbidden in
+    let hands : HandsOn (entry_under outer ∷ []) (shade_under outer) there.0 = record {
+      it = entry_under outer;
+      is = ap (slice_get (entry_under outer ∷ [])) first;
+      level = refl;
+      block = refl;
+    } in
+    (((refl, refl), refl, refl, hands, seen), ((seen, seen), tt))
+
+-- what the first principal lets no other read, all may not see
+no_bit : (bit : ℕ) → bit ≡ 1 → bit ≡ 0 → ⊥
+no_bit bit is_one is_zero = omega (arith, is_one, is_zero)
+
+apart_rows : ConfFlows secret outer → ⊥
+apart_rows flows = no_bit _ refl (flows 0 1 (omega arith) (omega arith) refl)
+
+pub returns-clause-rides_unseen : goal.returns-clause-rides_unseen
+returns-clause-rides_unseen c entries there ends = apart_rows ends.1.0.1
+
+pub returns-clause-rides_unseen_there : goal.returns-clause-rides_unseen_there
+returns-clause-rides_unseen_there c entries there ends = apart_rows ends.1.0.1
+
+pub returns-clause-rides_low : goal.returns-clause-rides_low
+returns-clause-rides_low c rides = apart_rows rides.0.0

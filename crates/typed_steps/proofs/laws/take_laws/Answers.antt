@@ -1,4 +1,4 @@
-use Rattle.typed_steps.proofs.Takes.{request_taken, result_taken, answer_taken}
+use Rattle.typed_steps.proofs.Takes.{request_taken, result_taken, arrival_taken, answer_taken}
 use Rattle.typed_steps.proofs.laws.take_laws.Goals as goal
 
 pub returns-clause-request : goal.returns-clause-request
@@ -11,6 +11,11 @@ returns-clause-result c =
     λ split c view world holder owner waiting old request frame x value outcome owns awaited is may gives takes.
     result_taken split c view world holder owner waiting old owns request frame x value awaited is may gives outcome
     takes
+
+pub returns-clause-arrival : goal.returns-clause-arrival
+returns-clause-arrival c =
+    λ split c view world from to old said arrival outcome owns arrives goes takes.
+    arrival_taken split c view world from to old owns said arrival arrives goes outcome takes
 
 pub returns-clause-answer : goal.returns-clause-answer
 returns-clause-answer c =

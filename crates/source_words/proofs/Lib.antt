@@ -1,0 +1,3 @@
+pub mod LackingDrafts
+pub mod LackingTrees
+pub mod LackingPrograms
