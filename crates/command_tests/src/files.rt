@@ -9,7 +9,8 @@ use std::test::Fail;
 /// owners, each assigned once, and of its hosts `H` there is one for each owner: A's part sets its own field, and asks
 /// B to set the other. In `handed` two hosts are handed the right to go on by a third. Of its hosts `far` the first is
 /// one that two trust, then comes one of Bob's that is far from it, and one of Carol's that Alice trusts. The events
-/// `E` and the starting values `S` are none.
+/// `E` and the starting values `S` are none. `K` has the keys of the links of A and B, and `other_keys` has each in the
+/// place of the other.
 const TEXTS: &str = "\
     #P\n\
     int{Alice:} a;\nint{Bob:} b;\nvoid main{}() {\n  a = 1;\n  b = 2;\n}\n\
@@ -34,7 +35,18 @@ const TEXTS: &str = "\
     #bad_start\n\
     set a 1 2\
     #bad_code\n\
-    no code";
+    no code\
+    #K\n\
+    A B 000102030405060708090a0b0c0d0e0f101112131415161718191a1b1c1d1e1f\n\
+    B A 202122232425262728292a2b2c2d2e2f303132333435363738393a3b3c3d3e3f\n\
+    #one_key\n\
+    A B 000102030405060708090a0b0c0d0e0f101112131415161718191a1b1c1d1e1f\n\
+    #other_keys\n\
+    A B 202122232425262728292a2b2c2d2e2f303132333435363738393a3b3c3d3e3f\n\
+    B A 000102030405060708090a0b0c0d0e0f101112131415161718191a1b1c1d1e1f\n\
+    #bad_keys\n\
+    A B 000102030405060708090a0b0c0d0e0f101112131415161718191a1b1c1d1e1f\n\
+    A B 000102030405060708090A0B0C0D0E0F101112131415161718191A1B1C1D1E1F\n";
 
 /// Adds a file.
 pub fn hold(

@@ -18,6 +18,8 @@ mod node;
 #[cfg(test)]
 mod node_refusals;
 #[cfg(test)]
+mod node_seals;
+#[cfg(test)]
 mod node_services;
 #[cfg(test)]
 mod outside;

@@ -24,11 +24,17 @@ const REFUSED: &str = "\
     - | SourceRefused | --program bad_program --hosts H --host A --start S --turns 4\n\
     0 | FileFault | --program P --hosts H --host A --start S --turns 4\n\
     1 | FileFault | --program P --hosts H --host A --start S --turns 4\n\
-    2 | FileFault | --program P --hosts H --host A --start S --turns 4\n";
+    2 | FileFault | --program P --hosts H --host A --start S --turns 4\n\
+    - | Usage | --program P --hosts H --host A --start S --turns 4 --seals K --seals K\n\
+    - | InputRefused | --program P --hosts H --host A --start S --turns 4 --seals Q\n\
+    - | InputRefused | --program P --hosts H --host A --start S --turns 4 --seals one_key\n\
+    - | InputRefused | --program P --hosts H --host A --start S --turns 4 --seals bad_keys\n\
+    - | InputRefused | --program P --hosts H --host A --start S --turns 4 --seals S\n\
+    3 | FileFault | --program P --hosts H --host A --start S --turns 4 --seals K\n";
 
 /// What the call of a row leaves.
 fn left(alloc: Global, row: &str) -> Result<String, Fail> {
-    let held = "P H S bad_program bad_start bad_code";
+    let held = "P H S K one_key bad_keys bad_program bad_start bad_code";
     let mut files = held_files(alloc, held, cell(row, 0))?;
     node_text(alloc, &mut files, cell(row, 2), "ACK", "-", "-")
 }

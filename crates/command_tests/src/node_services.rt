@@ -10,7 +10,7 @@ use std::process::Abort;
 use std::test::Fail;
 
 /// The files of all nodes.
-const HELD: &str = "P H S";
+const HELD: &str = "P H S K other_keys";
 
 /// The root A, which tells B of its end.
 ///
@@ -79,7 +79,7 @@ fn holds(rt: &impl Abort, alloc: Global, files: &mut MemFiles, row: &str) -> Res
 }
 
 /// Each row of a table holds.
-fn all_hold(rt: &impl Abort, alloc: Global, rows: &str) -> Result<(), Fail> {
+pub fn all_hold(rt: &impl Abort, alloc: Global, rows: &str) -> Result<(), Fail> {
     for row in rows.split("\n\n") {
         holds(rt, alloc, &mut held_files(alloc, HELD, "-")?, row)?;
     }

@@ -53,6 +53,7 @@ pub data RefusalShape : Type 0 where
   BadCode : (file : List ℕ) (why : SplitError) → RefusalShape
   NoHost : (name : List ℕ) → RefusalShape
   OtherHosts : (code hosts : List ℕ) → RefusalShape
+  NoKey : (file host : List ℕ) → RefusalShape
 
 -- what a refusal of the program says
 abbrev pub refusal_shape : native.Refusal → RefusalShape
@@ -72,6 +73,7 @@ refusal_shape (variants.StartsDiffer field) = StartsDiffer (string_bytes field)
 refusal_shape (variants.BadCode file why) = BadCode (string_bytes file) why
 refusal_shape (variants.NoHost name) = NoHost (string_bytes name)
 refusal_shape (variants.OtherHosts code hosts) = OtherHosts (string_bytes code) (string_bytes hosts)
+refusal_shape (variants.NoKey file host) = NoKey (string_bytes file) (string_bytes host)
 
 -- the status with which a refused program ends
 abbrev pub refusal_status : RefusalShape → Status
@@ -91,6 +93,7 @@ refusal_status (StartsDiffer field) = status.InputRefused
 refusal_status (BadCode file why) = status.InputRefused
 refusal_status (NoHost name) = status.InputRefused
 refusal_status (OtherHosts code hosts) = status.InputRefused
+refusal_status (NoKey file host) = status.InputRefused
 
 -- ---- programs
 
@@ -225,6 +228,7 @@ refusal_text (StartsDiffer field) = codes "starting values of " ++ (field ++ cod
 refusal_text (BadCode file why) = file ++ (codes ": " ++ why_no_code why)
 refusal_text (NoHost name) = codes "no host " ++ name
 refusal_text (OtherHosts code hosts) = codes "the hosts of " ++ (code ++ (codes " are not those of " ++ hosts))
+refusal_text (NoKey file host) = file ++ (codes ": no key for host " ++ host)
 
 -- a line of a program of this name on the error output
 abbrev pub error_line : (program text : List ℕ) → List ℕ

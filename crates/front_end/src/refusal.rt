@@ -5,7 +5,8 @@ ghost use Rattle.std.specs.String.{string_bytes};
 ghost use Rattle.front_end.specs.Refusals.{refusal_shape, refusal_status, refusal_text};
 
 use crate::refusal_texts::{
-    at_line_text, code_text, hosts_text, labels_text, lexed_text, parsed_text, resolved_text,
+    at_line_text, code_text, hosts_text, labels_text, lexed_text, no_key_text, parsed_text,
+    resolved_text,
 };
 use host_decl::HostsError;
 use jif_lex::LexError;
@@ -101,6 +102,11 @@ pub enum Refusal {
         code: String,
         hosts: String,
     },
+    /// A file of keys has none for the link to a host of this name, or none for the link from it.
+    NoKey {
+        file: String,
+        host: String,
+    },
 }
 
 impl Refusal {
@@ -124,7 +130,8 @@ impl Refusal {
             | Refusal::StartsDiffer { .. }
             | Refusal::BadCode { .. }
             | Refusal::NoHost { .. }
-            | Refusal::OtherHosts { .. } => Status::InputRefused,
+            | Refusal::OtherHosts { .. }
+            | Refusal::NoKey { .. } => Status::InputRefused,
         }
     }
 
@@ -153,6 +160,7 @@ impl Refusal {
             Refusal::OtherHosts { code, hosts } => {
                 format!(in alloc; "the hosts of {code} are not those of {hosts}")
             }
+            Refusal::NoKey { file, host } => no_key_text(alloc, file, host),
         }
     }
 }

@@ -93,6 +93,13 @@ pub fn code_text(alloc: Global, file: &str, why: SplitError) -> Result<String, A
     format!(in alloc; "{file}: {why}")
 }
 
+/// The words of a file of keys that lacks one for a host.
+pub fn no_key_text(alloc: Global, file: &str, host: &str) -> Result<String, AllocError>
+    ensures { IfOk result (λ text. string_bytes text ≡ refusals.refusal_text (refusals.NoKey file.now host.now)) }
+{
+    format!(in alloc; "{file}: no key for host {host}")
+}
+
 /// Why a text has no tokens.
 fn why_no_tokens(alloc: Global, why: LexError) -> Result<String, AllocError>
     ensures { IfOk result (λ text. string_bytes text ≡ refusals.why_no_tokens why) }

@@ -59,8 +59,9 @@ pub all_given : (words : List Text) (m : ArgMatches) (asked : Asked) (word : Tex
     Some asked.start ≡ first_value (found_of m) (codes "start") →
     Some word ≡ first_value (found_of m) (codes "turns") → word ≡ decimal asked.turns → IsStepCount asked.turns →
     program ≡ first_value (found_of m) (codes "program") → code ≡ first_value (found_of m) (codes "code") →
-    IsSource program code asked.source → IsAsked words asked
-all_given words m asked word program code parses has hosts host start turns written count program_is code_is source =
+    IsSource program code asked.source → asked.seals ≡ first_value (found_of m) (codes "seals") → IsAsked words asked
+all_given words m asked word program code parses has hosts host start turns written count program_is code_is source
+    seals =
     let value : (name : Text) → first_value (found_of m) name ≡ value_of words name = value_is words m has in
     record {
       parses = parses;
@@ -69,6 +70,7 @@ all_given words m asked word program code parses has hosts host start turns writ
       start = sym (start ∙ value (codes "start"));
       turns = sym (turns ∙ value (codes "turns")) ∙ ap Some written;
       count = count;
+      seals = sym (seals ∙ value (codes "seals"));
       source = subst (λ p. IsSource p (value_of words (codes "code")) asked.source)
           (program_is ∙ value (codes "program"))
           (subst (λ c. IsSource program c asked.source) (code_is ∙ value (codes "code")) source);
@@ -85,13 +87,16 @@ one_source program code (Program p) (Code q) one two = absurd (let e = sym one.0
 one_source program code (Code p) (Program q) one two = absurd (let e = sym one.0 ∙ two.0 in cc)
 
 same_asked : (first second : Asked) → first.source ≡ second.source → first.hosts ≡ second.hosts →
-    first.host ≡ second.host → first.start ≡ second.start → first.turns ≡ second.turns → first ≡ second
-same_asked first second source hosts host start turns =
+    first.host ≡ second.host → first.start ≡ second.start → first.turns ≡ second.turns →
+    first.seals ≡ second.seals → first ≡ second
+same_asked first second source hosts host start turns seals =
     ap (λ (s : SourceName). record first { source = s }) source
     ∙ ap (λ (h : List ℕ). record first { source = second.source; hosts = h }) hosts
-    ∙ ap (λ (h : List ℕ). record second { host = h; start = first.start; turns = first.turns }) host
-    ∙ ap (λ (s : List ℕ). record second { start = s; turns = first.turns }) start
-    ∙ ap (λ (n : ℕ). record second { turns = n }) turns
+    ∙ ap (λ (h : List ℕ).
+    record second { host = h; start = first.start; turns = first.turns; seals = first.seals }) host
+    ∙ ap (λ (s : List ℕ). record second { start = s; turns = first.turns; seals = first.seals }) start
+    ∙ ap (λ (n : ℕ). record second { turns = n; seals = first.seals }) turns
+    ∙ ap (λ (s : Option (List ℕ)). record second { seals = s }) seals
 
 -- words ask for one node
 pub one_asked : (words : List Text) (first second : Asked) → IsAsked words first → IsAsked words second → first ≡ second
@@ -99,3 +104,4 @@ one_asked words first second one two =
     same_asked first second (one_source _ _ _ _ one.source two.source) (some_same _ _ _ one.hosts two.hosts)
     (some_same _ _ _ one.host two.host) (some_same _ _ _ one.start two.start)
     (same_steps first.turns second.turns one.count two.count (some_same _ _ _ one.turns two.turns))
+    (sym one.seals ∙ two.seals)

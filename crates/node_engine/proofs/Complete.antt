@@ -1,15 +1,16 @@
 -- A node whose files are accepted serves to an end, where nothing outside fails.
 use Rattle.std.proofs.Common.{◌≡◌, inl, inr, ℕ, zero, suc, ◌<◌, List, Option, Some, None, refl, sym, subst, arith}
 use Rattle.std.specs.Prelude.{slice_get}
+use Rattle.std.specs.Option.{option_to_list}
 use Rattle.js_base.specs.Counts.{Rose, last_count}
 use Rattle.js_base.specs.declared.status.Status.{Status}
 use Rattle.js_base.specs.declared.status.Status.TheVariants as status
 use Rattle.front_end.specs.Loads.{FilesChange, Told as TellsFile}
 use Rattle.front_end.specs.Stages.{Outcome, given, stopped}
 use Rattle.front_end.specs.Verdicts.{VerdictShape}
-use Rattle.node_engine.specs.NodeSources.{NodeStart}
+use Rattle.node_engine.specs.NodeSources.{ReadyNode}
 use Rattle.node_engine.specs.Nodes.{End, HoldsNode, IsComplete, IsNodeDue, LoadedNode, NodeAnswer, OptionsAnswer}
-use Rattle.node_engine.specs.Nodes.{files_of}
+use Rattle.node_engine.specs.Nodes.{HoldsKeys, TellsKeys, files_of}
 use Rattle.node_engine.specs.Options.{Asked, IsAsked, name_of}
 use Rattle.node_engine.specs.Statuses.{IsEnded, IsServed}
 use Rattle.node_engine.specs.Told.{Faults, Names, NodeChange, Outside}
@@ -45,7 +46,15 @@ absent_not holds held name file bytes is absent there same =
     let some : holds file ≡ Some bytes = subst (λ (it : List ℕ). holds it ≡ Some bytes) one there in
     let never : ⊥ = cc in never
 
-none_absent : (asked : Asked) (holds : List ℕ → Option (List ℕ)) (node : NodeStart)
+keys_not_absent : (seals : Option (List ℕ)) (keys : List ℕ) (holds : List ℕ → Option (List ℕ))
+    (held : Option (List ℕ → Option (List ℕ))) (place : ℕ) (file : List ℕ) → HoldsKeys holds seals keys →
+    held ≡ Some holds → TellsFile held file None → slice_get (option_to_list seals) place ≡ Some file → ⊥
+keys_not_absent None keys holds held place file there is absent here = let never : ⊥ = cc in never
+keys_not_absent (Some name) keys holds held zero file there is absent here =
+    absent_not holds held name file keys is absent there here
+keys_not_absent (Some name) keys holds held (suc place) file there is absent here = let never : ⊥ = cc in never
+
+none_absent : (asked : Asked) (holds : List ℕ → Option (List ℕ)) (node : ReadyNode)
     (held : Option (List ℕ → Option (List ℕ))) (place : ℕ) (file : List ℕ) → HoldsNode asked holds node →
     held ≡ Some holds → TellsFile held file None → slice_get (files_of asked) place ≡ Some file → ⊥
 none_absent asked holds node held zero file there is absent here =
@@ -55,18 +64,26 @@ none_absent asked holds node held (suc zero) file there is absent here =
 none_absent asked holds node held (suc (suc zero)) file there is absent here =
     absent_not holds held asked.start file there.start is absent there.start_is here
 none_absent asked holds node held (suc (suc (suc place))) file there is absent here =
-    let never : ⊥ = cc in never
+    keys_not_absent asked.seals there.keys holds held place file there.keys_is is absent here
+
+-- and one that holds keys tells them
+keys_tell : (seals : Option (List ℕ)) (keys : List ℕ) (holds : List ℕ → Option (List ℕ))
+    (held : Option (List ℕ → Option (List ℕ))) → held ≡ Some holds → HoldsKeys holds seals keys →
+    TellsKeys held seals keys
+keys_tell None keys holds held is there = there
+keys_tell (Some name) keys holds held is there =
+    subst (λ (it : Option (List ℕ → Option (List ℕ))). TellsFile it name (Some keys)) (sym is) there
 
 -- what is known of nodes and of words
 abbrev pub OneLoaded : Type 0
 OneLoaded = (asked : Asked) (files : FilesChange) (holds : List ℕ → Option (List ℕ))
-    (first second : Outcome NodeStart) → files.held ≡ Some holds → LoadedNode asked files first →
+    (first second : Outcome ReadyNode) → files.held ≡ Some holds → LoadedNode asked files first →
     LoadedNode asked files second → first ≡ second
 
 abbrev pub OneAsked : Type 0
 OneAsked = (words : List (List ℕ)) (first second : Asked) → IsAsked words first → IsAsked words second → first ≡ second
 
-not_stopped : OneLoaded → (asked : Asked) (files : FilesChange) (holds : List ℕ → Option (List ℕ)) (node : NodeStart)
+not_stopped : OneLoaded → (asked : Asked) (files : FilesChange) (holds : List ℕ → Option (List ℕ)) (node : ReadyNode)
     (verdict : VerdictShape) → HoldsNode asked holds node → files.held ≡ Some holds →
     files.faults_after ≡ files.faults_before → files.faults_before < last_count →
     IsNodeDue asked files (stopped verdict) → ⊥
@@ -85,15 +102,17 @@ not_stopped one asked files holds node verdict there is stays below (inr loaded)
       source = there.source;
       hosts = there.hosts;
       start = there.start;
+      keys = there.keys;
       source_told = tells (name_of asked.source) there.source there.source_is;
       hosts_told = tells asked.hosts there.hosts there.hosts_is;
       start_told = tells asked.start there.start there.start_is;
+      keys_told = keys_tell asked.seals there.keys holds files.held is there.keys_is;
       starts = there.starts;
     }) loaded in
     let never : ⊥ = cc in never
 
 options_complete : OneLoaded → (asked : Asked) (files : FilesChange) (holds : List ℕ → Option (List ℕ))
-    (node : NodeStart) (end : End) (change : NodeChange) (reaches : Names → Type 0) → HoldsNode asked holds node →
+    (node : ReadyNode) (end : End) (change : NodeChange) (reaches : Names → Type 0) → HoldsNode asked holds node →
     files.held ≡ Some holds → files.faults_after ≡ files.faults_before → files.faults_before < last_count →
     (end.status ≡ status.LinkFault → ⊥) → (end.status ≡ status.OutFault → ⊥) →
     OptionsAnswer asked files end change reaches → IsEnded end.status
@@ -105,7 +124,7 @@ options_complete one asked files holds node end change reaches there is stays be
     served_ended end.status (node_served asked.turns runs.0 end.status change reaches runs.2) linked put
 
 answer_complete : OneLoaded → OneAsked → (words : List (List ℕ)) (files : FilesChange) (end : End)
-    (change : NodeChange) (reaches : Names → Type 0) (asked : Asked) (node : NodeStart)
+    (change : NodeChange) (reaches : Names → Type 0) (asked : Asked) (node : ReadyNode)
     (holds : List ℕ → Option (List ℕ)) → NodeAnswer words files end change reaches → IsAsked words asked →
     files.held ≡ Some holds → HoldsNode asked holds node → files.faults_after ≡ files.faults_before →
     files.faults_before < last_count → (end.status ≡ status.LinkFault → ⊥) → (end.status ≡ status.OutFault → ⊥) →

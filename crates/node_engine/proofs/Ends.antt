@@ -17,7 +17,7 @@ use Rattle.node_engine.specs.Nodes.{End, IsEndOf, IsNodeDue, OptionsAnswer, Runs
 use Rattle.node_engine.specs.Nodes.{inside_at_start}
 use Rattle.node_engine.specs.NodeWorlds.{Inside}
 use Rattle.node_engine.specs.Options.{Asked}
-use Rattle.node_engine.specs.NodeSources.{NodeStart}
+use Rattle.node_engine.specs.NodeSources.{ReadyNode}
 use Rattle.node_engine.specs.Statuses.{IsServed}
 use Rattle.node_engine.specs.Told.{Faults, Leaves, Names, NodeChange, Outside, ServesFrom}
 
@@ -48,6 +48,7 @@ refused_calmly (refusal.StartsDiffer field) there = (refl, refl)
 refused_calmly (refusal.BadCode file why) there = (refl, refl)
 refused_calmly (refusal.NoHost name) there = (refl, refl)
 refused_calmly (refusal.OtherHosts code hosts) there = (refl, refl)
+refused_calmly (refusal.NoKey file host) there = (refl, refl)
 
 due_calmly : (verdict : VerdictShape) (there : Outside) → Faults (end_of verdict).status there there
 due_calmly (Refuse why) there = refused_calmly why there
@@ -73,31 +74,31 @@ served_early start answer change (inr (inr breaks)) = elim breaks.by [
   | inr fault ↦ subst IsServed (sym fault) tt
 ]
 
-pub node_served : (turns : ℕ) (node : NodeStart) (answer : Status) (change : NodeChange) (reaches : Names → Type 0) →
+pub node_served : (turns : ℕ) (node : ReadyNode) (answer : Status) (change : NodeChange) (reaches : Names → Type 0) →
     RunsNode turns node answer change reaches → IsServed answer
 node_served turns node answer change reaches (row, is, inl early) =
-    served_early (beginning_of node row) answer change early
+    served_early (beginning_of node.start row) answer change early
 node_served turns node answer change reaches (row, is, inr serves) = serves.served
 
 -- memory ran out before it was to begin
-pub never_begun : (turns : ℕ) (node : NodeStart) (row : HostRow) (change : NodeChange) (reaches : Names → Type 0) →
-    slice_get node.source.hosts.hosts node.me.0 ≡ Some row → BeginsNothing change →
+pub never_begun : (turns : ℕ) (node : ReadyNode) (row : HostRow) (change : NodeChange) (reaches : Names → Type 0) →
+    slice_get node.start.source.hosts.hosts node.start.me.0 ≡ Some row → BeginsNothing change →
     RunsNode turns node status.NoMemory change reaches
 never_begun turns node row change reaches is nothing = (row, is, inl (inl (refl, nothing)))
 
 -- it was to begin, and broke
-pub broke_early : (turns : ℕ) (node : NodeStart) (row : HostRow) (answer : Status) (change : NodeChange)
-    (reaches : Names → Type 0) → slice_get node.source.hosts.hosts node.me.0 ≡ Some row →
-    EndsUnbegun (beginning_of node row) answer change → RunsNode turns node answer change reaches
+pub broke_early : (turns : ℕ) (node : ReadyNode) (row : HostRow) (answer : Status) (change : NodeChange)
+    (reaches : Names → Type 0) → slice_get node.start.source.hosts.hosts node.start.me.0 ≡ Some row →
+    EndsUnbegun (beginning_of node.start row) answer change → RunsNode turns node answer change reaches
 broke_early turns node row answer change reaches is early = (row, is, inl early)
 
 -- it began, and served
-pub served_begun : (turns : ℕ) (node : NodeStart) (row : HostRow) (answer : Status) (begun : NodeChange)
+pub served_begun : (turns : ℕ) (node : ReadyNode) (row : HostRow) (answer : Status) (begun : NodeChange)
     (new : Outside) (after : Names) (reaches : Names → Type 0) (inside later : Inside) →
-    slice_get node.source.hosts.hosts node.me.0 ≡ Some row → HasBegun (beginning_of node row) begun →
+    slice_get node.start.source.hosts.hosts node.start.me.0 ≡ Some row → HasBegun (beginning_of node.start row) begun →
     reaches begun.names_after → inside ≡ inside_at_start node row →
     IsServed answer →
-    ServesFrom node.source.code node.me turns answer (record { inside = inside; outside = begun.new })
+    ServesFrom node.start.source.code node.start.me turns answer (record { inside = inside; outside = begun.new })
     (record { inside = later; outside = new }) → Leaves answer begun.new new →
     RunsNode turns node answer (record {
       old = begun.old;

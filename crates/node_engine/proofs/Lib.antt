@@ -13,6 +13,7 @@ pub mod OneUnit
 pub mod OnlyRefusals
 pub mod Ready
 pub mod Rows
+pub mod SealedFrames
 pub mod Sealing
 pub mod Served
 pub mod SomeNode

@@ -1,7 +1,7 @@
 -- A node has one beginning, or is refused with one status.
 use Rattle.std.proofs.Common.{◌≡◌, ◌≢◌, ◌⊎◌, inl, inr, ℕ, ◌<◌, ◌≤◌, List, length, map, take, get_or, Option, Some}
 use Rattle.std.proofs.Common.{sym, ap, ap₂, ◌∙◌}
-use Rattle.std.proofs.Common.{subst, arith, Err}
+use Rattle.std.proofs.Common.{subst, arith, None, Result, Ok, Err}
 use Rattle.std.specs.Prelude.{All, slice_get}
 use Rattle.std.proofs.lemmas.List.{get_or-take, length-take}
 use Rattle.std.proofs.lemmas.Bool.{cases_eq, cases_lt}
@@ -23,9 +23,14 @@ use Rattle.front_end.specs.Starting.{StartingValues}
 use Rattle.front_end.specs.Verdicts.{VerdictShape, too_long}
 use Rattle.front_end.proofs.OneStart.{start_once}
 use Rattle.front_end.proofs.Stages.{IsOne, give, one_then, stop_with}
+use Rattle.node_engine.specs.declared.seals_file.SealsError.{SealsError}
+use Rattle.node_engine.specs.declared.seals_file.SealsError.TheVariants as error
 use Rattle.node_engine.specs.NodeSources.{AreHostsOf, CodeRead, IsNamed, NodeSource, bad_code, no_host, other_hosts}
-use Rattle.node_engine.specs.NodeSources.{NodeSources, NodeStart, NodeStarts, OfHost, PlacedNode, Valued}
-use Rattle.node_engine.specs.Nodes.{LoadedNode}
+use Rattle.node_engine.specs.NodeSources.{NodeSources, NodeStart, NodeStarts, OfHost, PlacedNode, ReadyNode, ReadyNodes}
+use Rattle.node_engine.specs.NodeSources.{Sealed, SealedBy, Valued}
+use Rattle.node_engine.specs.Nodes.{LoadedNode, TellsKeys}
+use Rattle.node_engine.specs.Seals.{SealsShape}
+use Rattle.node_engine.specs.SealsFile.{seals_of}
 use Rattle.node_engine.specs.Options.{Asked, SourceName, Program as from_program, Code as from_code, name_of}
 
 -- what is known of programs and host files
@@ -177,16 +182,43 @@ told_once holds held name first second is one two =
     (subst (λ (it : Option (List ℕ → Option (List ℕ))). Told it name (Some first)) is one)
     (subst (λ (it : Option (List ℕ → Option (List ℕ))). Told it name (Some second)) is two)
 
+-- one outcome of what a file of keys gives
+seals_once : (file : List ℕ) (node : NodeStart) (keys : Result SealsShape SealsError) → IsOne (SealedBy file node keys)
+seals_once file node (Ok seals) first second one two = one ∙ sym two
+seals_once file node (Err error.OutOfMemory) first second one two = absurd one
+seals_once file node (Err error.TooLong) first second one two = one ∙ sym two
+seals_once file node (Err (error.BadLine line)) first second one two = one ∙ sym two
+seals_once file node (Err (error.NoKey host)) first second one two = one ∙ sym two
+
+sealed_once : (seals : Option (List ℕ)) (keys : List ℕ) (node : NodeStart) → IsOne (Sealed seals keys node)
+sealed_once None keys node first second one two = one ∙ sym two
+sealed_once (Some file) keys node first second one two =
+    seals_once file node (seals_of node.source.code node.me keys) first second one two
+
+pub ready_once : OneSources → (asked : Asked) (source hosts start keys : List ℕ) →
+    IsOne (ReadyNodes asked source hosts start keys)
+ready_once laws asked source hosts start keys =
+    one_then (NodeStarts asked source hosts start) (Sealed asked.seals keys) (node_once laws asked source hosts start)
+    (λ it was. sealed_once asked.seals keys it)
+
+keys_once : (holds : List ℕ → Option (List ℕ)) (held : Option (List ℕ → Option (List ℕ))) (seals : Option (List ℕ))
+    (first second : List ℕ) → held ≡ Some holds → TellsKeys held seals first → TellsKeys held seals second →
+    first ≡ second
+keys_once holds held None first second is one two = one ∙ sym two
+keys_once holds held (Some name) first second is one two = told_once holds held name first second is one two
+
 pub loaded_once : OneSources → (asked : Asked) (files : FilesChange) (holds : List ℕ → Option (List ℕ))
-    (first second : Outcome NodeStart) → files.held ≡ Some holds → LoadedNode asked files first →
+    (first second : Outcome ReadyNode) → files.held ≡ Some holds → LoadedNode asked files first →
     LoadedNode asked files second → first ≡ second
 loaded_once laws asked files holds first second is one two =
     let source = told_once holds files.held (name_of asked.source) one.source two.source is one.source_told
     two.source_told in
     let hosts = told_once holds files.held asked.hosts one.hosts two.hosts is one.hosts_told two.hosts_told in
     let start = told_once holds files.held asked.start one.start two.start is one.start_told two.start_told in
-    node_once laws asked two.source two.hosts two.start first second
-    (subst (λ (bytes : List ℕ). NodeStarts asked bytes two.hosts two.start first) source
-    (subst (λ (bytes : List ℕ). NodeStarts asked one.source bytes two.start first) hosts
-    (subst (λ (bytes : List ℕ). NodeStarts asked one.source one.hosts bytes first) start one.starts)))
+    let keys = keys_once holds files.held asked.seals one.keys two.keys is one.keys_told two.keys_told in
+    ready_once laws asked two.source two.hosts two.start two.keys first second
+    (subst (λ (bytes : List ℕ). ReadyNodes asked bytes two.hosts two.start two.keys first) source
+    (subst (λ (bytes : List ℕ). ReadyNodes asked one.source bytes two.start two.keys first) hosts
+    (subst (λ (bytes : List ℕ). ReadyNodes asked one.source one.hosts bytes two.keys first) start
+    (subst (λ (bytes : List ℕ). ReadyNodes asked one.source one.hosts one.start bytes first) keys one.starts))))
     two.starts

@@ -1,5 +1,5 @@
 -- Where a node is not given its beginning, a refusal is due, and never a report.
-use Rattle.std.proofs.Common.{◌≡◌, ℕ, List, inl, inr, map, subst, sym}
+use Rattle.std.proofs.Common.{◌≡◌, ℕ, List, Option, Some, None, Result, Ok, Err, inl, inr, map, refl, subst, sym}
 use Rattle.host_code.specs.Code.{CodeShape}
 use Rattle.host_decl.specs.Hosts.{HostsShape}
 use Rattle.event_text.specs.Settings.{FieldForm, form_of}
@@ -12,7 +12,12 @@ use Rattle.front_end.specs.Stages.{Outcome, given, stopped, Then}
 use Rattle.front_end.specs.Starting.{StartingValues, long, bad_line, read}
 use Rattle.front_end.specs.Verdicts.{VerdictShape, Refuse, Print}
 use Rattle.std.specs.Prelude.{ℤ, ⊤}
-use Rattle.node_engine.specs.NodeSources.{CodeRead, NodeSource, NodeSources, NodeStarts, OfHost, PlacedNode, Valued}
+use Rattle.node_engine.specs.declared.seals_file.SealsError.{SealsError}
+use Rattle.node_engine.specs.declared.seals_file.SealsError.TheVariants as error
+use Rattle.node_engine.specs.NodeSources.{CodeRead, NodeSource, NodeSources, NodeStart, NodeStarts, OfHost, PlacedNode}
+use Rattle.node_engine.specs.NodeSources.{ReadyNode, ReadyNodes, Sealed, SealedBy, Valued}
+use Rattle.node_engine.specs.Seals.{SealsShape}
+use Rattle.node_engine.specs.SealsFile.{seals_of}
 use Rattle.node_engine.specs.Options.{Asked, SourceName, Program as from_program, Code as from_code, name_of}
 
 abbrev pub IsRefusal : VerdictShape → Type 0
@@ -93,3 +98,27 @@ node_refuses asked source hosts start =
     (OfHost asked.host (name_of asked.source) asked.hosts)
     (source_refuses asked.source source hosts asked.start start)
     (λ it. host_refuses asked.host (name_of asked.source) asked.hosts it)
+
+-- a node that stops with what it stops with
+stopped_once : (verdict other : VerdictShape) (first second : Outcome ReadyNode) → first ≡ stopped verdict →
+    second ≡ stopped other → first ≡ second → verdict ≡ other
+stopped_once verdict other first second one two is = cc
+
+seals_refuse : (file : List ℕ) (node : NodeStart) (keys : Result SealsShape SealsError) →
+    Refuses (SealedBy file node keys)
+seals_refuse file node (Ok seals) verdict is = absurd (let never : ⊥ = cc in never)
+seals_refuse file node (Err error.OutOfMemory) verdict is = absurd is
+seals_refuse file node (Err error.TooLong) verdict is = is_refused verdict _ (stopped_once verdict _ _ _ refl refl is)
+seals_refuse file node (Err (error.BadLine line)) verdict is = is_refused verdict _ (stopped_once verdict _ _ _ refl refl is)
+seals_refuse file node (Err (error.NoKey host)) verdict is = is_refused verdict _ (stopped_once verdict _ _ _ refl refl is)
+
+sealed_refuses : (seals : Option (List ℕ)) (keys : List ℕ) (node : NodeStart) → Refuses (Sealed seals keys node)
+sealed_refuses None keys node verdict is = absurd (let never : ⊥ = cc in never)
+sealed_refuses (Some file) keys node verdict is =
+    seals_refuse file node (seals_of node.source.code node.me keys) verdict is
+
+pub ready_refuses : (asked : Asked) (source hosts start keys : List ℕ) →
+    Refuses (ReadyNodes asked source hosts start keys)
+ready_refuses asked source hosts start keys =
+    then_refuses (NodeStarts asked source hosts start) (Sealed asked.seals keys)
+    (node_refuses asked source hosts start) (λ it. sealed_refuses asked.seals keys it)

@@ -1,13 +1,15 @@
 -- Whatever the files of a node hold, a node is due, or a refusal.
 use Rattle.std.proofs.Common.{◌≡◌, ◌≢◌, ◌⊎◌, ℕ, suc, ◌≤◌, List, [], ◌∷◌, length, map, take, Some, Ok, Err}
-use Rattle.std.proofs.Common.{Result, inl, inr, refl, ap, ap₂, arith}
-use Rattle.std.specs.Prelude.{All, slice_get}
+use Rattle.std.proofs.Common.{Bool, true, false, if◌then◌else◌, Option, None, Result, inl, inr, refl, ap, ap₂, arith}
+use Rattle.std.specs.Prelude.{⊤, All, nat_lt, slice_get}
 use Rattle.std.proofs.lemmas.Bool.{cases_eq, cases_lt}
 use Rattle.std.proofs.lemmas.List.Elements.{All-cons, All-nil}
 use Rattle.js_base.specs.declared.limits.TheConstants.{SPLIT_FILE_BYTES}
 use Rattle.js_base.proofs.Decisions.{Decided, same_text}
 use Rattle.label_lattice.specs.declared.label.Label.{Label}
+use Rattle.event_text.specs.Lines.{LineShape, said_lines}
 use Rattle.event_text.specs.Settings.{form_of}
+use Rattle.js_base.specs.declared.ids.HostId.{HostId}
 use Rattle.host_code.specs.Code.{CodeShape, CodeHostShape}
 use Rattle.host_decl.specs.Hosts.{HostsShape, HostShape}
 use Rattle.split_file.specs.declared.error.SplitError.{SplitError}
@@ -20,8 +22,15 @@ use Rattle.front_end.specs.Starting.{StartingValues}
 use Rattle.front_end.specs.Verdicts.{too_long}
 use Rattle.front_end.proofs.SomeStages.{HasOutcome, some_then}
 use Rattle.front_end.proofs.SomeStart.{SomeStart, start_some}
-use Rattle.node_engine.specs.NodeSources.{CodeRead, NodeSource, NodeSources, NodeStarts, OfHost}
-use Rattle.node_engine.specs.NodeSources.{PlacedNode, Valued, bad_code, named_host, no_host, other_hosts}
+use Rattle.node_engine.specs.declared.seals_file.SealsError.{SealsError}
+use Rattle.node_engine.specs.declared.seals_file.SealsError.TheVariants as error
+use Rattle.node_engine.specs.declared.seals_file.TheConstants.{SEALS_BYTES}
+use Rattle.node_engine.specs.NodeSources.{CodeRead, NodeSource, NodeSources, NodeStart, NodeStarts, OfHost, ReadyNodes}
+use Rattle.node_engine.specs.NodeSources.{PlacedNode, Sealed, SealedBy, Valued, bad_code, named_host, no_host}
+use Rattle.node_engine.specs.NodeSources.{other_hosts}
+use Rattle.node_engine.specs.Seals.{SealedLinks, SealsShape}
+use Rattle.node_engine.specs.SealsFile.{behind_line, behind_lines, first_lacking, no_links, or_bad_line, seals_of}
+use Rattle.node_engine.specs.SealsFile.{unless_lacking, whole_links, with_line}
 use Rattle.node_engine.specs.Options.{Asked, SourceName, Program as from_program, Code as from_code, name_of}
 
 -- what is known of programs, host files and files of starting values
@@ -132,3 +141,63 @@ node_some laws asked source hosts start =
     (OfHost asked.host (name_of asked.source) asked.hosts)
     (source_some laws asked.source source hosts asked.start start)
     (λ it was. host_some asked.host (name_of asked.source) asked.hosts it)
+
+-- ---- seals
+
+-- no want of memory is told of what a file says
+abbrev NotMemory : {X : Type 0} → Result X SealsError → Type 0
+NotMemory (Ok x) = ⊤
+NotMemory (Err why) = why ≢ error.OutOfMemory
+
+line_not : (number : ℕ) (links : Option SealedLinks) → NotMemory (or_bad_line number links)
+line_not number None = λ same. cc
+line_not number (Some links) = tt
+
+behind_not : (code : CodeShape) (me : HostId) (line : LineShape) (links : Result SealedLinks SealsError) →
+    NotMemory links → NotMemory (behind_line code me links line)
+behind_not code me line (Ok links) not = line_not line.number (with_line code me line.words links)
+behind_not code me line (Err why) not = not
+
+lines_not : (code : CodeShape) (me : HostId) (lines : List LineShape) (links : Result SealedLinks SealsError) →
+    NotMemory links → NotMemory (behind_lines code me lines links)
+lines_not code me [] links not = not
+lines_not code me (line ∷ others) links not =
+    lines_not code me others (behind_line code me links line) (behind_not code me line links not)
+
+lacking_not : (links : SealedLinks) (host : Option HostId) → NotMemory (unless_lacking links host)
+lacking_not links None = tt
+lacking_not links (Some host) = λ same. cc
+
+whole_not : (code : CodeShape) (me : HostId) (links : Result SealedLinks SealsError) → NotMemory links →
+    NotMemory (whole_links code me links)
+whole_not code me (Ok links) not = lacking_not links (first_lacking links me 0 (length code.hosts))
+whole_not code me (Err why) not = not
+
+unless_long : (long : Bool) (keys : Result SealsShape SealsError) → NotMemory keys →
+    NotMemory (if long then Err error.TooLong else keys)
+unless_long true keys not = λ same. cc
+unless_long false keys not = not
+
+seals_not : (code : CodeShape) (me : HostId) (bytes : List ℕ) → NotMemory (seals_of code me bytes)
+seals_not code me bytes =
+    unless_long (nat_lt SEALS_BYTES (length bytes)) _
+    (whole_not code me _ (lines_not code me (said_lines bytes) (Ok (no_links (length code.hosts))) tt))
+
+seals_some : (file : List ℕ) (node : NodeStart) (keys : Result SealsShape SealsError) → NotMemory keys →
+    HasOutcome (SealedBy file node keys)
+seals_some file node (Ok seals) not = (_, refl)
+seals_some file node (Err error.OutOfMemory) not = absurd (not refl)
+seals_some file node (Err error.TooLong) not = (_, refl)
+seals_some file node (Err (error.BadLine line)) not = (_, refl)
+seals_some file node (Err (error.NoKey host)) not = (_, refl)
+
+sealed_some : (seals : Option (List ℕ)) (keys : List ℕ) (node : NodeStart) → HasOutcome (Sealed seals keys node)
+sealed_some None keys node = (_, refl)
+sealed_some (Some file) keys node =
+    seals_some file node (seals_of node.source.code node.me keys) (seals_not node.source.code node.me keys)
+
+pub ready_some : SomeSources → (asked : Asked) (source hosts start keys : List ℕ) →
+    HasOutcome (ReadyNodes asked source hosts start keys)
+ready_some laws asked source hosts start keys =
+    some_then (NodeStarts asked source hosts start) (Sealed asked.seals keys)
+    (node_some laws asked source hosts start) (λ it was. sealed_some asked.seals keys it)

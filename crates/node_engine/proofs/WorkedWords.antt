@@ -4,7 +4,7 @@ use Rattle.std.proofs.lemmas.Fmt.{decimal_digit}
 use Rattle.clap.specs.Words.{Text, fault_of}
 use Rattle.clap.specs.declared.error.kind.ErrorKind.TheVariants as kind
 use Rattle.clap.proofs.OnLiterals.{clap_on_literals}
-use Rattle.node_engine.specs.Options.{Asked, IsAsked, Program, node_command, value_of}
+use Rattle.node_engine.specs.Options.{Asked, Code, IsAsked, Program, node_command, value_of}
 
 -- ---- no words
 
@@ -49,12 +49,17 @@ given_turns : value_of given (codes "turns") ≡ Some (codes "4")
 unfolding clap_on_literals
 given_turns = refl
 
+given_seals : value_of given (codes "seals") ≡ None
+unfolding clap_on_literals
+given_seals = refl
+
 pub all_options : IsAsked given (record {
   source = Program (codes "P");
   hosts = codes "H";
   host = codes "A";
   start = codes "S";
   turns = 4;
+  seals = None;
 })
 all_options = record {
   parses = given_parses;
@@ -63,5 +68,63 @@ all_options = record {
   start = given_start;
   turns = given_turns ∙ ap Some (sym (decimal_digit 4 (omega arith)));
   count = record { least = omega arith; most = omega arith };
+  seals = given_seals;
   source = (given_program, given_code);
+}
+
+-- ---- with seals
+
+abbrev sealed : List Text
+sealed = codes "--code" ∷ codes "C" ∷ codes "--hosts" ∷ codes "H" ∷ codes "--host" ∷ codes "A" ∷
+    codes "--start" ∷ codes "S" ∷ codes "--turns" ∷ codes "4" ∷ codes "--seals" ∷ codes "K" ∷ []
+
+sealed_parses : fault_of node_command sealed ≡ []
+unfolding clap_on_literals
+sealed_parses = refl
+
+sealed_program : value_of sealed (codes "program") ≡ None
+unfolding clap_on_literals
+sealed_program = refl
+
+sealed_code : value_of sealed (codes "code") ≡ Some (codes "C")
+unfolding clap_on_literals
+sealed_code = refl
+
+sealed_hosts : value_of sealed (codes "hosts") ≡ Some (codes "H")
+unfolding clap_on_literals
+sealed_hosts = refl
+
+sealed_host : value_of sealed (codes "host") ≡ Some (codes "A")
+unfolding clap_on_literals
+sealed_host = refl
+
+sealed_start : value_of sealed (codes "start") ≡ Some (codes "S")
+unfolding clap_on_literals
+sealed_start = refl
+
+sealed_turns : value_of sealed (codes "turns") ≡ Some (codes "4")
+unfolding clap_on_literals
+sealed_turns = refl
+
+sealed_seals : value_of sealed (codes "seals") ≡ Some (codes "K")
+unfolding clap_on_literals
+sealed_seals = refl
+
+pub with_seals : IsAsked sealed (record {
+  source = Code (codes "C");
+  hosts = codes "H";
+  host = codes "A";
+  start = codes "S";
+  turns = 4;
+  seals = Some (codes "K");
+})
+with_seals = record {
+  parses = sealed_parses;
+  hosts = sealed_hosts;
+  host = sealed_host;
+  start = sealed_start;
+  turns = sealed_turns ∙ ap Some (sym (decimal_digit 4 (omega arith)));
+  count = record { least = omega arith; most = omega arith };
+  seals = sealed_seals;
+  source = (sealed_program, sealed_code);
 }

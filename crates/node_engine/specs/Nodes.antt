@@ -1,6 +1,6 @@
 -- A node from its words and files to its end: what is due, and what is left of links and journal.
-use Rattle.std.specs.Prelude.{◌≡◌, ◌⊎◌, ◌<◌, ℕ, false, List, [], ◌∷◌, map, Option, Some, None, slice_get}
-use Rattle.std.specs.Option.{option_map}
+use Rattle.std.specs.Prelude.{◌≡◌, ◌⊎◌, ◌<◌, ℕ, false, List, [], ◌∷◌, length, map, Option, Some, None, slice_get}
+use Rattle.std.specs.Option.{option_map, option_to_list}
 use Rattle.js_base.specs.Counts.{last_count}
 use Rattle.js_base.specs.declared.limits.TheConstants.{PROGRAM_BYTES, SPLIT_FILE_BYTES}
 use Rattle.js_base.specs.declared.status.Status.{Status}
@@ -17,7 +17,7 @@ use Rattle.front_end.specs.Verdicts.{VerdictShape, Refuse, Print, verdict_shape}
 use Rattle.node_links.specs.Journals.{Named}
 use Rattle.node_engine.specs.declared.node_end.NodeEnd as native
 use Rattle.node_engine.specs.Beginnings.{Beginning, BeginsNothing, EndsUnbegun, LinksBegan}
-use Rattle.node_engine.specs.NodeSources.{NodeStart, NodeStarts}
+use Rattle.node_engine.specs.NodeSources.{NodeStart, ReadyNode, ReadyNodes}
 use Rattle.node_engine.specs.NodeWorlds.{Inside, NodeWorld}
 use Rattle.node_engine.specs.Options.{Asked, IsAsked, SourceName, Program, Code, name_of}
 use Rattle.node_engine.specs.Serving.{Serves}
@@ -32,26 +32,33 @@ most_of (Code name) = SPLIT_FILE_BYTES
 
 -- the files that are loaded for a node, in order
 abbrev pub files_of : Asked → List (List ℕ)
-files_of asked = name_of asked.source ∷ asked.hosts ∷ asked.start ∷ []
+files_of asked = name_of asked.source ∷ asked.hosts ∷ asked.start ∷ option_to_list asked.seals
 
 -- one of them was not loaded
-abbrev pub NotLoaded : Asked → FilesChange → Outcome NodeStart → Type 0
+abbrev pub NotLoaded : Asked → FilesChange → Outcome ReadyNode → Type 0
 NotLoaded asked files (given node) = ⊥
 NotLoaded asked files (stopped verdict) = StopsLoading (files_of asked) files verdict
 
+-- what files tell of the file of keys, where one is asked for; otherwise there are none
+abbrev pub TellsKeys : Option (List ℕ → Option (List ℕ)) → Option (List ℕ) → List ℕ → Type 0
+TellsKeys held None keys = keys ≡ []
+TellsKeys held (Some name) keys = TellsFile held name (Some keys)
+
 -- all were, and hold bytes that give this node or are refused
-pub record LoadedNode (asked : Asked) (files : FilesChange) (end : Outcome NodeStart) : Type 0 where
-  pub loads : LoadsWell 3 files
+pub record LoadedNode (asked : Asked) (files : FilesChange) (end : Outcome ReadyNode) : Type 0 where
+  pub loads : LoadsWell (length (files_of asked)) files
   pub source : List ℕ
   pub hosts : List ℕ
   pub start : List ℕ
+  pub keys : List ℕ
   pub source_told : TellsFile files.held (name_of asked.source) (Some source)
   pub hosts_told : TellsFile files.held asked.hosts (Some hosts)
   pub start_told : TellsFile files.held asked.start (Some start)
-  pub starts : NodeStarts asked source hosts start end
+  pub keys_told : TellsKeys files.held asked.seals keys
+  pub starts : ReadyNodes asked source hosts start keys end
 
 -- the node that is asked for, or what is due where there is none
-abbrev pub IsNodeDue : Asked → FilesChange → Outcome NodeStart → Type 0
+abbrev pub IsNodeDue : Asked → FilesChange → Outcome ReadyNode → Type 0
 IsNodeDue asked files end = NotLoaded asked files end ⊎ LoadedNode asked files end
 
 -- ---- ends
@@ -87,20 +94,20 @@ beginning_of node row = record {
   name = row.name;
 }
 
--- what is inside of the node of a row as it starts: its host, with the key of the row, and nothing is sealed
-abbrev pub inside_at_start : NodeStart → declared_hosts.HostShape → Inside
+-- what is inside of the node of a row as it starts: its host, with the key of the row, and its seals
+abbrev pub inside_at_start : ReadyNode → declared_hosts.HostShape → Inside
 inside_at_start node row = record {
-  host = host_at_start node.source.code node.source.values row.key node.me;
-  seals = None;
+  host = host_at_start node.start.source.code node.start.source.values row.key node.start.me;
+  seals = node.seals;
 }
 
 -- It began, and then served; and where links and journal tell what they gave and took, it did so from what is
 -- inside of it as it starts. A journal says nothing of its names when something is put: so they are said of the moment
 -- before the first put. Links keep as whom they began.
 pub record ServesNode
-    (turns : ℕ) (node : NodeStart) (row : declared_hosts.HostShape) (answer : Status) (change : NodeChange)
+    (turns : ℕ) (node : ReadyNode) (row : declared_hosts.HostShape) (answer : Status) (change : NodeChange)
     (reaches : Names → Type 0) : Type 0 where
-  pub links : LinksBegan (beginning_of node row) change
+  pub links : LinksBegan (beginning_of node.start row) change
   pub names : Names
   pub named : Named row.name change.names_before names
   pub reached : reaches names
@@ -109,14 +116,14 @@ pub record ServesNode
       Told world
       (record { inside = inside_at_start node row; outside = change.old }) →
       world.ended ≡ false →
-      (later : Inside) × TellsOf (Serves node.source.code node.me turns answer world)
+      (later : Inside) × TellsOf (Serves node.start.source.code node.start.me turns answer world)
       (record { inside = later; outside = change.new })
 
 -- a node of a row of the host file does not come to its first unit, or serves
-abbrev pub RunsNode : ℕ → NodeStart → Status → NodeChange → (Names → Type 0) → Type 0
+abbrev pub RunsNode : ℕ → ReadyNode → Status → NodeChange → (Names → Type 0) → Type 0
 RunsNode turns node answer change reaches =
-    (row : declared_hosts.HostShape) × (slice_get node.source.hosts.hosts node.me.0 ≡ Some row)
-    × (EndsUnbegun (beginning_of node row) answer change ⊎ ServesNode turns node row answer change reaches)
+    (row : declared_hosts.HostShape) × (slice_get node.start.source.hosts.hosts node.start.me.0 ≡ Some row)
+    × (EndsUnbegun (beginning_of node.start row) answer change ⊎ ServesNode turns node row answer change reaches)
 
 -- ---- answers
 
@@ -126,7 +133,7 @@ OptionsAnswer asked files end change reaches =
     (((end ≡ without_refusal status.NoMemory)
     ⊎ ((verdict : VerdictShape) × IsNodeDue asked files (stopped verdict) × (end ≡ end_of verdict)))
     × BeginsNothing change)
-    ⊎ ((node : NodeStart) × IsNodeDue asked files (given node)
+    ⊎ ((node : ReadyNode) × IsNodeDue asked files (given node)
     × RunsNode asked.turns node end.status change reaches × (end.refusal ≡ None))
 
 -- words ask for a node, or they ask for none, or memory ran out
@@ -144,21 +151,28 @@ NodeAnswers words files answer change reaches =
 
 -- ---- files that are accepted
 
+-- these keys are held, where a file of them is asked for
+abbrev pub HoldsKeys : (List ℕ → Option (List ℕ)) → Option (List ℕ) → List ℕ → Type 0
+HoldsKeys holds None keys = keys ≡ []
+HoldsKeys holds (Some name) keys = holds name ≡ Some keys
+
 -- what the files of a node hold gives this node
-pub record HoldsNode (asked : Asked) (holds : List ℕ → Option (List ℕ)) (node : NodeStart) : Type 0 where
+pub record HoldsNode (asked : Asked) (holds : List ℕ → Option (List ℕ)) (node : ReadyNode) : Type 0 where
   pub source : List ℕ
   pub hosts : List ℕ
   pub start : List ℕ
+  pub keys : List ℕ
   pub source_is : holds (name_of asked.source) ≡ Some source
   pub hosts_is : holds asked.hosts ≡ Some hosts
   pub start_is : holds asked.start ≡ Some start
-  pub starts : NodeStarts asked source hosts start (given node)
+  pub keys_is : HoldsKeys holds asked.seals keys
+  pub starts : ReadyNodes asked source hosts start keys (given node)
 
 -- Where the files that the words name are accepted, and neither they nor links nor journal count a fault, the node ends
 -- as one does where nothing outside fails.
 abbrev pub IsComplete : List (List ℕ) → FilesChange → Status → (old new : Outside) → Type 0
 IsComplete words files answer old new =
-    (asked : Asked) (node : NodeStart) (holds : List ℕ → Option (List ℕ)) → IsAsked words asked →
+    (asked : Asked) (node : ReadyNode) (holds : List ℕ → Option (List ℕ)) → IsAsked words asked →
     files.held ≡ Some holds → HoldsNode asked holds node → files.faults_after ≡ files.faults_before →
     files.faults_before < last_count → new.links.faults ≡ old.links.faults → old.links.faults < last_count →
     new.journal.faults ≡ old.journal.faults → old.journal.faults < last_count → IsEnded answer

@@ -4,6 +4,7 @@
 -- `--start=` with an empty word; such a name is a file that is missing.
 use Rattle.std.specs.Prelude.{◌≡◌, ℕ, List, [], Option, Some, None, true, codes}
 use Rattle.std.specs.Fmt.{decimal}
+use Rattle.std.specs.Option.{option_map}
 use Rattle.clap.specs.Words.{App, Rule, Text, fault_of, first_of, matches_of, new_app, new_rule, with_rule}
 use Rattle.clap.specs.declared.builder.action.ArgAction.TheVariants.{Set}
 use Rattle.front_end.specs.StepCounts.{IsStepCount}
@@ -27,10 +28,11 @@ without_name app = record app { top = record app.top { no_binary_name = true } }
 
 -- the command of just the options of a node
 abbrev pub node_command : App
-node_command = with_rule (with_rule (with_rule (with_rule (with_rule (with_rule
+node_command = with_rule (with_rule (with_rule (with_rule (with_rule (with_rule (with_rule
     (without_name (new_app (codes "jifhost")))
     (required_option (codes "hosts"))) (required_option (codes "host"))) (required_option (codes "start")))
-    (required_option (codes "turns"))) (set_option (codes "program"))) (set_option (codes "code"))
+    (required_option (codes "turns"))) (set_option (codes "program"))) (set_option (codes "code")))
+    (set_option (codes "seals"))
 
 -- the value that words give an option
 abbrev pub value_of : List Text → Text → Option Text
@@ -54,6 +56,7 @@ pub record Asked : Type 0 where
   pub host : List ℕ
   pub start : List ℕ
   pub turns : ℕ
+  pub seals : Option (List ℕ)
 
 -- exactly one of both is given, and it is this source
 abbrev pub IsSource : Option Text → Option Text → SourceName → Type 0
@@ -68,6 +71,7 @@ pub record IsAsked (words : List (List ℕ)) (asked : Asked) : Type 0 where
   pub start : value_of words (codes "start") ≡ Some asked.start
   pub turns : value_of words (codes "turns") ≡ Some (decimal asked.turns)
   pub count : IsStepCount asked.turns
+  pub seals : value_of words (codes "seals") ≡ asked.seals
   pub source : IsSource (value_of words (codes "program")) (value_of words (codes "code")) asked.source
 
 -- ---- the options that were read, as contracts see them
@@ -83,4 +87,5 @@ asked_shape options = record {
   host = options.host.now;
   start = options.start.now;
   turns = options.turns;
+  seals = option_map (λ name. name.now) options.seals;
 }

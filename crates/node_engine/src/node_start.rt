@@ -65,7 +65,7 @@ fn other_hosts(alloc: Global, code: &str, hosts: &str) -> Stop
 }
 
 /// Two texts again.
-fn copies(alloc: Global, one: &str, other: &str) -> Result<(String, String), AllocError>
+pub(crate) fn copies(alloc: Global, one: &str, other: &str) -> Result<(String, String), AllocError>
     ensures { IfOk result (λ both. (string_bytes both.0 ≡ one.now) × (string_bytes both.1 ≡ other.now)) }
 {
     let first = String::from_str(alloc, one)?;

@@ -1,10 +1,10 @@
 //! The command line of a node.
 
-ghost use Rattle.std.specs.Prelude.{◌≡◌, ◌≢◌, ◌∷◌, [], List, false, codes, map, option_map, string_bytes};
+ghost use Rattle.std.specs.Prelude.{◌≡◌, ◌≢◌, ◌∷◌, [], List, None, Some, false, codes, map, option_map, string_bytes};
 ghost use Rattle.std.specs.Prelude.{IfErr, IfNone, IfOk, IfSome};
 ghost use Rattle.clap.specs.Words.{HasMatchesOf, Text, app_of, fault_of, kind_of, new_app, rule_of};
 ghost use Rattle.node_engine.specs.Options.{Asked, IsAsked, IsSource, asked_shape, node_command, required_option};
-ghost use Rattle.node_engine.specs.Options.{Program, SourceName, set_option, source_name, without_name};
+ghost use Rattle.node_engine.specs.Options.{Code, Program, SourceName, set_option, source_name, without_name};
 
 use clap::error::ErrorKind;
 use clap::{Arg, ArgAction, ArgMatches, Command, Error};
@@ -28,6 +28,8 @@ pub struct Options<'a> {
     pub host: &'a str,
     pub start: &'a str,
     pub turns: u64,
+    /// the file of keys, where frames are to be sealed
+    pub seals: Option<&'a str>,
 }
 
 /// Why no options were read.
@@ -78,12 +80,14 @@ fn asked_by<'a>(matches: &ArgMatches<'a>) -> Option<Options<'a>>
     let word = matches.get_str("turns")?;
     let turns = step_count(word)?;
     let source = one_source(matches.get_str("program"), matches.get_str("code"))?;
+    let seals = matches.get_str("seals");
     Some(Options {
         source,
         hosts,
         host,
         start,
         turns,
+        seals,
     })
 }
 
@@ -136,7 +140,8 @@ fn command<'a>(alloc: Global) -> Result<Command<'a>, AllocError>
         .arg(required_option(alloc, "start"))?
         .arg(required_option(alloc, "turns"))?
         .arg(set_option(alloc, "program"))?
-        .arg(set_option(alloc, "code"))
+        .arg(set_option(alloc, "code"))?
+        .arg(set_option(alloc, "seals"))
 }
 
 /// The command without options, whose words begin behind the program's name.
@@ -174,5 +179,16 @@ pub fn option_laws()
           host = codes "A";
           start = codes "S";
           turns = 4;
+          seals = None;
+        }) }
+    ensures with_seals { IsAsked (codes "--code" ∷ codes "C" ∷ codes "--hosts" ∷ codes "H" ∷ codes "--host" ∷
+        codes "A" ∷ codes "--start" ∷ codes "S" ∷ codes "--turns" ∷ codes "4" ∷ codes "--seals" ∷ codes "K" ∷ [])
+        (record {
+          source = Code (codes "C");
+          hosts = codes "H";
+          host = codes "A";
+          start = codes "S";
+          turns = 4;
+          seals = Some (codes "K");
         }) }
 {}

@@ -2,14 +2,13 @@
 
 ghost use Rattle.std.specs.Prelude.{◌≡◌, IfErr, IfOk, OnOk, map, string_bytes};
 ghost use Rattle.node_engine.specs.Beginnings.{EndsUnbegun, HasBegun};
-ghost use Rattle.node_engine.specs.NodeSources.{IsStarted, node_start};
+ghost use Rattle.node_engine.specs.NodeSources.{IsStarted, ready_node};
 ghost use Rattle.node_engine.specs.Nodes.{RunsNode};
 ghost use Rattle.node_engine.specs.Statuses.{status_in, status_of};
 ghost use Rattle.node_engine.specs.Told.{Faults, Reaches, node_change, outside};
 
 use crate::node_error::NodeError;
-use crate::node_start::NodeStart;
-use crate::seals::Seals;
+use crate::node_files::ReadyNode;
 use crate::serving::serve;
 use host_core::Host;
 use host_decl::HostRow;
@@ -20,32 +19,33 @@ use std::alloc::Global;
 /// Runs a node, for so many turns at most.
 pub fn run_node<L: Links, R: Journal>(
     alloc: Global,
-    node: &NodeStart,
+    node: ReadyNode,
     turns: u64,
     links: &mut L,
     journal: &mut R,
 ) -> Status
-    requires { IsStarted node.now }
-    ensures runs { RunsNode turns (node_start node.now) result
+    requires { IsStarted node.start }
+    ensures runs { RunsNode turns (ready_node node) result
         (node_change L.Links R.Sink R.named links.old links.new journal.old journal.new) (Reaches R.named) }
     ensures faults { Faults result (outside L.Links R.Sink links.old journal.old)
         (outside L.Links R.Sink links.new journal.new) }
 {
-    let source = &node.source;
+    let ReadyNode { start, mut seals } = node;
+    let source = &start.source;
     let rows = source.hosts.hosts();
-    let row = &rows[node.me.0 as usize];
-    let Ok(mut host) = Host::start(alloc, &source.code, node.me, *row.key(), &source.store) else {
+    let row = &rows[start.me.0 as usize];
+    let Ok(mut host) = Host::start(alloc, &source.code, start.me, *row.key(), &source.store) else {
         return Status::NoMemory;
     };
-    match begin(alloc, node.me, rows, row.name(), links, journal) {
+    match begin(alloc, start.me, rows, row.name(), links, journal) {
         Ok(()) => serve(
             alloc,
             &mut host,
             &source.code,
-            node.me,
+            start.me,
             links,
             journal,
-            &mut Seals::none(),
+            &mut seals,
             turns,
         ),
         Err(error) => error.status(),

@@ -5,7 +5,7 @@ ghost use Rattle.front_end.specs.Loads.{FilesChange};
 ghost use Rattle.front_end.specs.Stages.{Outcome, stopped};
 ghost use Rattle.front_end.specs.Verdicts.{Print};
 ghost use Rattle.js_base.specs.declared.status.Status.{Status};
-ghost use Rattle.node_engine.specs.NodeSources.{NodeStart, NodeStarts};
+ghost use Rattle.node_engine.specs.NodeSources.{NodeStart, NodeStarts, ReadyNode, ReadyNodes};
 ghost use Rattle.node_engine.specs.Nodes.{LoadedNode};
 ghost use Rattle.node_engine.specs.Options.{Asked};
 
@@ -27,9 +27,18 @@ pub fn node_laws()
     ensures no_report { (asked : Asked) (source hosts start : List ℕ) (answer : Status) (text : List ℕ) →
         NodeStarts asked source hosts start (stopped (Print answer text)) → ⊥ }
 
+    // So it is with a file of keys, where one is asked for.
+    ensures one_ready { (asked : Asked) (source hosts start keys : List ℕ) (first second : Outcome ReadyNode) →
+        ReadyNodes asked source hosts start keys first → ReadyNodes asked source hosts start keys second →
+        first ≡ second }
+    ensures some_ready { (asked : Asked) (source hosts start keys : List ℕ) →
+        (end : Outcome ReadyNode) × ReadyNodes asked source hosts start keys end }
+    ensures no_ready_report { (asked : Asked) (source hosts start keys : List ℕ) (answer : Status) (text : List ℕ) →
+        ReadyNodes asked source hosts start keys (stopped (Print answer text)) → ⊥ }
+
     // Two nodes that are due by what files hold are the same.
     ensures one_loaded { (asked : Asked) (files : FilesChange) (holds : List ℕ → Option (List ℕ))
-        (first second : Outcome NodeStart) → files.held ≡ Some holds →
+        (first second : Outcome ReadyNode) → files.held ≡ Some holds →
         LoadedNode asked files first → LoadedNode asked files second → first ≡ second }
 {
     source_laws();

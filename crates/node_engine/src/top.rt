@@ -1,8 +1,9 @@
 //! The top calls: a node from its words and files to its end.
 
-ghost use Rattle.std.specs.Prelude.{◌≡◌, ◌≤◌, ◌+◌, map, string_bytes};
+ghost use Rattle.std.specs.Prelude.{◌≡◌, ◌≤◌, ◌+◌, length, map, string_bytes};
 ghost use Rattle.front_end.specs.Loads.{AreKept, files_change};
 ghost use Rattle.node_engine.specs.Nodes.{IsComplete, IsEndOf, NodeAnswer, NodeAnswers, OptionsAnswer, end_shape};
+ghost use Rattle.node_engine.specs.Nodes.{files_of};
 ghost use Rattle.node_engine.specs.Options.{Asked, IsAsked, asked_shape};
 ghost use Rattle.node_engine.specs.Told.{Faults, Reaches, node_change, outside};
 
@@ -22,14 +23,14 @@ use std::alloc::Global;
 /// - `Usage`: the words ask for no node.
 /// - `SourceRefused`: the program is refused for its text, its names or its labels; or no host may hold some part of
 ///   it.
-/// - `InputRefused`: a file is absent; the host file, the split file or the file of starting values is refused; the
-///   host file has no host of the name; or the code is for other hosts.
+/// - `InputRefused`: a file is absent; the host file, the split file, the file of starting values or that of keys is
+///   refused; the host file has no host of the name; or the code is for other hosts.
 /// - `FileFault`: a file could not be read.
 /// - `LinkFault`, `OutFault`: links or journal could not begin.
 /// - `NoMemory`: memory ran out.
 ///
-/// Files are loaded in the order program or code, hosts, start, and after the first that is absent or could not be read
-/// none is loaded. Nothing is saved.
+/// Files are loaded in the order program or code, hosts, start, seals, and after the first that is absent or could not be
+/// read none is loaded. Nothing is saved.
 pub fn jifhost<F: Files, L: Links, R: Journal>(
     alloc: Global,
     words: &[String],
@@ -44,7 +45,8 @@ pub fn jifhost<F: Files, L: Links, R: Journal>(
     // Where the files that the words name are accepted, and nothing outside counts a fault, it serves to an end.
     ensures complete { IsComplete (map string_bytes words.now) (files_change F.Files files.old files.new) result
         (outside L.Links R.Sink links.old journal.old) (outside L.Links R.Sink links.new journal.new) }
-    ensures loads { F.loads files.new ≤ F.loads files.old + 3 }
+    ensures loads { (asked : Asked) → IsAsked (map string_bytes words.now) asked →
+        F.loads files.new ≤ F.loads files.old + length (files_of asked) }
     ensures no_loads { ((asked : Asked) → ¬ IsAsked (map string_bytes words.now) asked) →
         F.loads files.new ≡ F.loads files.old }
     ensures kept { AreKept (files_change F.Files files.old files.new) }
@@ -68,7 +70,8 @@ pub fn run_jifhost<F: Files, L: Links, R: Journal>(
         (node_change L.Links R.Sink R.named links.old links.new journal.old journal.new) (Reaches R.named) }
     ensures complete { IsComplete (map string_bytes words.now) (files_change F.Files files.old files.new)
         result.status (outside L.Links R.Sink links.old journal.old) (outside L.Links R.Sink links.new journal.new) }
-    ensures loads { F.loads files.new ≤ F.loads files.old + 3 }
+    ensures loads { (asked : Asked) → IsAsked (map string_bytes words.now) asked →
+        F.loads files.new ≤ F.loads files.old + length (files_of asked) }
     ensures no_loads { ((asked : Asked) → ¬ IsAsked (map string_bytes words.now) asked) →
         F.loads files.new ≡ F.loads files.old }
     ensures kept { AreKept (files_change F.Files files.old files.new) }
@@ -91,7 +94,8 @@ fn answered<F: Files, L: Links, R: Journal>(
     ensures answer { NodeAnswer (map string_bytes words.now) (files_change F.Files files.old files.new)
         (end_shape result)
         (node_change L.Links R.Sink R.named links.old links.new journal.old journal.new) (Reaches R.named) }
-    ensures loads { F.loads files.new ≤ F.loads files.old + 3 }
+    ensures loads { (asked : Asked) → IsAsked (map string_bytes words.now) asked →
+        F.loads files.new ≤ F.loads files.old + length (files_of asked) }
     ensures no_loads { ((asked : Asked) → ¬ IsAsked (map string_bytes words.now) asked) →
         F.loads files.new ≡ F.loads files.old }
     ensures kept { AreKept (files_change F.Files files.old files.new) }
@@ -122,14 +126,14 @@ fn asked<F: Files, L: Links, R: Journal>(
     ensures answer { OptionsAnswer (asked_shape options.now) (files_change F.Files files.old files.new)
         (end_shape result)
         (node_change L.Links R.Sink R.named links.old links.new journal.old journal.new) (Reaches R.named) }
-    ensures loads { F.loads files.new ≤ F.loads files.old + 3 }
+    ensures loads { F.loads files.new ≤ F.loads files.old + length (files_of (asked_shape options.now)) }
     ensures kept { AreKept (files_change F.Files files.old files.new) }
     ensures faults { Faults result.status (outside L.Links R.Sink links.old journal.old)
         (outside L.Links R.Sink links.new journal.new) }
 {
     match node_for(alloc, options, files) {
         Ok(node) => NodeEnd {
-            status: run_node(alloc, &node, options.turns, links, journal),
+            status: run_node(alloc, node, options.turns, links, journal),
             refusal: None,
         },
         Err(stop) => ended(stop),

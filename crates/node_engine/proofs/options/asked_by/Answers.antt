@@ -34,4 +34,4 @@ returns-clause-found c = λ words parses has.
     all_given words c.args.matches.now _ c.in_ok-word.word.now _ _ parses has
     c.in_ok-hosts.ensures c.in_ok-host.ensures c.in_ok-start.ensures c.in_ok-word.ensures
     c.in_ok-turns.ensures.found c.in_ok-turns.ensures.count c.get_str-5.ensures c.get_str-6.ensures
-    c.in_ok-source.ensures.found
+    c.in_ok-source.ensures.found c.get_str-seals.ensures

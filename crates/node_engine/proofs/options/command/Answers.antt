@@ -15,5 +15,7 @@ returns c =
     ∙ ap₂ with_rule three c.required_option-4.ensures.rule in
     let five = c.in_ok-arg-5.ensures.shape c.set_option.ensures.local
     ∙ ap₂ with_rule four c.set_option.ensures.rule in
-    IfOk-weaker c.arg-6.result _ _
-    (λ r h. h.shape c.set_option-2.ensures.local ∙ ap₂ with_rule five c.set_option-2.ensures.rule) c.arg-6.ensures
+    let six = c.in_ok-arg-6.ensures.shape c.set_option-2.ensures.local
+    ∙ ap₂ with_rule five c.set_option-2.ensures.rule in
+    IfOk-weaker c.arg-7.result _ _
+    (λ r h. h.shape c.set_option-3.ensures.local ∙ ap₂ with_rule six c.set_option-3.ensures.rule) c.arg-7.ensures

@@ -1,5 +1,5 @@
 use Rattle.node_engine.proofs.Askings.{one_asked}
-use Rattle.node_engine.proofs.WorkedWords.{all_options, no_words}
+use Rattle.node_engine.proofs.WorkedWords.{all_options, no_words, with_seals}
 use Rattle.node_engine.proofs.options.option_laws.Goals as goal
 
 pub returns-clause-one_asked : goal.returns-clause-one_asked
@@ -10,3 +10,6 @@ returns-clause-no_words c = no_words
 
 pub returns-clause-all_options : goal.returns-clause-all_options
 returns-clause-all_options c = all_options
+
+pub returns-clause-with_seals : goal.returns-clause-with_seals
+returns-clause-with_seals c = with_seals

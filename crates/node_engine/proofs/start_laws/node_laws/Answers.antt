@@ -4,9 +4,9 @@ use Rattle.front_end.specs.Sources.{HostsRead}
 use Rattle.front_end.specs.Stages.{given, stopped}
 use Rattle.front_end.specs.Verdicts.{Print, hosts_refused}
 use Rattle.front_end.proofs.SomeStages.{HasOutcome}
-use Rattle.node_engine.proofs.OnlyRefusals.{node_refuses}
-use Rattle.node_engine.proofs.OneNode.{OneSources, loaded_once, node_once}
-use Rattle.node_engine.proofs.SomeNode.{SomeSources, node_some}
+use Rattle.node_engine.proofs.OnlyRefusals.{node_refuses, ready_refuses}
+use Rattle.node_engine.proofs.OneNode.{OneSources, loaded_once, node_once, ready_once}
+use Rattle.node_engine.proofs.SomeNode.{SomeSources, node_some, ready_some}
 use Rattle.node_engine.proofs.start_laws.node_laws.Goals as goal
 
 sources : (c : goal.After-script_laws) → OneSources
@@ -36,6 +36,16 @@ returns-clause-some_node c = node_some (some_sources c)
 pub returns-clause-no_report : goal.returns-clause-no_report
 returns-clause-no_report c = λ asked source hosts start answer text due.
     node_refuses asked source hosts start (Print answer text) due
+
+pub returns-clause-one_ready : goal.returns-clause-one_ready
+returns-clause-one_ready c = ready_once (sources c)
+
+pub returns-clause-some_ready : goal.returns-clause-some_ready
+returns-clause-some_ready c = ready_some (some_sources c)
+
+pub returns-clause-no_ready_report : goal.returns-clause-no_ready_report
+returns-clause-no_ready_report c = λ asked source hosts start keys answer text due.
+    ready_refuses asked source hosts start keys (Print answer text) due
 
 pub returns-clause-one_loaded : goal.returns-clause-one_loaded
 returns-clause-one_loaded c = loaded_once (sources c)
