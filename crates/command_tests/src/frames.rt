@@ -16,9 +16,10 @@ use std::test::Fail;
 /// - `NO_BYTES`: nothing behind its length.
 /// - `ONE_BYTE`: its sender alone.
 ///
-/// Those with a number are sealed with it, under the keys of the file `K`, and were computed with another implementation,
-/// the module `hmac` of Python. The first four lead from B to A, of which one lacks its last byte, and one has its last bit
-/// changed. Then come two that don't: from B to a third host, and from A to itself. The others lead from A to B.
+/// Those with a number are sealed with it, under the keys of the file `K`, and were computed with another
+/// implementation, the module `hmac` of Python. The first four lead from B to A, of which one lacks its last byte, and
+/// one has its last bit changed. Then come two that don't: from B to a third host, and from A to itself. The others
+/// lead from A to B.
 const FRAMES: &str = "\n\
     ACK: 0 0 0 14 1 8 0 0 0 1 0 0 0 0 0 0 0 0\n\
     SET: 0 0 0 34 0 2 0 0 0 1 0 0 0 0 0 0 0 0 0 0 0 1 0 0 0 0 0 0 0 0 0 0 0 0 0 0 0 2\n\

@@ -30,8 +30,8 @@ abbrev pub inside_of : NodeWorld → Inside
 inside_of world = record { host = world.host; seals = world.seals }
 
 -- A part: the next string is taken from the links; what is sealed of it, on the link from a host, is opened; the host
--- makes a step, and is this after it; the root's word that the program is done is heard; a line of the journal is put; a
--- frame is sealed for the link to a host; or a string is sent to a host.
+-- makes a step, and is this after it; the root's word that the program is done is heard; a line of the journal is put;
+-- a frame is sealed for the link to a host; or a string is sent to a host.
 pub data Part : Type 0 where
   Taking : Part
   Opening : HostId → Part

@@ -12,8 +12,8 @@ use link_seal::{OpenError, Opener, Sealer};
 use std::alloc::Global;
 use std::marker::Model;
 
-/// The seals of a node. They have keys, so they can be neither copied nor printed. The keys stay in memory that is given
-/// back.
+/// The seals of a node. They have keys, so they can be neither copied nor printed. The keys stay in memory that is
+/// given back.
 #[derive(Drop)]
 pub struct Seals {
     pub(crate) links: Option<SealedLinks>,
@@ -56,8 +56,8 @@ impl Seals {
         Seals { links: None }
     }
 
-    /// What goes out to a host for a frame: the frame itself where nothing is sealed, and otherwise the sealed one. It is
-    /// nothing where there is no link to that host.
+    /// What goes out to a host for a frame: the frame itself where nothing is sealed, and otherwise the sealed one. It
+    /// is nothing where there is no link to that host.
     ///
     /// # Errors
     /// The seals are then as before. It also answers want of memory where no more frames can be sealed for the link.

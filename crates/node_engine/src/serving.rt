@@ -128,7 +128,8 @@ impl<L: Links, R: Sink> Node<'_, '_, L, R> {
         requires { IsHost self.old.code.now self.old.me }
         ensures ok { OnOk result (Does (closing_parts self.old.code.now self.old.me self.old.seals.now)
             (seen L.Links R.Sink self.old) (seen L.Links R.Sink self.new)) }
-        ensures err { IfErr result (λ error. Stops error (closing_parts self.old.code.now self.old.me self.old.seals.now)
+        ensures err { IfErr result (λ error.
+            Stops error (closing_parts self.old.code.now self.old.me self.old.seals.now)
             (seen L.Links R.Sink self.old) (seen L.Links R.Sink self.new)) }
         ensures same { HasSameHost self.old self.new }
     {

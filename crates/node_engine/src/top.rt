@@ -29,8 +29,8 @@ use std::alloc::Global;
 /// - `LinkFault`, `OutFault`: links or journal could not begin.
 /// - `NoMemory`: memory ran out.
 ///
-/// Files are loaded in the order program or code, hosts, start, seals, and after the first that is absent or could not be
-/// read none is loaded. Nothing is saved.
+/// Files are loaded in the order program or code, hosts, start, seals, and after the first that is absent or could not
+/// be read none is loaded. Nothing is saved.
 pub fn jifhost<F: Files, L: Links, R: Journal>(
     alloc: Global,
     words: &[String],

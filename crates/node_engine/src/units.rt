@@ -171,7 +171,8 @@ impl<L: Links, R: Sink> Node<'_, '_, L, R> {
     fn stepped(&mut self, line: &str, sent: &Sent) -> Result<(), NodeError>
         requires me { IsHost self.old.code.now self.old.me }
         requires sent { SentFits self.old.code.now self.old.me sent.now }
-        ensures ok { OnOk result (Does (Line line.now ∷ sending_parts self.old.code.now self.old.me self.old.seals.now sent.now)
+        ensures ok { OnOk result
+            (Does (Line line.now ∷ sending_parts self.old.code.now self.old.me self.old.seals.now sent.now)
             (seen L.Links R.Sink self.old) (seen L.Links R.Sink self.new)) }
         ensures err { IfErr result (λ error.
             Stops error (Line line.now ∷ sending_parts self.old.code.now self.old.me self.old.seals.now sent.now)

@@ -9,8 +9,8 @@ use event_text::{BadMessage, BadToken, Event};
 use host_code::Message;
 use js_base::{FrameId, HostId, RequestId, SiteId, VarId};
 
-/// What a message says beside its token and what rides: its kind, and then what it names, 0 where its kind names no such
-/// thing.
+/// What a message says beside its token and what rides: its kind, and then what it names, 0 where its kind names no
+/// such thing.
 #[derive(Clone, Copy, PartialEq, Eq)]
 pub struct Parts {
     kind: u8,

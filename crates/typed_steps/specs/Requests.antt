@@ -1,13 +1,13 @@
--- What requests, answers and results in flight bring about where they are taken, what a thread takes along that is handed
--- over, and what is left where one ends.
+-- What requests, answers and results in flight bring about where they are taken, what a thread takes along that is
+-- handed over, and what is left where one ends.
 --
 -- What was done is counted where it shows. An assignment to a field of another host is a step of the plain run when its
 -- host takes the message, and neither when it is sent nor when it is acknowledged. So is a result that is given back to
 -- another host: its step is made when the host of the caller takes the forward that brings it. All else is a step at
 -- its own instruction.
 --
--- What is still to be sent stays so while it rides, up to where its message is taken. So the view of a message in flight
--- that hands a thread over is that from before, and no world stands between two values that ride.
+-- What is still to be sent stays so while it rides, up to where its message is taken. So the view of a message in
+-- flight that hands a thread over is that from before, and no world stands between two values that ride.
 use Rattle.std.specs.Prelude.{◌≡◌, ◌⊎◌, ℕ, ◌<◌, ℤ, true, List, [], ◌∷◌, length, Some, slice_get}
 use Rattle.std.specs.List.{AllByRecursion}
 use Rattle.js_base.specs.declared.ids.HostId.{HostId}

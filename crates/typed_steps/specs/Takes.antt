@@ -1,5 +1,5 @@
--- What is made where the owner of a request takes it, where a host takes the token with what rides, and where the thread
--- that waits takes the answer, seen from the host that takes.
+-- What is made where the owner of a request takes it, where a host takes the token with what rides, and where the
+-- thread that waits takes the answer, seen from the host that takes.
 use Rattle.std.specs.Prelude.{◌≡◌, ℕ, ◌+◌, ◌<◌, [], Some}
 use Rattle.js_base.specs.declared.ids.HostId.{HostId}
 use Rattle.jif_tree.specs.SourceRun.{Configuration}

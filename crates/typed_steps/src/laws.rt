@@ -93,8 +93,8 @@ pub fn riding_examples()
     ensures elsewhere { (split : Split) (c : Configuration) (view : View) (to : HostId) (arrival : Arrival)
         (forward : Forward) → view.out ≡ forward ∷ [] → forward.host ≢ to → ¬ RidesOut split c view to arrival }
     // Another value rides only where the variable may be affected.
-    ensures other_value { (split : Split) (c : Configuration) (view : View) (to : HostId) (arrival : Arrival) (x : VarId)
-        (value : ℤ) → arrival.riders ≡ (x, value) ∷ [] → value ≢ view.values view.sender x.0 →
+    ensures other_value { (split : Split) (c : Configuration) (view : View) (to : HostId) (arrival : Arrival)
+        (x : VarId) (value : ℤ) → arrival.riders ≡ (x, value) ∷ [] → value ≢ view.values view.sender x.0 →
         ¬ VariableIsAffected split.exposure x → ¬ RidesOut split c view to arrival }
     // No value rides out of a frame of another call.
     ensures other_frame { (split : Split) (c : Configuration) (view : View) (to : HostId) (arrival : Arrival) →
