@@ -1,0 +1,4 @@
+pub mod Bounds
+pub mod Paths
+pub mod Refusing
+pub mod SoundPart

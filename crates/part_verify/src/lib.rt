@@ -1,0 +1,15 @@
+//! Whether a host may run its own part of a split file, whoever made the file.
+//!
+//! A part is sound where each thread that starts at an entry names only what the need of that entry has, and where no
+//! instruction shows another host what that host may not see. So a host that looks at its part itself trusts none of
+//! those who split the program.
+#![tactic(auto)]
+
+mod errors;
+mod names;
+mod shows;
+mod verify;
+mod weak;
+
+pub use errors::VerifyError;
+pub use verify::verify;
