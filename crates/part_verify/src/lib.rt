@@ -7,9 +7,9 @@
 
 mod errors;
 mod names;
+mod part;
 mod shows;
-mod verify;
 mod weak;
 
 pub use errors::VerifyError;
-pub use verify::verify;
+pub use part::verify;

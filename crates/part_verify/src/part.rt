@@ -1,16 +1,16 @@
 //! The check of a part: first the needs of its entries, then what its instructions show.
 
-ghost use Rattle.std.specs.Prelude.{◌≡◌, ◌-◌, ◌^◌, ℕ, OnOk, IfOk, IfErr, replicate};
-ghost use Rattle.host_code.specs.declared.instruction.Instr.{Instr};
-ghost use Rattle.host_code.specs.Code.{instruction_at};
+ghost use Rattle.std.specs.Prelude.{◌≡◌, ◌≤◌, ◌-◌, ◌^◌, OnOk, IfOk, IfErr, length, replicate};
+ghost use Rattle.host_code.specs.declared.code.TheConstants.{MOST_ITEMS};
+ghost use Rattle.host_code.specs.Code.{part_of};
 ghost use Rattle.host_code.specs.Sound.{IsHost};
-ghost use Rattle.part_verify.specs.SoundPart.{IsSoundPart, AreNeedsKept, AreShownWell};
+ghost use Rattle.part_verify.specs.SoundPart.{IsSoundPart, AreNeedsKept};
 ghost use Rattle.part_verify.specs.Refusing.{IsRefusedFor};
 
 use crate::errors::VerifyError;
 use crate::shows::shows_well;
 use crate::weak::weak_at;
-use host_code::Code;
+use host_code::{Code, Instr};
 use js_base::{EntryId, HostId, OutOfMemory};
 use std::alloc::Global;
 
@@ -20,18 +20,32 @@ pub fn verify(alloc: Global, code: &Code, me: HostId) -> Result<(), VerifyError>
     ensures sound { OnOk result (IsSoundPart code.now me) }
     ensures refused { IfErr result (IsRefusedFor code.now me) }
 {
-    check_needs(alloc, code, me)?;
-    check_shown(code, me)
+    let part = part_of(code, me);
+    check_needs(alloc, code, me, part.len())?;
+    check_shown(code, me, part)
 }
 
-/// Whether each instruction that an entry of the host leads to names only what the entry's need has.
-fn check_needs(alloc: Global, code: &Code, me: HostId) -> Result<(), VerifyError>
+/// The instructions of a host, so few that a number of 32 bits counts them.
+fn part_of(code: &Code, me: HostId) -> &[Instr]
     requires { IsHost code.now me }
+    ensures part { result.now ≡ part_of code.now me }
+    ensures few { length (part_of code.now me) ≤ MOST_ITEMS }
+{
+    let is_there = (me.0 as usize) < code.hosts().len();
+    prove!(is_there);
+    code.part(me)
+}
+
+/// Whether each instruction that an entry of the host leads to names only what the entry's need has. The host has so
+/// many instructions.
+fn check_needs(alloc: Global, code: &Code, me: HostId, count: usize) -> Result<(), VerifyError>
+    requires few { length (part_of code.now me) ≤ MOST_ITEMS }
+    requires count { count ≡ length (part_of code.now me) }
     ensures kept { OnOk result (AreNeedsKept code.now me) }
     ensures refused { IfErr result (IsRefusedFor code.now me) }
 {
     let entries = code.entries();
-    let mut bound = all_ones(alloc, code.part(me).len())?;
+    let mut bound = all_ones(alloc, count)?;
     for number in 1..entries.len() {
         let entry = entries[number];
         if entry.host.0 == me.0 {
@@ -51,12 +65,13 @@ fn all_ones(alloc: Global, count: usize) -> Result<Vec<u64>, OutOfMemory>
 }
 
 /// Whether each instruction of the host shows other hosts only what they may see.
-fn check_shown(code: &Code, me: HostId) -> Result<(), VerifyError>
-    requires { AreNeedsKept code.now me }
+fn check_shown(code: &Code, me: HostId, part: &[Instr]) -> Result<(), VerifyError>
+    requires part { part.now ≡ part_of code.now me }
+    requires few { length (part_of code.now me) ≤ MOST_ITEMS }
+    requires kept { AreNeedsKept code.now me }
     ensures sound { OnOk result (IsSoundPart code.now me) }
     ensures refused { IfErr result (IsRefusedFor code.now me) }
 {
-    let part = code.part(me);
     for place in 0..part.len() {
         let one = &part[place];
         if !shows_well(code, me, one.label, &one.op) {
