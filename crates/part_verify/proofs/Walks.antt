@@ -1,13 +1,13 @@
 -- A walk over the instructions that an entry leads to, with a bound for each place.
 use Rattle.std.proofs.Common.{◌≡◌, ◌≢◌, ◌<◌, ◌≤◌, ◌+◌, ◌*◌, ◌⊎◌, ◌∙◌, ℕ, zero, suc, List, [], ◌∷◌, ◌++◌, length, refl, ap, sym, subst, inl, inr, arith, bit_and}
-use Rattle.std.specs.Prelude.{Bool, true, false, if◌then◌else◌, ◌==◌, nat_lt, Option, Some, None, IfSome, slice_get, slice_index, slice_set, Contains}
+use Rattle.std.specs.Prelude.{Bool, true, false, not, IsTrue, ◌↔◌, if◌then◌else◌, ◌==◌, nat_lt, Option, Some, None, IfSome, slice_get, slice_index, slice_set, Contains}
 use Rattle.std.specs.List.{sum_by}
 use Rattle.std.specs.Int.Bits.{and_self}
 use Rattle.std.proofs.Math.Nat.{le_refl}
 use Rattle.std.proofs.lemmas.Nat.{and_assoc}
-use Rattle.std.proofs.lemmas.Bool.{ltb-true, ltb-false}
+use Rattle.std.proofs.lemmas.Bool.{ltb-true, ltb-false, false≢true}
 use Rattle.std.proofs.lemmas.Bool.Decides.{eqb_tells}
-use Rattle.std.proofs.lemmas.List.{get_or-set_same, get_or-set_other}
+use Rattle.std.proofs.lemmas.List.{get_or-set_same, get_or-set_other, length-append}
 use Rattle.std.proofs.lemmas.List.Sums.{sum_by-set}
 use Rattle.std.proofs.lemmas.List.Elements.{Contains-push, Contains-push_cases, Contains-append_left, Contains-append_right, Contains-append_cases}
 use Rattle.js_base.specs.declared.ids.HostId.{HostId}
@@ -46,7 +46,7 @@ closed_behind need word =
       | inr apart ↦ absurd (apart.1 same)
     ]
 
-pub goes_few : (does : Op) (place : ℕ) → length (goes_on does place) ≤ 2
+goes_few : (does : Op) (place : ℕ) → length (goes_on does place) ≤ 2
 goes_few (op.Read field index) place = omega arith
 goes_few (op.Let variable value) place = omega arith
 goes_few (op.Put field index value) place = omega arith
@@ -65,12 +65,22 @@ goes_few (op.GoWith entry on riders) place = omega arith
 goes_few (op.CallWith entry on riders) place = omega arith
 
 -- a visit closes a place, and opens none
-pub fewer_open : (need : ℕ) (bound : List ℕ) (place : ℕ) → place < length bound →
+fewer_open : (need : ℕ) (bound : List ℕ) (place : ℕ) → place < length bound →
     ¬ BitsWithin (slice_index bound place) need →
     open_places need (slice_set bound place (bit_and (slice_index bound place) need)) + 1 ≡ open_places need bound
 fewer_open need bound place within not =
     omega (arith, sum_by-set (is_open need) bound place (bit_and (slice_index bound place) need) 0 within,
     open_before need (slice_index bound place) not, closed_behind need (slice_index bound place))
+
+-- a visit pushes two places at most
+pub visit_ends : (need : ℕ) (bound : List ℕ) (place : ℕ) (does : Op) (work new_bound new_work old_work : List ℕ) →
+    place < length bound → ¬ BitsWithin (slice_index bound place) need →
+    new_bound ≡ slice_set bound place (bit_and (slice_index bound place) need) → new_work ≡ work ++ goes_on does place →
+    old_work ≡ work ++ place ∷ [] →
+    3 * open_places need new_bound + length new_work < 3 * open_places need bound + length old_work
+visit_ends need bound place does work new_bound new_work old_work within not lowered pushed popped =
+    omega (arith, ap (open_places need) lowered, fewer_open need bound place within not, goes_few does place,
+    ap length pushed ∙ length-append work (goes_on does place), ap length popped ∙ length-append work (place ∷ []))
 
 -- ---- the walk
 
@@ -327,3 +337,13 @@ module _ (code : CodeShape) (me : HostId) (at need : ℕ) where
       | inr upto ↦ omega (arith, upto, earlier)
     ],
   )
+
+-- ---- a test that is turned round
+
+pub not_so : (told : Bool) (P : Type 0) → (IsTrue told ↔ P) → not told ≡ true → ¬ P
+not_so true P same is holds = false≢true is
+not_so false P same is holds = false≢true (same.1 holds)
+
+pub is_so : (told : Bool) (P : Type 0) → (IsTrue told ↔ P) → not told ≡ false → P
+is_so true P same is = same.0 refl
+is_so false P same is = absurd (false≢true (sym is))

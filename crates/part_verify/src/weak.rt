@@ -4,7 +4,9 @@
 //! word that has all that is named there and behind it, at first all ones. A walk goes on only at a place whose bound is
 //! not within its need, and takes a bit of it away at least, so an instruction is visited 64 times at most.
 
-ghost use Rattle.std.specs.Prelude.{◌≡◌, ◌<◌, ◌≤◌, ◌++◌, Bool, IfOk, OnOk, length, slice_index};
+ghost use Rattle.std.specs.Prelude.{◌≡◌, ◌<◌, ◌≤◌, ◌++◌, Bool, IfOk, OnOk, length};
+ghost use Rattle.std.specs.Prelude.{slice_index, slice_set};
+ghost use Rattle.std.specs.Int.Bits.{bit_and};
 ghost use Rattle.js_base.specs.Bits.{BitsWithin};
 ghost use Rattle.host_code.specs.declared.code.TheConstants.{MOST_ITEMS};
 ghost use Rattle.host_code.specs.Code.{part_of};
@@ -40,7 +42,7 @@ pub(crate) fn weak_at(
     while let Some(place) = work.pop() {
         if is_open(bound, place, need) {
             let op = &part[place as usize].op;
-            bound[place as usize] = bound[place as usize] & need;
+            lower(bound, place, need);
             let counts = !names_within(code, need, op);
             least = lesser(least, place, counts);
             push_on(op, place, &mut work)?;
@@ -58,6 +60,15 @@ fn is_open(bound: &[u64], place: u32, need: u64) -> bool
         Some(word) => !bits_within(*word, need),
         None => false,
     }
+}
+
+/// Takes what the need does not have out of the bound of a place.
+fn lower(bound: &mut Vec<u64>, place: u32, need: u64)
+    requires { place < length bound.old.items }
+    ensures { bound.new.items ≡ slice_set bound.old.items place (bit_and (slice_index bound.old.items place) need) }
+{
+    let word = bound[place as usize];
+    bound[place as usize] = word & need;
 }
 
 /// The lesser of a place and one that was found, where the place counts.
