@@ -1,3 +1,4 @@
 pub mod Needs
+mod OneRefusal
 pub mod Walks
 pub mod Within

@@ -6,10 +6,12 @@
 #![tactic(auto)]
 
 mod errors;
+mod laws;
 mod names;
 mod part;
 mod shows;
 mod weak;
 
 pub use errors::VerifyError;
+pub use laws::verify_laws;
 pub use part::verify;
