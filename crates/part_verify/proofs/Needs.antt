@@ -88,8 +88,12 @@ module _ (code : CodeShape) (me : HostId) where
         Found code me entry.at entry.need (Some place) bound → ArePassed code me number →
         IsRefusedFor code me (WeakEntry this place)
     refused_here place bound not_halt here weak passed = (
-      (weak.1.0, record { entry = entry; is = found; not_halt = not_halt; here = here; leads = weak.0 }, weak.1.1,
-          weak.1.2),
+      (
+        weak.1.0,
+        record { entry = entry; is = found; not_halt = not_halt; here = here; leads = weak.0 },
+        weak.1.1,
+        weak.1.2,
+      ),
       λ other before breaks.
           let same = same_entry this other breaks.1 refl in
           weak.2 other before (subst (λ (e : Entry). Leads code me e.at other) (sym same) breaks.1.leads)

@@ -32,11 +32,11 @@ one_refusal code me OutOfMemory second no_memory other one two = absurd (no_memo
 one_refusal code me (WeakEntry there place) OutOfMemory other no_memory one two = absurd (no_memory refl)
 one_refusal code me (WeakEntry there place) (WeakEntry again at) memory more one two =
     let same : there ≡ again = ap entry_of (first_of_both there.0 again.0
-        (λ before. two.2 there place before one.0) (λ before. one.2 again at before two.0)) in
+    (λ before. two.2 there place before one.0) (λ before. one.2 again at before two.0)) in
     let here : BreaksNeed code me there at = subst (λ (entry : EntryId). BreaksNeed code me entry at) (sym same) two.0 in
     let there_too : BreaksNeed code me again place = subst (λ (entry : EntryId). BreaksNeed code me entry place) same one.0 in
     let place_is : place ≡ at = first_of_both place at (λ before. two.1 place before there_too)
-        (λ before. one.1 at before here) in
+    (λ before. one.1 at before here) in
     ap₂ WeakEntry same place_is
 one_refusal code me (WeakEntry there place) (Reveals at) memory more one two =
     absurd (none_broken code me there place two.0 one.0)

@@ -40,7 +40,7 @@ open_before need word not = elim (eqb_tells (bit_and word need) word) [
 closed_behind : (need word : ℕ) → is_open need (bit_and word need) ≡ 0
 closed_behind need word =
     let same : bit_and (bit_and word need) need ≡ bit_and word need =
-        and_assoc need word need ∙ ap (bit_and word) (and_self need) in
+    and_assoc need word need ∙ ap (bit_and word) (and_self need) in
     elim (eqb_tells (bit_and (bit_and word need) need) (bit_and word need)) [
       | inl is ↦ ap (λ b. if b then 0 else 1) is.0
       | inr apart ↦ absurd (apart.1 same)
@@ -69,8 +69,12 @@ fewer_open : (need : ℕ) (bound : List ℕ) (place : ℕ) → place < length bo
     ¬ BitsWithin (slice_index bound place) need →
     open_places need (slice_set bound place (bit_and (slice_index bound place) need)) + 1 ≡ open_places need bound
 fewer_open need bound place within not =
-    omega (arith, sum_by-set (is_open need) bound place (bit_and (slice_index bound place) need) 0 within,
-    open_before need (slice_index bound place) not, closed_behind need (slice_index bound place))
+    omega (
+      arith,
+      sum_by-set (is_open need) bound place (bit_and (slice_index bound place) need) 0 within,
+      open_before need (slice_index bound place) not,
+      closed_behind need (slice_index bound place),
+    )
 
 -- a visit pushes two places at most
 pub visit_ends : (need : ℕ) (bound : List ℕ) (place : ℕ) (does : Op) (work new_bound new_work old_work : List ℕ) →
@@ -79,8 +83,14 @@ pub visit_ends : (need : ℕ) (bound : List ℕ) (place : ℕ) (does : Op) (work
     old_work ≡ work ++ place ∷ [] →
     3 * open_places need new_bound + length new_work < 3 * open_places need bound + length old_work
 visit_ends need bound place does work new_bound new_work old_work within not lowered pushed popped =
-    omega (arith, ap (open_places need) lowered, fewer_open need bound place within not, goes_few does place,
-    ap length pushed ∙ length-append work (goes_on does place), ap length popped ∙ length-append work (place ∷ []))
+    omega (
+      arith,
+      ap (open_places need) lowered,
+      fewer_open need bound place within not,
+      goes_few does place,
+      ap length pushed ∙ length-append work (goes_on does place),
+      ap length popped ∙ length-append work (place ∷ []),
+    )
 
 -- ---- the walk
 
@@ -235,7 +245,7 @@ module _ (code : CodeShape) (me : HostId) (at need : ℕ) where
       named = λ from found is. elim (eqb_tells from place) [
         | inl same ↦
             let is_here : instruction_at code me place ≡ Some found =
-                subst (λ n. instruction_at code me n ≡ Some found) same.1 is in
+            subst (λ n. instruction_at code me n ≡ Some found) same.1 is in
             let alike : one ≡ found = let both : Some one ≡ Some found = sym there ∙ is_here in cc in
             subst (λ (s : Instr). NamesWithin code (slice_index new from) s.op ⊎ IsUpTo (lesser least place counts) from)
             alike
@@ -251,26 +261,32 @@ module _ (code : CodeShape) (me : HostId) (at need : ℕ) where
             let edge_here : IsEdge code me place next = subst (λ n. IsEdge code me n next) same.1 edge in
             let alike : one ≡ edge_here.0 = let both : Some one ≡ Some edge_here.0 = sym there ∙ edge_here.1 in cc in
             let added : Contains (goes_on one.op place) next =
-                subst (λ (s : Instr). Contains (goes_on s.op place) next) (sym alike) edge_here.2 in
+            subst (λ (s : Instr). Contains (goes_on s.op place) next) (sym alike) edge_here.2 in
             elim (w.behind place next edge_here) [
-              | inl in_old ↦ inr (Contains-append_right work (goes_on one.op place) next added,
-                  λ word word_next word_need. subst (λ k. BitsWithin word (slice_index new k)) (sym same.1)
-                  (in_here word (within_through word (slice_index new next) old word_next
-                  (within_through (slice_index new next) (slice_index bound next) old (falls next) in_old)) word_need))
-              | inr waits ↦ inr (Contains-append_right work (goes_on one.op place) next added,
-                  λ word word_next word_need. subst (λ k. BitsWithin word (slice_index new k)) (sym same.1)
-                  (in_here word (waits.1 word (within_through word (slice_index new next) (slice_index bound next)
-                  word_next (falls next)) word_need) word_need))
+              | inl in_old ↦ inr (
+                Contains-append_right work (goes_on one.op place) next added,
+                λ word word_next word_need. subst (λ k. BitsWithin word (slice_index new k)) (sym same.1)
+                    (in_here word (within_through word (slice_index new next) old word_next
+                    (within_through (slice_index new next) (slice_index bound next) old (falls next) in_old)) word_need),
+              )
+              | inr waits ↦ inr (
+                Contains-append_right work (goes_on one.op place) next added,
+                λ word word_next word_need. subst (λ k. BitsWithin word (slice_index new k)) (sym same.1)
+                    (in_here word (waits.1 word (within_through word (slice_index new next) (slice_index bound next)
+                    word_next (falls next)) word_need) word_need),
+              )
             ]
         | inr apart ↦ elim (w.behind from next edge) [
           | inl in_old ↦ inl (subst (BitsWithin (slice_index new next)) (sym (elsewhere from apart.1))
               (within_through (slice_index new next) (slice_index bound next) (slice_index bound from) (falls next)
               in_old))
           | inr waits ↦ elim (Contains-push_cases work place next waits.0) [
-            | inl still ↦ inr (Contains-append_left work (goes_on one.op place) next still,
-                λ word word_next word_need. subst (BitsWithin word) (sym (elsewhere from apart.1))
-                (waits.1 word (within_through word (slice_index new next) (slice_index bound next) word_next
-                (falls next)) word_need))
+            | inl still ↦ inr (
+              Contains-append_left work (goes_on one.op place) next still,
+              λ word word_next word_need. subst (BitsWithin word) (sym (elsewhere from apart.1))
+                  (waits.1 word (within_through word (slice_index new next) (slice_index bound next) word_next
+                  (falls next)) word_need),
+            )
             | inr same ↦ inl (subst (BitsWithin (slice_index new next)) (sym (elsewhere from apart.1))
                 (waits.1 (slice_index new next) (falls next)
                 (subst (λ k. BitsWithin (slice_index new k) need) same here_in_need)))

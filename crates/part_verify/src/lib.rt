@@ -15,3 +15,6 @@ mod weak;
 pub use errors::VerifyError;
 pub use laws::verify_laws;
 pub use part::verify;
+
+#[cfg(test)]
+mod tests;

@@ -18,9 +18,8 @@ pub(crate) fn names_within(code: &Code, need: u64, op: &Op) -> bool
             entry_within(code, need, *entry)
         }
         Op::Put(field, _, _) => field_within(code, need, *field),
-        Op::Let(var, _) | Op::Arg(var, _) | Op::Ret(var, _) | Op::Send(var, _) | Op::Pass(var, _) => {
-            variable_within(code, need, *var)
-        }
+        Op::Let(var, _) | Op::Arg(var, _) | Op::Ret(var, _) | Op::Send(var, _) | Op::Pass(var, _) =>
+            { variable_within(code, need, *var) }
         Op::GoWith(entry, _, riders) | Op::CallWith(entry, _, riders) => {
             entry_within(code, need, *entry) && variables_within(code, need, riders.vars())
         }
@@ -64,7 +63,8 @@ fn variables_within(code: &Code, need: u64, vars: &[VarId]) -> bool
 {
     match vars {
         [] => true,
-        [var, others @ ..] => variable_within(code, need, *var) && variables_within(code, need, others),
+        [var, others @ ..] => variable_within(code, need, *var)
+            && variables_within(code, need, others),
     }
 }
 

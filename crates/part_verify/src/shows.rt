@@ -47,7 +47,8 @@ fn shows_setting(code: &Code, me: HostId, label: u32, field: FieldId) -> bool
     ensures { IsTrue result ↔ ShowsSetting code.now me label field }
 {
     match code.field(field) {
-        Some(there) => there.host().0 == me.0 || both_seen(code, label, there.label(), there.host()),
+        Some(there) => there.host().0 == me.0
+            || both_seen(code, label, there.label(), there.host()),
         None => false,
     }
 }

@@ -88,7 +88,8 @@ fn push_on(op: &Op, place: u32, work: &mut Vec<u32>) -> Result<(), OutOfMemory>
     ensures { OnOk result (work.new.items ≡ work.old.items ++ goes_on op.now place) }
 {
     match op {
-        Op::Go(_, _) | Op::Call(_, _) | Op::GoWith(_, _, _) | Op::CallWith(_, _, _) | Op::Back => Ok(()),
+        Op::Go(_, _) | Op::Call(_, _) | Op::GoWith(_, _, _) | Op::CallWith(_, _, _) | Op::Back =>
+            Ok(()),
         Op::Branch(_, target) => {
             work.push(*target)?;
             Ok(work.push(place + 1)?)

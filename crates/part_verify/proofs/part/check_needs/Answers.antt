@@ -38,11 +38,11 @@ returns-in-Some-clause-refused c =
     let number = c.loop-number.number in
     let entry = get_or c.entries-entries.result.now number _ in
     let found = found_at c.entries-entries.result.now code.entries number _ c.entries-entries.ensures.entries
-        c.loop-number-test.true in
+    c.loop-number-test.true in
     let bound = c.weak_at.new.bound.items in
     let weak : Found code c.args.me entry.at entry.need (Some c.in-Some.place) bound =
-        subst (λ (place : Option ℕ). Found code c.args.me entry.at entry.need place bound) c.in-Some.is
-        c.in_ok-place.ensures.found in
+    subst (λ (place : Option ℕ). Found code c.args.me entry.at entry.need place bound) c.in-Some.is
+    c.in_ok-place.ensures.found in
     refused_here code c.args.me number entry found c.in-Some.place bound
     (λ same. let zero_is : number ≡ 0 = ap (λ (e : EntryId). e.0) same in omega (arith, zero_is, c.loop-number.auto.number))
     (ap host_of c.if-entry-me.true) weak c.loop-number.invariant.passed
@@ -53,24 +53,24 @@ loop-number-preserved c =
     let number = c.loop-number.number in
     let entry = get_or c.entries-entries.result.now number _ in
     let found = found_at c.entries-entries.result.now code.entries number _ c.entries-entries.ensures.entries
-        c.loop-number-test.true in
+    c.loop-number-test.true in
     elim c.if-entry-me.branch [
       | then-entry-me+in_ok-place+in_default w ↦
           let bound = w.weak_at.new.bound.items in
           let kept : Found code c.args.me entry.at entry.need None bound =
-              subst (λ (place : Option ℕ). Found code c.args.me entry.at entry.need place bound) w.in_default.is
-              w.in_ok-place.ensures.found in
+          subst (λ (place : Option ℕ). Found code c.args.me entry.at entry.need place bound) w.in_default.is
+          w.in_ok-place.ensures.found in
           rw w.bound-is (record {
             long = w.in_ok-place.ensures.long;
             bounds = kept.0;
             passed = passed_here code c.args.me number entry found bound kept c.loop-number.invariant.passed;
           })
       | else-entry-me w ↦ rw w.bound-is (record {
-          long = c.loop-number.invariant.long;
-          bounds = c.loop-number.invariant.bounds;
-          passed = passed_elsewhere code c.args.me number entry found
-              (λ same. w.if-entry-me.false (ap (λ (h : HostId). h.0) same)) c.loop-number.invariant.passed;
-        })
+        long = c.loop-number.invariant.long;
+        bounds = c.loop-number.invariant.bounds;
+        passed = passed_elsewhere code c.args.me number entry found
+            (λ same. w.if-entry-me.false (ap (λ (h : HostId). h.0) same)) c.loop-number.invariant.passed;
+      })
     ]
 
 pub returns-clause-kept : goal.returns-clause-kept

@@ -32,18 +32,18 @@ loop-place-preserved-in-Continue-branch-2 c =
     let told = c.names_within-counts.result in
     let opens = subst (IsOpenAt place need) c.deref.ensures.value (c.is_open.ensures.open c.if-is_open.true) in
     let there : instruction_at code c.args.me place ≡ Some one =
-        subst (λ (list : List Instr). slice_get list place ≡ Some one) c.part-part.ensures
-        (slice_get-get_or c.part-part.result.now place c.index-part-place.result
-        (omega (arith, opens.0, c.loop-place.invariant.0, ap length c.part-part.ensures))) in
+    subst (λ (list : List Instr). slice_get list place ≡ Some one) c.part-part.ensures
+    (slice_get-get_or c.part-part.result.now place c.index-part-place.result
+    (omega (arith, opens.0, c.loop-place.invariant.0, ap length c.part-part.ensures))) in
     let work : IsWalk code c.args.me c.args.at need bound (c.pop.new.self.items ++ place ∷ []) c.loop-place.least =
-        subst (λ (list : List ℕ). IsWalk code c.args.me c.args.at need bound list c.loop-place.least)
-        c.in-Some.ensures.items c.loop-place.invariant.1 in
+    subst (λ (list : List ℕ). IsWalk code c.args.me c.args.at need bound list c.loop-place.least)
+    c.in-Some.ensures.items c.loop-place.invariant.1 in
     rw c.lower.ensures (
       length-set bound place (bit_and (slice_index bound place) need) ∙ c.loop-place.invariant.0,
       rw (c.lesser-least.ensures, c.in_ok-push_on.ensures)
-      (visits code c.args.me c.args.at need bound c.pop.new.self.items place c.loop-place.least one (not told)
-      opens.0 there (not_so told (NamesWithin code need one.op) c.names_within-counts.ensures)
-      (is_so told (NamesWithin code need one.op) c.names_within-counts.ensures) work),
+          (visits code c.args.me c.args.at need bound c.pop.new.self.items place c.loop-place.least one (not told)
+          opens.0 there (not_so told (NamesWithin code need one.op) c.names_within-counts.ensures)
+          (is_so told (NamesWithin code need one.op) c.names_within-counts.ensures) work),
     )
 
 pub loop-place-preserved : goal.loop-place-preserved
@@ -51,11 +51,11 @@ loop-place-preserved c =
     let bound = c.loop-place.bound.items in
     let place = c.in-Some.place in
     let closed = subst (λ (list : List ℕ). BitsWithin (slice_index list place) c.args.need) c.deref.ensures.value
-        (c.is_open.ensures.closed c.if-is_open.false) in (
+    (c.is_open.ensures.closed c.if-is_open.false) in (
       c.loop-place.invariant.0,
       skips c.args.code.now c.args.me c.args.at c.args.need bound c.pop.new.self.items place c.loop-place.least closed
-      (subst (λ (list : List ℕ). IsWalk c.args.code.now c.args.me c.args.at c.args.need bound list c.loop-place.least)
-      c.in-Some.ensures.items c.loop-place.invariant.1),
+          (subst (λ (list : List ℕ). IsWalk c.args.code.now c.args.me c.args.at c.args.need bound list c.loop-place.least)
+          c.in-Some.ensures.items c.loop-place.invariant.1),
     )
 
 pub returns-clause-found : goal.returns-clause-found
