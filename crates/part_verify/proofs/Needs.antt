@@ -1,6 +1,6 @@
 -- The entries of a host one after the other, with bounds that are kept from one to the next.
-use Rattle.std.proofs.Common.{◌≡◌, ◌≢◌, ◌<◌, ◌≤◌, ◌+◌, ◌∙◌, ◌⊎◌, ℕ, List, length, ap, refl, sym, subst, inl, inr, arith, replicate}
-use Rattle.std.specs.Prelude.{Option, Some, None, slice_get, slice_index}
+use Rattle.std.proofs.Common.{◌≡◌, ◌≢◌, ◌<◌, ◌≤◌, ◌+◌, ◌∙◌, ℕ, List, length, ap, refl, sym, subst, inl, inr, arith, replicate}
+use Rattle.std.specs.Prelude.{Some, None, slice_get, slice_index}
 use Rattle.std.proofs.lemmas.Bool.{cases_eq}
 use Rattle.std.proofs.lemmas.List.{get_or-replicate}
 use Rattle.std.proofs.lemmas.Option.{slice_get_within}
@@ -10,12 +10,12 @@ use Rattle.js_base.specs.Bits.{BitsWithin}
 use Rattle.js_base.proofs.Options.{some_same}
 use Rattle.host_code.specs.declared.code.Entry.{Entry}
 use Rattle.host_code.specs.declared.instruction.Instr.{Instr}
-use Rattle.host_code.specs.Code.{CodeShape, halt, part_of, entry_at, instruction_at}
+use Rattle.host_code.specs.Code.{CodeShape, halt, part_of, instruction_at}
 use Rattle.part_verify.specs.declared.errors.VerifyError.TheVariants.{WeakEntry}
 use Rattle.part_verify.specs.Paths.{IsUnder, Leads}
 use Rattle.part_verify.specs.SoundPart.{NamesWithin, AreNeedsKept}
-use Rattle.part_verify.specs.Bounds.{IsBounded, NamesMore, Found}
-use Rattle.part_verify.specs.Refusing.{BreaksNeed, IsRefusedFor}
+use Rattle.part_verify.specs.Bounds.{IsBounded, Found}
+use Rattle.part_verify.specs.Refusing.{IsRefusedFor}
 use Rattle.part_verify.proofs.Within.{all_set, in_all_set, names_in_all, names_in_larger}
 use Rattle.part_verify.proofs.Walks.{led_within}
 

@@ -1,13 +1,13 @@
 -- A part is refused for one thing, and a sound part for nothing but want of memory.
-use Rattle.std.proofs.Common.{◌≡◌, ◌≢◌, ◌<◌, ◌≤◌, ◌⊎◌, ℕ, ap, ap₂, sym, subst, inl, inr, refl, arith}
-use Rattle.std.proofs.lemmas.Bool.{cases_eq, cases_lt}
+use Rattle.std.proofs.Common.{◌≡◌, ◌≢◌, ◌<◌, ℕ, ap, ap₂, sym, subst, inl, inr, refl, arith}
+use Rattle.std.proofs.lemmas.Bool.{cases_lt}
 use Rattle.js_base.specs.declared.ids.HostId.{HostId}
 use Rattle.js_base.specs.declared.ids.EntryId.{EntryId}
 use Rattle.host_code.specs.Code.{CodeShape}
 use Rattle.part_verify.specs.declared.errors.VerifyError.{VerifyError}
 use Rattle.part_verify.specs.declared.errors.VerifyError.TheVariants.{OutOfMemory, WeakEntry, Reveals}
 use Rattle.part_verify.specs.SoundPart.{IsSoundPart, AreNeedsKept}
-use Rattle.part_verify.specs.Refusing.{BreaksNeed, RevealsAt, IsRefusedFor}
+use Rattle.part_verify.specs.Refusing.{BreaksNeed, IsRefusedFor}
 
 -- of two numbers that are first in their order none is before the other
 first_of_both : (first second : ℕ) → (first < second → ⊥) → (second < first → ⊥) → first ≡ second

@@ -1,6 +1,6 @@
 -- A walk over the instructions that an entry leads to, with a bound for each place.
 use Rattle.std.proofs.Common.{◌≡◌, ◌≢◌, ◌<◌, ◌≤◌, ◌+◌, ◌*◌, ◌⊎◌, ◌∙◌, ℕ, zero, suc, List, [], ◌∷◌, ◌++◌, length, refl, ap, sym, subst, inl, inr, arith, bit_and}
-use Rattle.std.specs.Prelude.{Bool, true, false, not, IsTrue, ◌↔◌, if◌then◌else◌, ◌==◌, nat_lt, Option, Some, None, IfSome, slice_get, slice_index, slice_set, Contains}
+use Rattle.std.specs.Prelude.{Bool, true, false, not, IsTrue, ◌↔◌, if◌then◌else◌, ◌==◌, nat_lt, Option, Some, None, IfSome, slice_index, slice_set, Contains}
 use Rattle.std.specs.List.{sum_by}
 use Rattle.std.specs.Int.Bits.{and_self}
 use Rattle.std.proofs.Math.Nat.{le_refl}

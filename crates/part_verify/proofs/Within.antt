@@ -1,5 +1,5 @@
 -- What needs have, where one need has another.
-use Rattle.std.proofs.Common.{◌≡◌, ◌<◌, ◌≤◌, ◌-◌, ◌^◌, ◌∙◌, ℕ, List, [], ◌∷◌, ap, arith, bit_and}
+use Rattle.std.proofs.Common.{◌-◌, ◌^◌, ℕ, List, [], ◌∷◌, arith, bit_and}
 use Rattle.std.specs.Int.{bit_at}
 use Rattle.std.specs.List.{AllByRecursion}
 use Rattle.std.proofs.Math.Nat.{le_trans, le_refl}

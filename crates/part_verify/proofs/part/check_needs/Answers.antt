@@ -1,14 +1,13 @@
-use Rattle.std.proofs.Common.{rules, ◌≡◌, ◌≢◌, ◌≤◌, ◌<◌, ◌∙◌, ℕ, List, length, ap, sym, subst, arith, replicate, get_or}
-use Rattle.std.specs.Prelude.{Some, slice_get, IfSome, Option, None}
+use Rattle.std.proofs.Common.{◌≡◌, ◌<◌, ◌∙◌, ℕ, List, length, ap, sym, subst, arith, replicate, get_or}
+use Rattle.std.specs.Prelude.{Some, slice_get, Option, None}
 use Rattle.std.proofs.lemmas.List.{length-replicate}
 use Rattle.std.proofs.lemmas.Option.{slice_get-get_or}
 use Rattle.js_base.specs.declared.ids.HostId.{HostId}
 use Rattle.js_base.specs.declared.ids.EntryId.{EntryId}
 use Rattle.host_code.specs.declared.code.Entry.{Entry}
-use Rattle.host_code.specs.Code.{halt, part_of}
 use Rattle.part_verify.specs.Bounds.{IsBounded, Found}
 use Rattle.part_verify.proofs.Within.{all_set}
-use Rattle.part_verify.proofs.Needs.{ArePassed, bounds_begin, none_passed, all_passed, passed_elsewhere, passed_here, refused_here}
+use Rattle.part_verify.proofs.Needs.{bounds_begin, none_passed, all_passed, passed_elsewhere, passed_here, refused_here}
 use Rattle.part_verify.proofs.part.check_needs.Goals.{then-entry-me+in_ok-place+in_default, else-entry-me}
 use Rattle.part_verify.proofs.part.check_needs.Goals as goal
 
