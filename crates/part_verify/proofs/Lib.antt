@@ -1,3 +1,5 @@
+mod Covered
+mod Keeps
 pub mod Needs
 mod OneRefusal
 pub mod Walks

@@ -1,5 +1,5 @@
 -- What a thread does that keeps within the need of the entry at which it started.
-use Rattle.std.specs.Prelude.{ℕ, ⊤, ⊥, ◌⊎◌, Option, IfSome, IsSomeAnd}
+use Rattle.std.specs.Prelude.{ℕ, ⊤, ◌⊎◌, Option, IfSome, IsSomeAnd}
 use Rattle.std.specs.List.{AllByRecursion}
 use Rattle.js_base.specs.declared.ids.HostId.{HostId}
 use Rattle.js_base.specs.declared.ids.FieldId.{FieldId}
