@@ -1,6 +1,6 @@
 -- Where a thread stands that started at an entry.
 use Rattle.std.proofs.Common.{◌≡◌, ◌≢◌, ◌∙◌, ◌⊎◌, ◌+◌, ℕ, zero, suc, List, [], ◌∷◌, ◌++◌, Option, Some, None, ap, sym, subst, inl, inr, refl}
-use Rattle.std.specs.Prelude.{Contains, slice_get, remove}
+use Rattle.std.specs.Prelude.{Contains, slice_get, remove, ⊤}
 use Rattle.js_base.specs.declared.ids.HostId.{HostId}
 use Rattle.js_base.specs.declared.ids.EntryId.{EntryId}
 use Rattle.js_base.specs.Bits.{BitsWithin}

@@ -62,19 +62,19 @@ marks_sent marks running mark (Some (to, message.Sync request frame entry token)
 marks_sent marks running mark (Some other) = record { running = None; waiting = marks.waiting }
 
 -- a token that is given back on its own host starts the thread of the top entry
-abbrev pub mark_behind : HostShape → Option EntryId → Op → Option EntryId
-mark_behind host mark op.Back = top_entry host.entries
-mark_behind host mark other = mark
+abbrev pub mark_behind : List StackEntry → Option EntryId → Op → Option EntryId
+mark_behind entries mark op.Back = top_entry entries
+mark_behind entries mark other = mark
 
-abbrev pub mark_behind_place : HostShape → Option EntryId → Option Instr → Option EntryId
-mark_behind_place host mark None = mark
-mark_behind_place host mark (Some one) = mark_behind host mark one.op
+abbrev pub mark_behind_place : List StackEntry → Option EntryId → Option Instr → Option EntryId
+mark_behind_place entries mark None = mark
+mark_behind_place entries mark (Some one) = mark_behind entries mark one.op
 
 abbrev pub marks_after_turn : CodeShape → HostShape → Option ThreadShape → Outcome → Marks → Marks
 marks_after_turn code host None outcome marks = marks
 marks_after_turn code host (Some thread) outcome marks =
     marks_sent marks outcome.state.running
-    (mark_behind_place host marks.running (instruction_at code host.me thread.at)) outcome.sent
+    (mark_behind_place host.entries marks.running (instruction_at code host.me thread.at)) outcome.sent
 
 -- the thread that waits at this place runs again
 abbrev pub marks_answered : Marks → Option ℕ → Marks

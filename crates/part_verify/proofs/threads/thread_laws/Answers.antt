@@ -1,6 +1,5 @@
-use Rattle.part_verify.proofs.Keeps.{operation_says}
-use Rattle.part_verify.proofs.Covered.{covered_called}
+use Rattle.part_verify.proofs.Runs.{within}
 use Rattle.part_verify.proofs.threads.thread_laws.Goals as goal
 
 pub returns : goal.returns
-returns c = ?
+returns c = record { within = within }
