@@ -1,7 +1,7 @@
 -- A thread of a host with a sound part keeps within the need of the entry at which it started.
-use Rattle.std.proofs.Common.{◌≡◌, ◌≢◌, ◌∙◌, ◌⊎◌, ◌+◌, ℕ, ℤ, All, List, [], ◌∷◌, Option, Some, None, ap, sym, subst, inl, inr, refl}
-use Rattle.std.specs.Prelude.{Bool, true, false, ◌==◌, if◌then◌else◌, IsSomeAnd, IfSome, ⊤}
-use Rattle.std.proofs.lemmas.Bool.{cases_eq}
+use Rattle.std.proofs.Common.{◌≡◌, ◌≢◌, ◌∙◌, ◌⊎◌, ◌+◌, ℕ, ℤ, suc, length, All, List, [], ◌∷◌, Option, Some, None, ap, sym, subst, inl, inr, refl}
+use Rattle.std.specs.Prelude.{Bool, true, false, ◌==◌, if◌then◌else◌, IsSomeAnd, IfSome, IsSome, ⊤}
+use Rattle.std.proofs.lemmas.Bool.{cases_eq, false≢true}
 use Rattle.js_base.specs.declared.ids.HostId.{HostId}
 use Rattle.js_base.specs.declared.ids.EntryId.{EntryId}
 use Rattle.capability.specs.declared.token.Token.{Token}
@@ -9,7 +9,7 @@ use Rattle.host_code.specs.declared.code.Entry.{Entry}
 use Rattle.host_code.specs.declared.instruction.Instr.{Instr}
 use Rattle.host_code.specs.Code.{CodeShape, halt, entry_at, instruction_at, part_of}
 use Rattle.host_code.specs.Sound.{IsHost, IsSoundCode}
-use Rattle.host_code.specs.Thread.{ThreadShape}
+use Rattle.host_code.specs.Thread.{ThreadShape, WaitingShape}
 use Rattle.host_core.specs.Host.{HostShape, Outcome, with_running, after_push, after_entering, new_token}
 use Rattle.host_core.specs.Start.{host_at_start, idle_host, root_host, main_frame, last_token}
 use Rattle.host_core.specs.Turn.{IsTurn, IsTurnOf, IsRunning, IsOperation}
@@ -141,6 +141,30 @@ mark_is : (code : CodeShape) (me : HostId) (running : Option ThreadShape) (mark 
 mark_is code me running mark thread there is marked covered =
     let with_thread = subst (λ (o : Option ThreadShape). IsMarked code me o mark) is covered in
     subst (IsMarked code me (Some thread)) marked with_thread
+
+has_mark : (code : CodeShape) (me : HostId) (running : Option ThreadShape) (mark : Option EntryId) →
+    IsMarked code me running mark → IsSome running → IsSome mark
+has_mark code me None mark covered runs = absurd (false≢true runs)
+has_mark code me (Some thread) None covered runs = absurd covered
+has_mark code me (Some thread) (Some mark) covered runs = refl
+
+same_length : (code : CodeShape) (me : HostId) (marks : List EntryId) (waiting : List WaitingShape) →
+    AreMarked code me marks waiting → length marks ≡ length waiting
+same_length code me [] [] all = refl
+same_length code me [] (one ∷ waiting) all = absurd all
+same_length code me (mark ∷ marks) [] all = absurd all
+same_length code me (mark ∷ marks) (one ∷ waiting) all = ap suc (same_length code me marks waiting all.1)
+
+pub marked : (code : CodeShape) (me : HostId) (store : List (List ℤ)) (key : List ℕ) (events : List HostEvent)
+    (host : HostShape) (marks : Marks) → IsSoundCode code → IsHost code me → IsSoundPart code me →
+    HostRun code (host_at_start code store key me) (marks_at_start code me) events host marks →
+    (IsSome host.running → IsSome marks.running) × (length marks.waiting ≡ length host.waiting)
+marked code me store key events host marks sound is_host part run =
+    let stands : Stands code me host marks =
+        (started_holds code me sound is_host part.needs store key events host marks run).1 in (
+      has_mark code me host.running marks.running stands.1,
+      same_length code me marks.waiting host.waiting stands.2,
+    )
 
 pub within : (code : CodeShape) (me : HostId) (store : List (List ℤ)) (key : List ℕ) (events : List HostEvent)
     (host : HostShape) (marks : Marks) (there : EntryId) (entry : Entry) (thread : ThreadShape) (one : Instr)

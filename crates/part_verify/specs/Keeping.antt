@@ -20,7 +20,11 @@ SendsWithin code need (message.Sync request frame entry token) = EntryWithin cod
 SendsWithin code need (message.Rgoto frame entry token) = EntryWithin code need entry
 SendsWithin code need (message.RgotoWith frame entry token riders) =
     EntryWithin code need entry × AllByRecursion (VariableWithin code need) (names_of riders)
-SendsWithin code need other = ⊤
+SendsWithin code need (message.Get request field index) = ⊤
+SendsWithin code need (message.Lgoto token) = ⊤
+SendsWithin code need (message.Value request value) = ⊤
+SendsWithin code need (message.Ack request) = ⊤
+SendsWithin code need (message.Token request token) = ⊤
 
 abbrev pub SeesField : CodeShape → HostId → FieldId → Type 0
 SeesField code host field = IsSomeAnd (field_at code field) (λ there. IsSeenBy code there.label host)

@@ -1,6 +1,6 @@
 //! What the threads of a host with a sound part do, whatever is delivered.
 
-ghost use Rattle.std.specs.Prelude.{◌≡◌, ◌≢◌, ℕ, ℤ, List, Some};
+ghost use Rattle.std.specs.Prelude.{◌≡◌, ◌≢◌, ℕ, ℤ, List, Some, IsSome, length};
 ghost use Rattle.js_base.specs.declared.ids.HostId.{HostId};
 ghost use Rattle.js_base.specs.declared.ids.EntryId.{EntryId};
 ghost use Rattle.host_code.specs.declared.code.Entry.{Entry};
@@ -26,4 +26,10 @@ pub fn thread_laws()
         host.running ≡ Some thread → marks.running ≡ Some there → there ≢ halt → entry_at code there ≡ Some entry →
         instruction_at code me thread.at ≡ Some one → IsTurn code host outcome →
         KeepsWithin code entry.need one outcome.sent }
+
+    // Each thread that runs or waits has started at an entry.
+    ensures marked { (code : CodeShape) (me : HostId) (store : List (List ℤ)) (key : List ℕ) (events : List HostEvent)
+        (host : HostShape) (marks : Marks) → IsSoundCode code → IsHost code me → IsSoundPart code me →
+        HostRun code (host_at_start code store key me) (marks_at_start code me) events host marks →
+        (IsSome host.running → IsSome marks.running) × (length marks.waiting ≡ length host.waiting) }
 {}
