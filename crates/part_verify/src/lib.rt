@@ -10,11 +10,13 @@ mod laws;
 mod names;
 mod part;
 mod shows;
+mod threads;
 mod weak;
 
 pub use errors::VerifyError;
 pub use laws::verify_laws;
 pub use part::verify;
+pub use threads::thread_laws;
 
 #[cfg(test)]
 mod tests;
