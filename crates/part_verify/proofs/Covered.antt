@@ -1,5 +1,5 @@
 -- Where a thread stands that started at an entry.
-use Rattle.std.proofs.Common.{◌≡◌, ◌≢◌, ◌∙◌, ◌⊎◌, ◌+◌, ℕ, zero, suc, List, [], ◌∷◌, ◌++◌, Option, Some, None, ap, sym, subst, inl, inr, refl}
+use Rattle.std.proofs.Common.{◌≡◌, ◌≢◌, ◌⊎◌, ℕ, zero, suc, List, [], ◌∷◌, ◌++◌, Option, Some, None, subst, inl, inr, refl}
 use Rattle.std.specs.Prelude.{Contains, slice_get, remove, ⊤}
 use Rattle.js_base.specs.declared.ids.HostId.{HostId}
 use Rattle.js_base.specs.declared.ids.EntryId.{EntryId}
@@ -61,7 +61,7 @@ pub covered_called : (code : CodeShape) (me : HostId) (mark called : EntryId) (o
 covered_called code me mark called on there place one kept is calls not_halt found here (inl ends) = inl ends
 covered_called code me mark called on there place one kept is calls not_halt found here (inr (by, under, within)) =
     let names : NamesWithin code under.entry.need (op.Call called on) =
-        subst (NamesWithin code under.entry.need) calls (kept by place one under is) in
+    subst (NamesWithin code under.entry.need) calls (kept by place one under is) in
     inr (
       called,
       record { entry = there; is = found; not_halt = not_halt; here = here; leads = (0, refl) },

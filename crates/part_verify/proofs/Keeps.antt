@@ -1,7 +1,6 @@
 -- What an instruction sends, where a need has what it names and other hosts may see what it shows.
-use Rattle.std.proofs.Common.{◌≡◌, ◌≢◌, ◌∙◌, ◌⊎◌, ℕ, ℤ, List, [], ◌∷◌, Option, Some, None, ap, ap₂, sym, subst, inl, inr, refl, map}
+use Rattle.std.proofs.Common.{◌≡◌, ◌≢◌, ◌∙◌, ◌⊎◌, ℕ, List, [], ◌∷◌, Option, Some, None, ap, sym, subst, inl, inr, refl}
 use Rattle.std.specs.Prelude.{Bool, true, false, ◌==◌, if◌then◌else◌, IfSome, IsSomeAnd}
-use Rattle.std.specs.Ordering.{int_eq}
 use Rattle.std.specs.List.{AllByRecursion}
 use Rattle.std.proofs.lemmas.Bool.{false≢true}
 use Rattle.std.proofs.lemmas.Bool.Decides.{eqb_tells}
@@ -20,8 +19,8 @@ use Rattle.host_code.specs.declared.message.Message.TheVariants as message
 use Rattle.host_code.specs.Code.{CodeShape, CodeFieldShape, field_at, entry_at}
 use Rattle.host_code.specs.Thread.{ThreadShape}
 use Rattle.host_code.specs.Riders.{names_of}
-use Rattle.host_core.specs.Host.{HostShape, Outcome, without_message, with_message, with_running, with_one_ignored, after_pop, value_in_thread, with_variable_set, after_clearing}
-use Rattle.host_core.specs.Turn.{after_operation, after_read, after_put, after_own_push, after_ask, after_go, after_go_with, after_own_call, after_return, after_back, after_branch, after_forward, with_thread, riders_of}
+use Rattle.host_core.specs.Host.{HostShape, Outcome, without_message, with_message, with_running, value_in_thread, with_variable_set, after_clearing}
+use Rattle.host_core.specs.Turn.{after_operation, after_read, after_put, after_own_push, after_ask, after_go, after_go_with, after_own_call, after_return, after_back, after_forward, with_thread, riders_of}
 use Rattle.part_verify.specs.SoundPart.{EntryWithin, FieldWithin, VariableWithin, NamesWithin, IsSeenBy, SeesVariable, ShowsWell}
 use Rattle.part_verify.specs.Keeping.{SendsWithin, ShowsTo, IsSentByToken}
 

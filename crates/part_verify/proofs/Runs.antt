@@ -1,13 +1,13 @@
 -- A thread of a host with a sound part keeps within the need of the entry at which it started.
-use Rattle.std.proofs.Common.{◌≡◌, ◌≢◌, ◌∙◌, ◌⊎◌, ◌+◌, ℕ, ℤ, suc, length, All, List, [], ◌∷◌, Option, Some, None, ap, sym, subst, inl, inr, refl}
-use Rattle.std.specs.Prelude.{Bool, true, false, ◌==◌, if◌then◌else◌, IsSomeAnd, IfSome, IsSome, ⊤}
+use Rattle.std.proofs.Common.{◌≡◌, ◌≢◌, ◌∙◌, ℕ, ℤ, suc, length, All, List, [], ◌∷◌, Option, Some, None, ap, sym, subst, inl, inr, refl}
+use Rattle.std.specs.Prelude.{Bool, true, false, ◌==◌, if◌then◌else◌, IsSomeAnd, IfSome, IsSome}
 use Rattle.std.proofs.lemmas.Bool.{cases_eq, false≢true}
 use Rattle.js_base.specs.declared.ids.HostId.{HostId}
 use Rattle.js_base.specs.declared.ids.EntryId.{EntryId}
 use Rattle.capability.specs.declared.token.Token.{Token}
 use Rattle.host_code.specs.declared.code.Entry.{Entry}
 use Rattle.host_code.specs.declared.instruction.Instr.{Instr}
-use Rattle.host_code.specs.Code.{CodeShape, halt, entry_at, instruction_at, part_of}
+use Rattle.host_code.specs.Code.{CodeShape, halt, entry_at, instruction_at}
 use Rattle.host_code.specs.Sound.{IsHost, IsSoundCode}
 use Rattle.host_code.specs.Thread.{ThreadShape, WaitingShape}
 use Rattle.host_core.specs.Host.{HostShape, Outcome, with_running, after_push, after_entering, new_token}
@@ -76,14 +76,14 @@ module _ (code : CodeShape) (me : HostId) (sound : IsSoundCode code) (is_host : 
   step_holds (Comes from letter) host marks outcome holds step = (
     (taking_kept code host from letter outcome sound holds.0 step.1 step.2 step.3).0,
     subst (λ (o : Outcome). Stands code me o.state (marks_after_message host from letter o marks)) step.3.2
-    (taking_leaves code me host marks from letter step.3.0 holds.1 step.0
-    (subst (λ (h : HostId). All (EntryFits code h) host.entries) holds.1.0 holds.0.entries) step.3.1),
+        (taking_leaves code me host marks from letter step.3.0 holds.1 step.0
+        (subst (λ (h : HostId). All (EntryFits code h) host.entries) holds.1.0 holds.0.entries) step.3.1),
   )
   step_holds Runs host marks outcome holds step = (
     (turn_kept code host outcome sound holds.0 step.1).0,
     turn_on host marks host.running outcome holds.1.0 holds.1.1 holds.1.2 refl
-    (subst (λ (h : HostId). All (EntryFits code h) host.entries) holds.1.0 holds.0.entries)
-    (subst (λ (h : HostId). IfSome host.running (RunningFits code h)) holds.1.0 holds.0.running) step.1,
+        (subst (λ (h : HostId). All (EntryFits code h) host.entries) holds.1.0 holds.0.entries)
+        (subst (λ (h : HostId). IfSome host.running (RunningFits code h)) holds.1.0 holds.0.running) step.1,
   )
 
   run_holds : (events : List HostEvent) (host later : HostShape) (marks marked : Marks) → Holds host marks →
@@ -122,7 +122,7 @@ module _ (code : CodeShape) (me : HostId) (sound : IsSoundCode code) (is_host : 
       let idle = idle_host code store key me in (
         root_fits code idle sound (idle_fits code store key me is_host) (same_host me code.root root),
         main_stands (after_push idle halt main_frame (last_token me)) (new_token idle halt main_frame)
-        (entry_at code code.main) refl refl tt (same_host me code.root root) sound.main,
+            (entry_at code code.main) refl refl tt (same_host me code.root root) sound.main,
       )
   start_holds store key false root = (idle_fits code store key me is_host, (refl, tt, tt))
 
@@ -161,7 +161,7 @@ pub marked : (code : CodeShape) (me : HostId) (store : List (List ℤ)) (key : L
     (IsSome host.running → IsSome marks.running) × (length marks.waiting ≡ length host.waiting)
 marked code me store key events host marks sound is_host part run =
     let stands : Stands code me host marks =
-        (started_holds code me sound is_host part.needs store key events host marks run).1 in (
+    (started_holds code me sound is_host part.needs store key events host marks run).1 in (
       has_mark code me host.running marks.running stands.1,
       same_length code me marks.waiting host.waiting stands.2,
     )
@@ -176,19 +176,19 @@ pub within : (code : CodeShape) (me : HostId) (store : List (List ℤ)) (key : L
 within code me store key events host marks there entry thread one outcome sound is_host part run running mark not_halt is
     found turn =
     let stands : Stands code me host marks =
-        (started_holds code me sound is_host part.needs store key events host marks run).1 in
+    (started_holds code me sound is_host part.needs store key events host marks run).1 in
     let names : NamesWithin code entry.need one.op =
-        covered_names code me there entry thread.at one part.needs not_halt is found
-        (mark_is code me host.running marks.running thread there running mark stands.1) in
+    covered_names code me there entry thread.at one part.needs not_halt is found
+    (mark_is code me host.running marks.running thread there running mark stands.1) in
     let shows : ShowsWell code host.me one.label one.op =
-        subst (λ (h : HostId). ShowsWell code h one.label one.op) (sym stands.0) (part.shows thread.at one found) in
+    subst (λ (h : HostId). ShowsWell code h one.label one.op) (sym stands.0) (part.shows thread.at one found) in
     let runs : IsTurnOf code host (Some thread) outcome =
-        subst (λ (o : Option ThreadShape). IsTurnOf code host o outcome) running turn in
+    subst (λ (o : Option ThreadShape). IsTurnOf code host o outcome) running turn in
     let there_is : instruction_at code host.me thread.at ≡ Some one =
-        ap (λ (h : HostId). instruction_at code h thread.at) stands.0 ∙ found in
+    ap (λ (h : HostId). instruction_at code h thread.at) stands.0 ∙ found in
     let does : IsOperation code (with_running host None) thread one.op outcome =
-        subst (λ (o : Option Instr). IsRunning code (with_running host None) thread o outcome) there_is runs in
+    subst (λ (o : Option Instr). IsRunning code (with_running host None) thread o outcome) there_is runs in
     let says : Says code entry.need one.label one.op outcome.sent =
-        subst (λ (o : Outcome). Says code entry.need one.label one.op o.sent) does.2
-        (operation_says code (with_running host None) thread entry.need one.label one.op does.0 names shows) in
+    subst (λ (o : Outcome). Says code entry.need one.label one.op o.sent) does.2
+    (operation_says code (with_running host None) thread entry.need one.label one.op does.0 names shows) in
     record { names = names; sends = says.0; shows = says.1 }

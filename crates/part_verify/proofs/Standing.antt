@@ -1,6 +1,6 @@
 -- Each thread of a host stands where the entry at which it started may lead, whatever is delivered.
-use Rattle.std.proofs.Common.{◌≡◌, ◌≢◌, ◌∙◌, ◌⊎◌, ◌+◌, ℕ, ℤ, All, List, [], ◌∷◌, ◌++◌, Option, Some, None, ap, sym, subst, inl, inr, refl}
-use Rattle.std.specs.Prelude.{Bool, true, false, ◌==◌, ◌↔◌, if◌then◌else◌, IsTrue, IsSome, ⊤, Contains, IsSomeAnd, IfSome, slice_get, remove}
+use Rattle.std.proofs.Common.{◌≡◌, ◌≢◌, ◌∙◌, ◌+◌, ℕ, All, List, [], ◌∷◌, ◌++◌, Option, Some, None, ap, sym, subst, inl, inr, refl}
+use Rattle.std.specs.Prelude.{Bool, true, false, ◌==◌, ◌↔◌, if◌then◌else◌, IsTrue, IsSome, Contains, IsSomeAnd, slice_get}
 use Rattle.std.specs.Option.{option_map}
 use Rattle.std.specs.Ordering.{int_eq}
 use Rattle.std.proofs.lemmas.Bool.{false≢true}
@@ -9,7 +9,6 @@ use Rattle.std.proofs.lemmas.List.Elements.{Contains-push, Contains-append_left,
 use Rattle.js_base.specs.declared.ids.HostId.{HostId}
 use Rattle.js_base.specs.declared.ids.FieldId.{FieldId}
 use Rattle.js_base.specs.declared.ids.FrameId.{FrameId}
-use Rattle.js_base.specs.declared.ids.RequestId.{RequestId}
 use Rattle.js_base.specs.declared.ids.VarId.{VarId}
 use Rattle.js_base.specs.declared.ids.EntryId.{EntryId}
 use Rattle.capability.specs.declared.token.Token.{Token}
@@ -22,14 +21,13 @@ use Rattle.host_code.specs.declared.instruction.Op.TheVariants as op
 use Rattle.host_code.specs.declared.message.Message.{Message}
 use Rattle.host_code.specs.declared.message.Message.TheVariants as message
 use Rattle.host_code.specs.Code.{CodeShape, CodeFieldShape, halt, field_at, entry_at, instruction_at}
-use Rattle.host_code.specs.Sound.{IsSoundCode, IsEntryOn, OperationFits, temporaries_at}
+use Rattle.host_code.specs.Sound.{IsEntryOn, OperationFits}
 use Rattle.host_code.specs.Riders.{Rider}
-use Rattle.host_code.specs.Thread.{ThreadShape, Awaited, WaitingShape}
+use Rattle.host_code.specs.Thread.{ThreadShape, WaitingShape}
 use Rattle.host_code.specs.Thread.Awaited.{value_of_field, acknowledgement, token_of_entry}
-use Rattle.entry_check.specs.Checks.{MayEnter}
-use Rattle.host_core.specs.Host.{HostShape, Outcome, without_message, with_message, with_running, with_one_ignored, after_pop, after_entering, value_in_thread, with_variable_set, with_variables_set, after_clearing, after_step, with_temporary, with_token}
+use Rattle.host_core.specs.Host.{HostShape, Outcome, without_message, with_running, with_one_ignored, after_pop, after_entering, value_in_thread, with_variable_set, with_variables_set, with_temporary, with_token}
 use Rattle.host_core.specs.Taking.{after_passing, after_taking, after_answer, Passes, place_of_awaiting}
-use Rattle.host_core.specs.Turn.{after_operation, after_read, after_put, after_own_push, after_ask, after_go, after_go_with, after_own_call, after_return, after_back, after_branch, after_forward, with_thread}
+use Rattle.host_core.specs.Turn.{after_operation, after_read, after_put, after_own_push, after_ask, after_go, after_go_with, after_own_call, after_return, after_back, after_branch}
 use Rattle.host_core.specs.Fits.{EntryFits, TokenFits}
 use Rattle.host_core.proofs.TurnKept.{same_host}
 use Rattle.part_verify.specs.Paths.{goes_on}
@@ -65,8 +63,11 @@ module _ (code : CodeShape) (me : HostId) where
       IsSomeAnd (entry_at code entry) (λ there. there.host ≡ me) →
       Stands code me (if halts then record host { running = None; halted = true }
       else after_entering host (entry_at code entry) frame kept)
-      (record { running = mark_of (if halts then record host { running = None; halted = true }
-      else after_entering host (entry_at code entry) frame kept).running (Some entry); waiting = waiting })
+      (record {
+        running = mark_of (if halts then record host { running = None; halted = true }
+            else after_entering host (entry_at code entry) frame kept).running (Some entry);
+        waiting = waiting;
+      })
   popped_on host entry frame kept waiting true is same all on = (same, tt, all)
   popped_on host entry frame kept waiting false is same all on =
       entered host entry frame kept waiting (entry_at code entry) refl same all (other_entry entry is) on
@@ -189,7 +190,7 @@ module _ (code : CodeShape) (me : HostId) where
       called_here entry on does enters at_home there found =
           let on_is : on ≡ me = same_host on host.me at_home ∙ same in
           let there_on : IsSomeAnd (Some there) (λ (t : Entry). t.host ≡ on) =
-              subst (λ (o : Option Entry). IsSomeAnd o (λ t. t.host ≡ on)) found enters.1 in
+          subst (λ (o : Option Entry). IsSomeAnd o (λ t. t.host ≡ on)) found enters.1 in
           covered_called code me mark entry on there thread.at one kept is does enters.0 found (there_on ∙ on_is) here
 
       one_on : (does : Op) → one.op ≡ does → Contains (goes_on does thread.at) (thread.at + 1) →
