@@ -19,6 +19,13 @@ use Rattle.part_verify.specs.Refusing.{IsRefusedFor}
 use Rattle.part_verify.proofs.Within.{all_set, in_all_set, names_in_all, names_in_larger}
 use Rattle.part_verify.proofs.Walks.{led_within}
 
+-- entries of one number are the same
+pub same_number : (first second : EntryId) → first.0 ≡ second.0 → first ≡ second
+same_number first second same = ap entry_of same
+  where
+    entry_of : ℕ → EntryId
+    entry_of number = record { 0 = number }
+
 -- what the entries below a number lead to names only what their needs have
 abbrev pub ArePassed : CodeShape → HostId → ℕ → Type 0
 ArePassed code me number = (there : EntryId) (place : ℕ) (one : Instr) (under : IsUnder code me there place) →
@@ -40,18 +47,11 @@ bounds_begin code me count long = record {
 module _ (code : CodeShape) (me : HostId) where
   pub none_passed : ArePassed code me 1
   none_passed there place one under first is =
-      absurd (under.not_halt (ap entry_of (let zero_is : there.0 ≡ 0 = omega (arith, first) in zero_is)))
-    where
-      entry_of : ℕ → EntryId
-      entry_of number = record { 0 = number }
+      absurd (under.not_halt (same_number there halt (omega (arith, first))))
 
   pub all_passed : (number : ℕ) → length code.entries ≤ number → ArePassed code me number → AreNeedsKept code me
   all_passed number past passed there place one under =
       passed there place one under (omega (arith, past, slice_get_within code.entries there.0 under.entry under.is))
-
-  pub passed_fewer : (fewer number : ℕ) → fewer ≤ number → ArePassed code me number → ArePassed code me fewer
-  passed_fewer fewer number few passed there place one under below =
-      passed there place one under (omega (arith, few, below))
 
   module _ (number : ℕ) (entry : Entry) (found : slice_get code.entries number ≡ Some entry) where
     abbrev this : EntryId

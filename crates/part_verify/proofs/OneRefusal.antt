@@ -8,6 +8,7 @@ use Rattle.part_verify.specs.declared.errors.VerifyError.{VerifyError}
 use Rattle.part_verify.specs.declared.errors.VerifyError.TheVariants.{OutOfMemory, WeakEntry, Reveals}
 use Rattle.part_verify.specs.SoundPart.{IsSoundPart, AreNeedsKept}
 use Rattle.part_verify.specs.Refusing.{BreaksNeed, IsRefusedFor}
+use Rattle.part_verify.proofs.Needs.{same_number}
 
 -- of two numbers that are first in their order none is before the other
 first_of_both : (first second : ℕ) → (first < second → ⊥) → (second < first → ⊥) → first ≡ second
@@ -23,15 +24,12 @@ none_broken : (code : CodeShape) (me : HostId) (there : EntryId) (place : ℕ) �
     BreaksNeed code me there place → ⊥
 none_broken code me there place kept breaks = breaks.3 (kept there place breaks.0 breaks.1 breaks.2)
 
-abbrev entry_of : ℕ → EntryId
-entry_of number = record { 0 = number }
-
 pub one_refusal : (code : CodeShape) (me : HostId) (first second : VerifyError) → first ≢ OutOfMemory →
     second ≢ OutOfMemory → IsRefusedFor code me first → IsRefusedFor code me second → first ≡ second
 one_refusal code me OutOfMemory second no_memory other one two = absurd (no_memory refl)
 one_refusal code me (WeakEntry there place) OutOfMemory other no_memory one two = absurd (no_memory refl)
 one_refusal code me (WeakEntry there place) (WeakEntry again at) memory more one two =
-    let same : there ≡ again = ap entry_of (first_of_both there.0 again.0
+    let same : there ≡ again = same_number there again (first_of_both there.0 again.0
     (λ before. two.2 there place before one.0) (λ before. one.2 again at before two.0)) in
     let here : BreaksNeed code me there at = subst (λ (entry : EntryId). BreaksNeed code me entry at) (sym same) two.0 in
     let there_too : BreaksNeed code me again place = subst (λ (entry : EntryId). BreaksNeed code me entry place) same one.0 in

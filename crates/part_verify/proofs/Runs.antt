@@ -23,6 +23,7 @@ use Rattle.part_verify.specs.Marks.{Marks, HostEvent, IsHostStep, HostRun, marks
 use Rattle.part_verify.specs.Marks.HostEvent.{Comes, Runs}
 use Rattle.part_verify.proofs.Covered.{IsCovered, IsMarked, AreMarked, covered_entered, covered_names}
 use Rattle.part_verify.proofs.Keeps.{Says, operation_says}
+use Rattle.part_verify.proofs.Needs.{same_number}
 use Rattle.part_verify.proofs.Standing.{Stands, operation_leaves, taking_leaves}
 
 module _ (code : CodeShape) (me : HostId) (sound : IsSoundCode code) (is_host : IsHost code me)
@@ -99,12 +100,9 @@ module _ (code : CodeShape) (me : HostId) (sound : IsSoundCode code) (is_host : 
   main_covered : (there : Entry) → entry_at code code.main ≡ Some there → there.host ≡ me →
       IsCovered code me code.main there.at
   main_covered there is here = elim (cases_eq code.main.0 0) [
-    | inl zero_is ↦ inl (ap entry_of zero_is)
+    | inl zero_is ↦ inl (same_number code.main halt zero_is)
     | inr apart ↦ covered_entered code me code.main there (λ same. apart (ap (λ (e : EntryId). e.0) same)) is here
   ]
-    where
-      entry_of : ℕ → EntryId
-      entry_of number = record { 0 = number }
 
   main_stands : (host : HostShape) (token : Token) (found : Option Entry) → entry_at code code.main ≡ found →
       host.me ≡ me → AreMarked code me [] host.waiting → me ≡ code.root →

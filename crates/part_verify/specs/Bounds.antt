@@ -1,5 +1,6 @@
 -- Bounds of what is named at places and behind them, a word for each place of a part.
-use Rattle.std.specs.Prelude.{◌≡◌, ℕ, ◌<◌, Bool, true, false, if◌then◌else◌, nat_lt, List, Option, Some, None, slice_index}
+use Rattle.std.specs.Prelude.{◌≡◌, ℕ, ◌<◌, Bool, true, false, if◌then◌else◌, nat_lt}
+use Rattle.std.specs.Prelude.{List, Option, Some, None, slice_index}
 use Rattle.js_base.specs.declared.ids.HostId.{HostId}
 use Rattle.js_base.specs.Bits.{BitsWithin}
 use Rattle.host_code.specs.declared.instruction.Instr.{Instr}

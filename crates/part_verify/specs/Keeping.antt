@@ -10,7 +10,8 @@ use Rattle.host_code.specs.declared.message.Message.{Message}
 use Rattle.host_code.specs.declared.message.Message.TheVariants as message
 use Rattle.host_code.specs.Riders.{names_of}
 use Rattle.host_code.specs.Code.{CodeShape, field_at}
-use Rattle.part_verify.specs.SoundPart.{EntryWithin, FieldWithin, VariableWithin, NamesWithin, IsSeenBy, SeesVariable, ShowsVariable}
+use Rattle.part_verify.specs.SoundPart.{EntryWithin, FieldWithin, VariableWithin, NamesWithin}
+use Rattle.part_verify.specs.SoundPart.{IsSeenBy, SeesVariable, ShowsVariable}
 
 -- the need has what a message names: the entry, the field that it sets, and each variable that it forwards
 abbrev pub SendsWithin : CodeShape → ℕ → Message → Type 0

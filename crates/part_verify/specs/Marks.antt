@@ -1,5 +1,6 @@
 -- At which entry each thread of a host started, told by the steps of the host, whatever is delivered to it.
-use Rattle.std.specs.Prelude.{◌≡◌, ◌==◌, ℕ, List, [], ◌∷◌, ◌++◌, Option, Some, None, IsSome, if◌then◌else◌, slice_get, remove}
+use Rattle.std.specs.Prelude.{◌≡◌, ◌==◌, ℕ, List, [], ◌∷◌, ◌++◌, Option, Some}
+use Rattle.std.specs.Prelude.{None, IsSome, if◌then◌else◌, slice_get, remove}
 use Rattle.js_base.specs.declared.ids.HostId.{HostId}
 use Rattle.js_base.specs.declared.ids.EntryId.{EntryId}
 use Rattle.ics_stack.specs.declared.stack.StackEntry.{StackEntry}

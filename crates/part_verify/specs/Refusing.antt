@@ -19,8 +19,8 @@ abbrev pub RevealsAt : CodeShape → HostId → ℕ → Type 0
 RevealsAt code me place =
     (one : Instr) × (instruction_at code me place ≡ Some one) × (¬ ShowsWell code me one.label one.op)
 
--- The first entry that leads to such an instruction is told, with the least of its instructions. Where no entry does, it
--- is the first instruction that shows too much. Memory may run out at any time.
+-- The first entry that leads to such an instruction is told, with the least of its instructions. Where no entry does,
+-- it is the first instruction that shows too much. Memory may run out at any time.
 abbrev pub IsRefusedFor : CodeShape → HostId → VerifyError → Type 0
 IsRefusedFor code me OutOfMemory = ⊤
 IsRefusedFor code me (WeakEntry there place) = BreaksNeed code me there place

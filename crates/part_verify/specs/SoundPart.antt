@@ -33,8 +33,8 @@ abbrev pub VariableWithin : CodeShape → ℕ → VarId → Type 0
 VariableWithin code need variable =
     (there : CodeVariableShape) → variable_at code variable ≡ Some there → LabelWithin code need there.label
 
--- The need has who is in the need of each entry that an operation names, and who trusts each field that it sets and each
--- variable that it sets or forwards. What it reads is another matter.
+-- The need has who is in the need of each entry that an operation names, and who trusts each field that it sets and
+-- each variable that it sets or forwards. What it reads is another matter.
 abbrev pub NamesWithin : CodeShape → ℕ → Op → Type 0
 NamesWithin code need (op.Read field index) = ⊤
 NamesWithin code need (op.Let variable value) = VariableWithin code need variable

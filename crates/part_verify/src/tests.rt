@@ -15,8 +15,8 @@ const WORD: usize = 8;
 
 /// How a file begins, in which a byte is a decimal number, `free` stands for the bytes of the label `{}`, and `secret`
 /// for those of a label whose first owner allows no reader. There are two hosts with the label `{}`, both labels, a
-/// secret field on the second host, the variable `main.v` with the label `{}`, and three entries: two of the first host,
-/// of which the second has a need, and one of the other host.
+/// secret field on the second host, the variable `main.v` with the label `{}`, and three entries: two of the first
+/// host, of which the second has a need, and one of the other host.
 const BEGINNING: &str = "74 73 70 83 80 76 73 84 0 1 0 0 0 2 0 0 0 1 65 free 0 0 0 1 66 free\n\
     0 0 0 2 free secret\n\
     0 0 0 1 0 0 0 1 102 0 0 0 1 0 0 0 1 0 0 0 0 0 0 0 0 0 1\n\
@@ -34,8 +34,8 @@ const BEHIND_NEED: &str = "1 0 0 0 0 0 0 0 0 0 0 0 0 0 0 0 1\n\
 const OTHER_PART: &str = "0 0 0 1 0 0 0 0 0 0 0 0 13";
 
 /// What comes of the part of the first host, the need of its second entry, and the part: `ask` and `go`; the same with
-/// a need that lacks the principal; `send` and `go`; a branch to `go` over `back`; `send` and, secretly, `go`; that with
-/// a need that lacks the principal; and the secret field set.
+/// a need that lacks the principal; `send` and `go`; a branch to `go` over `back`; `send` and, secretly, `go`; that
+/// with a need that lacks the principal; and the secret field set.
 const ROWS: &str = "\
     Ok(()) | 1 | 0 0 0 2 0 0 0 0 0 0 0 0 9 0 0 0 2 1 0 0 0 0 0 0 0 0 10 0 0 0 2 1\n\
     Err(WeakEntry(EntryId(1), 0)) | 0 | 0 0 0 2 0 0 0 0 0 0 0 0 9 0 0 0 2 1 0 0 0 0 0 0 0 0 10 0 0 0 2 1\n\

@@ -17,8 +17,8 @@ ghost use Rattle.part_verify.specs.SoundPart.{IsSoundPart};
 
 /// Laws of the threads of a host that runs a sound part. The call does nothing.
 pub fn thread_laws()
-    // Whatever was delivered to a host with a sound part, a thread that started at an entry keeps within the need of this
-    // entry. Nothing is said of a thread that started at the entry that ends the program.
+    // Whatever was delivered to a host with a sound part, a thread that started at an entry keeps within the need of
+    // this entry. Nothing is said of a thread that started at the entry that ends the program.
     ensures within { (code : CodeShape) (me : HostId) (store : List (List ℤ)) (key : List ℕ) (events : List HostEvent)
         (host : HostShape) (marks : Marks) (there : EntryId) (entry : Entry) (thread : ThreadShape) (one : Instr)
         (outcome : Outcome) → IsSoundCode code → IsHost code me → IsSoundPart code me →

@@ -1,8 +1,8 @@
 //! The instructions that an entry leads to, and which of them names more than the entry's need.
 //!
 //! A walk from each entry for itself would take entries times instructions. So each place of the part has a bound, a
-//! word that has all that is named there and behind it, at first all ones. A walk goes on only at a place whose bound is
-//! not within its need, and takes a bit of it away at least, so an instruction is visited 64 times at most.
+//! word that has all that is named there and behind it, at first all ones. A walk goes on only at a place whose bound
+//! is not within its need, and takes a bit of it away at least, so an instruction is visited 64 times at most.
 
 ghost use Rattle.std.specs.Prelude.{◌≡◌, ◌<◌, ◌≤◌, ◌++◌, Bool, IfOk, OnOk, length};
 ghost use Rattle.std.specs.Prelude.{slice_index, slice_set};
@@ -19,8 +19,8 @@ use js_base::bits::bits_within;
 use js_base::{HostId, OutOfMemory};
 use std::alloc::Global;
 
-/// The least instruction of host `me` that the place leads to and that names more than the need. `None` where each names
-/// only what the need has; then the bounds have what is named at each place and behind it.
+/// The least instruction of host `me` that the place leads to and that names more than the need. `None` where each
+/// names only what the need has; then the bounds have what is named at each place and behind it.
 pub(crate) fn weak_at(
     alloc: Global,
     code: &Code,
