@@ -1,0 +1,8 @@
+mod Covered
+mod Keeps
+pub mod Needs
+mod OneRefusal
+mod Runs
+mod Standing
+pub mod Walks
+pub mod Within

@@ -1,0 +1,5 @@
+use Rattle.part_verify.proofs.OneRefusal.{one_refusal, never_both}
+use Rattle.part_verify.proofs.laws.verify_laws.Goals as goal
+
+pub returns : goal.returns
+returns c = record { one_refusal = one_refusal; never_both = never_both }
