@@ -59,8 +59,8 @@ const UNDER_A_SECRET: &str = "\
     A 1 statement 2 {Alice: Alice; ?: Alice}\n\
     A 2 statement 1 {Alice: Alice; ?: Alice}\n";
 
-/// A call. T is trusted by Alice, and B sees what is Bob's. The entry behind the call asks for what the call asks for,
-/// which is Alice's trust for the parameter.
+/// A call. T is trusted by Alice, and B sees what is Bob's. The method begins on B, where the parameter rides to. The
+/// entry behind the call asks for what the call asks for, which is Alice's trust for the parameter.
 const A_CALL: &str = "\
     int{Bob:} b;\n\
     void add{}(int{?:Alice} n) {\n\
@@ -75,15 +75,12 @@ const A_CALL: &str = "\
     entry e0 {?: Alice} needs Alice\n\
     entry e1 {} needs nobody\n\
     entry e2 {?: Alice} needs Alice\n\
-    entry e3 {} needs nobody\n\
-    entry e4 {?: Alice} needs Alice\n\
-    T 0 statement 0 {}\n\
+    entry e3 {?: Alice} needs Alice\n\
+    T 0 statement 3 {?: Alice}\n\
     T 1 statement 3 {?: Alice}\n\
     T 2 statement 3 {?: Alice}\n\
     T 3 statement 3 {?: Alice}\n\
-    T 4 statement 3 {?: Alice}\n\
-    T 5 statement 3 {?: Alice}\n\
-    T 6 statement 2 {?: Alice}\n\
+    T 4 statement 2 {?: Alice}\n\
     B 0 statement 1 {}\n\
     B 1 statement 1 {}\n\
     B 2 statement 0 {}\n";
