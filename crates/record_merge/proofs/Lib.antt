@@ -1,0 +1,3 @@
+pub mod Spent
+pub mod Singles
+pub mod Beginnings

@@ -1,0 +1,6 @@
+//! The journals of all hosts, merged into one list of events.
+#![tactic(auto)]
+
+mod laws;
+
+pub use laws::single_laws;
