@@ -1,3 +1,6 @@
 pub mod Spent
 pub mod Singles
 pub mod Beginnings
+pub mod NotedRuns
+pub mod OneMeeting
+pub mod OneLeft

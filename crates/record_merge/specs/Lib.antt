@@ -1,1 +1,4 @@
 pub mod Single
+pub mod JournalWords
+pub mod Notes
+pub mod Meeting

@@ -3,4 +3,4 @@
 
 mod laws;
 
-pub use laws::single_laws;
+pub use laws::{merge_laws, single_laws};
