@@ -4,3 +4,4 @@ pub mod Beginnings
 pub mod NotedRuns
 pub mod OneMeeting
 pub mod OneLeft
+pub mod Furthest

@@ -1,6 +1,6 @@
 -- At most one list of events meets whole journals.
 use Rattle.std.proofs.Common.{◌≡◌, ◌∙◌, ℕ, zero, suc, ◌+◌, ◌≤◌, ◌<◌, inl, inr, List, [], ◌∷◌, ◌++◌, length, take}
-use Rattle.std.proofs.Common.{refl, ap, sym, subst, arith, append-nil, ◌⊎◌}
+use Rattle.std.proofs.Common.{refl, ap, sym, subst, arith, append-nil, ◌⊎◌, Some}
 use Rattle.std.specs.Prelude.{map, slice_get, slice_index, unwrap_or, codes, ◌==◌, if◌then◌else◌}
 use Rattle.std.proofs.lemmas.Bool.{eq-eqb}
 use Rattle.std.proofs.lemmas.List.{append_assoc, append_cancel_left, length-append}
@@ -63,16 +63,17 @@ step_line code world after (Take from to place) note noted = record {
 }
 step_line code world after (Act from to made) note noted = absurd noted
 
--- the lines of a host after more events, of which the first is a step of it
-pub record OneMore (notes longer : List Note) (host : HostId) : Type 0 where
+-- the lines of a host after more events, of which the first is a step of it that is noted so
+pub record OneMore (notes longer : List Note) (note : Note) : Type 0 where
   pub first : List Word
   pub rest : Journal
-  pub lines_are : lines_at host longer ≡ lines_at host notes ++ first ∷ rest
+  pub lines_are : lines_at note.host longer ≡ lines_at note.host notes ++ first ∷ rest
   pub step : ¬ IsSendLine first
+  pub noted : slice_get note.lines 0 ≡ Some first
 
 pub one_more : (code : CodeShape) (world after : WorldShape) (event : Event) (note : Note)
     (notes later longer : List Note) → IsNoted code world event after note → longer ≡ notes ++ note ∷ later →
-    OneMore notes longer note.host
+    OneMore notes longer note
 one_more code world after event note notes later longer noted is =
     let line = step_line code world after event note noted in
     record {
@@ -82,6 +83,7 @@ one_more code world after event note notes later longer noted is =
           ∙ ap (λ (lines : Journal). lines_at note.host notes ++ lines)
           (own_lines note later ∙ ap (λ (lines : Journal). lines ++ lines_at note.host later) line.lines_are);
       step = line.step;
+      noted = ap (λ (lines : Journal). slice_get lines 0) line.lines_are;
     }
 
 -- ---- whole journals

@@ -3,8 +3,8 @@
 -- A journal is the list of its lines that tell of a turn, a take or a send, each by its words. There is one for each
 -- host, in order. A host may have been stopped behind a step and before the line of what the step sent, so the last
 -- such line may be missing.
-use Rattle.std.specs.Prelude.{◌≡◌, ◌⊎◌, ◌≤◌, ◌<◌, ℕ, List, [], ◌∷◌, ◌++◌, length, map, take, slice_get, slice_index}
-use Rattle.std.specs.Prelude.{unwrap_or, IsSomeAnd}
+use Rattle.std.specs.Prelude.{◌≡◌, ◌≢◌, ◌⊎◌, ◌≤◌, ◌<◌, ℕ, List, [], ◌∷◌, ◌++◌, length, map, take, slice_get, slice_index}
+use Rattle.std.specs.Prelude.{unwrap_or, IsSomeAnd, Some}
 use Rattle.js_base.specs.declared.ids.HostId.{HostId}
 use Rattle.event_text.specs.declared.event.Event.{Event}
 use Rattle.event_text.specs.Lines.{LineShape}
@@ -12,7 +12,7 @@ use Rattle.event_text.specs.Words.{Word}
 use Rattle.host_code.specs.Code.{CodeShape}
 use Rattle.net_world.specs.World.{WorldShape}
 use Rattle.record_merge.specs.JournalWords.{IsSendLine}
-use Rattle.record_merge.specs.Notes.{Note, IsNotedRun, lines_at}
+use Rattle.record_merge.specs.Notes.{Note, IsNoted, IsNotedRun, lines_at}
 
 -- the lines of a journal, by their words
 abbrev pub Journal : Type 0
@@ -65,3 +65,26 @@ pub record IsLeftAt (code : CodeShape) (world : WorldShape) (said : List (List L
       (λ line. line.number ≡ number)
   pub furthest : (others : List Event) (reached : List ℕ) → MeetsUpTo code world (words_in said) reached others →
       (other : HostId) → slice_index reached other.0 ≤ slice_index places other.0
+
+-- ---- how a search ends
+
+-- These are the lines of a journal before a place, or these and the line of a message that was sent, which is not the
+-- next line of the journal.
+abbrev pub IsKept : Journal → Journal → ℕ → Type 0
+IsKept own journal place =
+    (own ≡ take place journal)
+    ⊎ ((sent : List Word) × IsSendLine sent × (own ≡ take place journal ++ sent ∷ [])
+    × (slice_get journal place ≢ Some sent))
+
+-- Events happen from a world on, the lines of each host are those of its journal before its place, and no event comes
+-- next whose line is the next line of its host's journal.
+pub record IsAtEnd (code : CodeShape) (world : WorldShape) (journals : List Journal) (places : List ℕ)
+    (events : List Event) : Type 0 where
+  pub within : (host : HostId) → slice_index places host.0 ≤ length (journal_at journals host)
+  pub last : WorldShape
+  pub notes : List Note
+  pub run : IsNotedRun code world events last notes
+  pub kept : (host : HostId) → IsKept (lines_at host notes) (journal_at journals host) (slice_index places host.0)
+  pub ends : (event : Event) (after : WorldShape) (note : Note) → IsNoted code last event after note →
+      lines_at note.host notes ≡ take (slice_index places note.host.0) (journal_at journals note.host) →
+      slice_get (journal_at journals note.host) (slice_index places note.host.0) ≢ slice_get note.lines 0
