@@ -1,5 +1,5 @@
 -- Before the first event a thread runs on the root host alone, and nothing is in flight.
-use Rattle.std.proofs.Common.{◌≡◌, ◌≢◌, ◌∙◌, ℕ, zero, suc, ◌+◌, ◌⊎◌, inl, inr, true, false, List, [], ◌∷◌, Option, Some, None}
+use Rattle.std.proofs.Common.{◌≡◌, ℕ, zero, suc, ◌+◌, ◌⊎◌, inl, inr, true, false, List, [], ◌∷◌, Option, Some, None}
 use Rattle.std.proofs.Common.{refl, ap, sym, subst, arith}
 use Rattle.std.specs.Prelude.{ℤ, IsSome, IsSomeAnd, slice_get, ◌==◌, if◌then◌else◌}
 use Rattle.std.proofs.lemmas.Bool.Decides.{eqb_tells}
@@ -8,14 +8,12 @@ use Rattle.js_base.specs.declared.ids.HostId.{HostId}
 use Rattle.js_base.proofs.Options.{some_or_none}
 use Rattle.host_decl.specs.Hosts as declared_hosts
 use Rattle.host_code.specs.Code.{CodeShape}
-use Rattle.host_code.specs.Thread.{ThreadShape}
 use Rattle.host_core.specs.Host.{HostShape}
 use Rattle.host_core.specs.Start.{host_at_start, idle_host, root_host}
 use Rattle.net_world.specs.Choice.{Runs}
-use Rattle.net_world.specs.World.{WorldShape, world_at_start, state_at, given, is_absent, host_before, hosts_before}
+use Rattle.net_world.specs.World.{world_at_start, state_at, given, is_absent, host_before, hosts_before}
 use Rattle.net_world.proofs.Present.{same_id}
-use Rattle.record_merge.specs.Single.{Active, nothing, runs, RunsAlone, IsSingle}
-use Rattle.record_merge.proofs.Singles.{runs_there}
+use Rattle.record_merge.specs.Single.{nothing, runs, IsSingle}
 
 no_bad : (code : CodeShape) (store : List (List ℤ)) (n : ℕ) (row : declared_hosts.HostShape) →
     host_before code store 0 n row ≡ Some (host_at_start code store row.key (record { 0 = n }))

@@ -1,9 +1,9 @@
 -- Where no event comes next whose line is the next line of its host's journal, no list comes further.
-use Rattle.std.proofs.Common.{◌≡◌, ◌≢◌, ◌∙◌, ℕ, zero, suc, ◌+◌, ◌≤◌, ◌<◌, ◌⊎◌, inl, inr, List, [], ◌∷◌, ◌++◌, length, take}
+use Rattle.std.proofs.Common.{◌≡◌, ◌≢◌, ◌∙◌, ℕ, zero, suc, ◌+◌, ◌≤◌, ◌<◌, inl, inr, List, [], ◌∷◌, ◌++◌, length, take}
 use Rattle.std.proofs.Common.{Some, refl, ap, sym, subst, arith, append-nil}
 use Rattle.std.specs.Prelude.{slice_get, slice_index}
 use Rattle.std.proofs.lemmas.Bool.Decides.{leb_tells}
-use Rattle.std.proofs.lemmas.List.{append_assoc, append_cancel_left, length-append}
+use Rattle.std.proofs.lemmas.List.{append_assoc, append_cancel_left, length-append, length-take-le}
 use Rattle.js_base.specs.declared.ids.HostId.{HostId}
 use Rattle.event_text.specs.declared.event.Event.{Event}
 use Rattle.event_text.specs.Words.{Word}
@@ -11,17 +11,12 @@ use Rattle.host_code.specs.Code.{CodeShape}
 use Rattle.net_world.specs.World.{WorldShape}
 use Rattle.record_merge.specs.JournalWords.{IsSendLine}
 use Rattle.record_merge.specs.Meeting.{Journal, journal_at, MeetsAt, MeetsUpTo, IsKept, IsAtEnd}
-use Rattle.record_merge.specs.Notes.{Note, IsNoted, IsNotedRun, lines_at}
+use Rattle.record_merge.specs.Notes.{Note, IsNotedRun, lines_at}
 use Rattle.record_merge.specs.Single.{IsSingle}
 use Rattle.record_merge.proofs.NotedRuns.{Beyond, either_begins}
-use Rattle.record_merge.proofs.OneMeeting.{lines_append, StepLine, step_line, one_more, own_lines}
+use Rattle.record_merge.proofs.OneMeeting.{lines_append, one_more}
 
 -- ---- journals up to a place
-
-take_size : (journal : Journal) (place : ℕ) → place ≤ length journal → length (take place journal) ≡ place
-take_size journal zero within = refl
-take_size [] (suc place) within = absurd (omega (arith, within))
-take_size (line ∷ journal) (suc place) within = ap suc (take_size journal place (omega (arith, within)))
 
 -- a journal that is met beyond a place has there what is met
 at_place : (journal : Journal) (reached place : ℕ) (end : Journal) (line : List Word) (more : Journal) →
@@ -64,8 +59,8 @@ beyond_place own shorter more journal place reached within ends is (inl full) re
     let size : length own ≡ length shorter + length more = ap length is ∙ length-append shorter more in
     let short : length shorter ≡ length (take reached journal) + length reach.end =
     ap length reach.own_is ∙ length-append (take reached journal) reach.end in
-    let taken = take_size journal reached ends in
-    let own_size : length own ≡ place = ap length full ∙ take_size journal place within in
+    let taken = length-take-le reached journal ends in
+    let own_size : length own ≡ place = ap length full ∙ length-take-le place journal within in
     omega (arith, size, short, taken, own_size, beyond)
 beyond_place own shorter more journal place reached within ends is (inr (sent, sends, over, apart)) reach beyond =
     let joined : take reached journal ++ (reach.end ++ more) ≡ take place journal ++ sent ∷ [] =
@@ -80,7 +75,7 @@ pub no_further : (own shorter more journal : Journal) (place reached : ℕ) → 
 no_further own shorter more journal place reached within ends is kept meets = elim (leb_tells reached place) [
   | inl low ↦ low.1
   | inr high ↦ absurd (beyond_place own shorter more journal place reached within ends is kept
-    (reaches shorter journal reached meets) high.1)
+      (reaches shorter journal reached meets) high.1)
 ]
 
 no_lines : (lines : Journal) → length lines ≡ 0 → lines ≡ []
@@ -100,20 +95,21 @@ no_step_more own longer first rest journal place reached within ends is step (in
       | inr high ↦ apart full (at_place journal reached place reach.end first rest high.1 ends joined)
       | inl low ↦
           let sizes : length (take reached journal) + length reach.end
-              ≡ length (take place journal) + length (first ∷ rest) =
+          ≡ length (take place journal) + length (first ∷ rest) =
           sym (length-append (take reached journal) reach.end) ∙ ap length joined
           ∙ length-append (take place journal) (first ∷ rest) in
-          let taken = take_size journal reached ends in
-          let kept = take_size journal place within in
+          let taken = length-take-le reached journal ends in
+          let kept = length-take-le place journal within in
           let few = reach.few in
           let lower = low.1 in
           let at : reached ≡ place = omega (arith, sizes, taken, kept, few, lower) in
           let none : length rest ≡ 0 = omega (arith, sizes, taken, kept, few, lower) in
           let tails : reach.end ≡ first ∷ rest = append_cancel_left (take place journal) reach.end (first ∷ rest)
-              (ap (λ n. take n journal ++ reach.end) (sym at) ∙ joined) in
+          (ap (λ n. take n journal ++ reach.end) (sym at) ∙ joined) in
           step (reach.sends first (tails ∙ ap (λ (lines : Journal). first ∷ lines) (no_lines rest none)))
     ]
-no_step_more own longer first rest journal place reached within ends is step (inr (sent, sends, over, other)) apart meets =
+no_step_more own longer first rest journal place reached within ends is step (inr (sent, sends, over, other)) apart
+    meets =
     let reach = reaches longer journal reached meets in
     let joined : take reached journal ++ reach.end ≡ take place journal ++ sent ∷ first ∷ rest =
     sym reach.own_is ∙ is ∙ ap (λ (lines : Journal). lines ++ first ∷ rest) over
@@ -122,11 +118,11 @@ no_step_more own longer first rest journal place reached within ends is step (in
       | inr high ↦ other (at_place journal reached place reach.end sent (first ∷ rest) high.1 ends joined)
       | inl low ↦
           let sizes : length (take reached journal) + length reach.end
-              ≡ length (take place journal) + length (sent ∷ first ∷ rest) =
+          ≡ length (take place journal) + length (sent ∷ first ∷ rest) =
           sym (length-append (take reached journal) reach.end) ∙ ap length joined
           ∙ length-append (take place journal) (sent ∷ first ∷ rest) in
-          let taken = take_size journal reached ends in
-          let kept = take_size journal place within in
+          let taken = length-take-le reached journal ends in
+          let kept = length-take-le place journal within in
           let few = reach.few in
           let lower = low.1 in
           absurd (omega (arith, sizes, taken, kept, few, lower))
@@ -157,7 +153,8 @@ none_later : (code : CodeShape) (world : WorldShape) (journals : List Journal) (
     (more : List Event) (final : WorldShape) (later : List Note) → IsNotedRun code end.last more final later →
     meets.notes ≡ end.notes ++ later → later ≡ []
 none_later code world journals places events reached others end meets [] final later run is = run.1
-none_later code world journals places events reached others end meets (event ∷ more) final later (after, note, rest, noted, run, later_is) is =
+none_later code world journals places events reached others end meets (event ∷ more) final later
+    (after, note, rest, noted, run, later_is) is =
     let line = one_more code end.last after event note end.notes rest meets.notes noted
     (is ∙ ap (λ (ns : List Note). end.notes ++ ns) later_is) in
     let host = note.host in
@@ -173,7 +170,8 @@ nothing_more : (code : CodeShape) (world : WorldShape) (journals : List Journal)
     Beyond code events others end.last end.notes meets.notes → (host : HostId) →
     lines_at host end.notes ≡ lines_at host meets.notes ++ []
 nothing_more code world journals places events reached others end meets beyond host =
-    let none = none_later code world journals places events reached others end meets beyond.more beyond.final beyond.later
+    let none =
+    none_later code world journals places events reached others end meets beyond.more beyond.final beyond.later
     beyond.run beyond.notes_are in
     let same : meets.notes ≡ end.notes =
     beyond.notes_are ∙ ap (λ (ns : List Note). end.notes ++ ns) none ∙ append-nil end.notes in
@@ -191,5 +189,5 @@ furthest code world journals places events single end others reached meets host 
     elim (either_begins code world end.last meets.last events others end.notes meets.notes single end.run meets.run) [
       | inl beyond ↦ compare [] (nothing_more code world journals places events reached others end meets beyond host)
       | inr beyond ↦ compare beyond.later
-        (ap (lines_at host) beyond.notes_are ∙ lines_append host meets.notes beyond.later)
+          (ap (lines_at host) beyond.notes_are ∙ lines_append host meets.notes beyond.later)
     ]

@@ -1,22 +1,20 @@
 -- Of two lists of events that happen from one world on, one begins with the other, and so do their notes.
-use Rattle.std.proofs.Common.{◌≡◌, ◌∙◌, ℕ, ◌⊎◌, inl, inr, List, [], ◌∷◌, ◌++◌, Some, refl, ap, sym, subst}
-use Rattle.std.specs.Prelude.{slice_get, if◌then◌else◌, ◌==◌, codes}
-use Rattle.std.proofs.lemmas.List.{append_assoc}
+use Rattle.std.proofs.Common.{◌≡◌, ◌∙◌, ◌⊎◌, inl, inr, List, [], ◌∷◌, ◌++◌, refl, ap, sym, subst}
+use Rattle.std.specs.Prelude.{slice_get}
 use Rattle.js_base.specs.declared.ids.HostId.{HostId}
 use Rattle.js_base.proofs.Options.{some_same}
 use Rattle.event_text.specs.declared.event.Event.{Event}
 use Rattle.event_text.specs.declared.event.Event.TheVariants.{Take, Turn, Act}
-use Rattle.event_text.specs.Words.{Word}
 use Rattle.host_code.specs.Code.{CodeShape}
 use Rattle.host_core.specs.Host.{HostShape, Outcome}
 use Rattle.host_core.specs.Taking.{IsTaking}
 use Rattle.host_core.specs.Turn.{IsTurn}
 use Rattle.host_core.proofs.OneOutcome.{one_taking, one_turn_of}
 use Rattle.net_world.specs.Flying.{Flight}
-use Rattle.net_world.specs.World.{WorldShape, IsStep, IsTakeStep, IsTurnStep, state_at}
+use Rattle.net_world.specs.World.{WorldShape, IsStep, state_at}
 use Rattle.net_world.proofs.StepLaws.{one_step}
-use Rattle.record_merge.specs.JournalWords.{turn_words, take_words, sent_words, IsSendLine}
-use Rattle.record_merge.specs.Notes.{Note, IsNoted, IsNotedRun, lines_at}
+use Rattle.record_merge.specs.JournalWords.{turn_words, take_words, sent_words}
+use Rattle.record_merge.specs.Notes.{Note, IsNoted, IsNotedRun}
 use Rattle.record_merge.specs.Single.{IsSingle}
 use Rattle.record_merge.proofs.Singles.{step_single, one_event}
 
@@ -127,10 +125,12 @@ either_begins code world last final (event ∷ events) (next ∷ others) notes l
     let happens = run_two.3 in
     let goes = run_two.4 in
     let step = noted_step code world after event note noted in
-    let same : next ≡ event = one_event code world there after next event single (noted_step code world there next also happens) step in
+    let same : next ≡ event =
+    one_event code world there after next event single (noted_step code world there next also happens) step in
     let again : IsNoted code world event there also = subst (λ e. IsNoted code world e there also) same happens in
     let note_is : also ≡ note = one_note code world there after event also note again noted in
-    let world_is : there ≡ after = one_step code world there after event (noted_step code world there event also again) step in
+    let world_is : there ≡ after =
+    one_step code world there after event (noted_step code world there event also again) step in
     let going : IsNotedRun code after others final rest =
     subst (λ (w : WorldShape). IsNotedRun code w others final rest) world_is goes in
     let firsts : notes ≡ note ∷ later = run_one.5 in
@@ -138,9 +138,9 @@ either_begins code world last final (event ∷ events) (next ∷ others) notes l
     elim (either_begins code after last final events others later rest (step_single code world after event single step)
     run going) [
       | inl beyond ↦ inl (along code (event ∷ events) (event ∷ events) (event ∷ others) (next ∷ others) last
-        (note ∷ later) notes (note ∷ rest) longer refl (ap (λ e. e ∷ others) (sym same)) (sym firsts) (sym seconds)
-        (beyond_more code event note events others last later rest beyond))
+          (note ∷ later) notes (note ∷ rest) longer refl (ap (λ e. e ∷ others) (sym same)) (sym firsts) (sym seconds)
+          (beyond_more code event note events others last later rest beyond))
       | inr beyond ↦ inr (along code (event ∷ others) (next ∷ others) (event ∷ events) (event ∷ events) final
-        (note ∷ rest) longer (note ∷ later) notes (ap (λ e. e ∷ others) (sym same)) refl (sym seconds) (sym firsts)
-        (beyond_more code event note others events final rest later beyond))
+          (note ∷ rest) longer (note ∷ later) notes (ap (λ e. e ∷ others) (sym same)) refl (sym seconds) (sym firsts)
+          (beyond_more code event note others events final rest later beyond))
     ]

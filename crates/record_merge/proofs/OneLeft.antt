@@ -1,5 +1,5 @@
 -- Journals that are left before their end are met by no list, and are left at one line.
-use Rattle.std.proofs.Common.{◌≡◌, ◌∙◌, ℕ, ◌≤◌, ◌<◌, ◌⊎◌, inl, inr, List, [], length, Option, Some, None, refl, ap, sym, subst, arith}
+use Rattle.std.proofs.Common.{◌≡◌, ◌∙◌, ℕ, ◌≤◌, inl, inr, List, [], length, Option, Some, None, ap, sym, subst, arith}
 use Rattle.std.specs.Prelude.{map, slice_get, slice_index, unwrap_or, IsSomeAnd}
 use Rattle.std.proofs.lemmas.Bool.Decides.{leb_tells}
 use Rattle.js_base.specs.declared.ids.HostId.{HostId}
@@ -8,7 +8,7 @@ use Rattle.event_text.specs.Lines.{LineShape}
 use Rattle.host_code.specs.Code.{CodeShape}
 use Rattle.net_world.specs.World.{WorldShape}
 use Rattle.net_world.proofs.Present.{same_id}
-use Rattle.record_merge.specs.Meeting.{Journal, journal_at, MeetsUpTo, Meets, IsFirstLeft, IsLeftAt, words_in}
+use Rattle.record_merge.specs.Meeting.{Journal, Meets, IsFirstLeft, IsLeftAt, words_in}
 use Rattle.record_merge.proofs.OneMeeting.{whole_place}
 
 pub never_met : (code : CodeShape) (world : WorldShape) (said : List (List LineShape)) (host : HostId) (number : ℕ)

@@ -1,7 +1,8 @@
 -- At most one list of events meets whole journals.
-use Rattle.std.proofs.Common.{◌≡◌, ◌∙◌, ℕ, zero, suc, ◌+◌, ◌≤◌, ◌<◌, inl, inr, List, [], ◌∷◌, ◌++◌, length, take}
+use Rattle.std.proofs.Common.{◌≡◌, ◌∙◌, ℕ, zero, suc, ◌+◌, inl, inr, List, [], ◌∷◌, ◌++◌, length, take}
 use Rattle.std.proofs.Common.{refl, ap, sym, subst, arith, append-nil, ◌⊎◌, Some}
 use Rattle.std.specs.Prelude.{map, slice_get, slice_index, unwrap_or, codes, ◌==◌, if◌then◌else◌}
+use Rattle.std.proofs.Math.Seq.{take-length}
 use Rattle.std.proofs.lemmas.Bool.{eq-eqb}
 use Rattle.std.proofs.lemmas.List.{append_assoc, append_cancel_left, length-append}
 use Rattle.js_base.specs.declared.ids.HostId.{HostId}
@@ -11,7 +12,7 @@ use Rattle.event_text.specs.Words.{Word}
 use Rattle.host_code.specs.Code.{CodeShape}
 use Rattle.net_world.specs.World.{WorldShape}
 use Rattle.record_merge.specs.JournalWords.{IsSendLine}
-use Rattle.record_merge.specs.Meeting.{Journal, journal_at, MeetsAt, MeetsUpTo, Meets}
+use Rattle.record_merge.specs.Meeting.{Journal, journal_at, MeetsAt, Meets}
 use Rattle.record_merge.specs.Notes.{Note, IsNoted, IsNotedRun, lines_at}
 use Rattle.record_merge.specs.Single.{IsSingle}
 use Rattle.record_merge.proofs.NotedRuns.{Beyond, either_begins}
@@ -94,10 +95,6 @@ whole_place [] n = refl
 whole_place (journal ∷ journals) zero = refl
 whole_place (journal ∷ journals) (suc n) = whole_place journals n
 
-take_whole : (journal : Journal) → take (length journal) journal ≡ journal
-take_whole [] = refl
-take_whole (line ∷ journal) = ap (λ (lines : Journal). line ∷ lines) (take_whole journal)
-
 -- a whole journal, or it and the line of a message that was sent
 IsWhole : Journal → Journal → Type 0
 IsWhole own journal = (own ≡ journal) ⊎ ((sent : List Word) × IsSendLine sent × (own ≡ journal ++ sent ∷ []))
@@ -105,10 +102,14 @@ IsWhole own journal = (own ≡ journal) ⊎ ((sent : List Word) × IsSendLine se
 is_whole : (own journal : Journal) (place : ℕ) → place ≡ length journal → MeetsAt own journal place →
     IsWhole own journal
 unfolding IsWhole
-is_whole own journal place at (inl is) = inl (is ∙ ap (λ n. take n journal) at ∙ take_whole journal)
+is_whole own journal place at (inl is) = inl (is ∙ ap (λ n. take n journal) at ∙ take-length journal)
 is_whole own journal place at (inr (sent, sends, is)) =
-    inr (sent, sends, is ∙ ap (λ (lines : Journal). lines ++ sent ∷ [])
-    (ap (λ n. take n journal) at ∙ take_whole journal))
+    inr (
+      sent,
+      sends,
+      is ∙ ap (λ (lines : Journal). lines ++ sent ∷ [])
+          (ap (λ n. take n journal) at ∙ take-length journal),
+    )
 
 no_longer : (own longer journal : Journal) (first : List Word) (rest : Journal) → longer ≡ own ++ first ∷ rest →
     ¬ IsSendLine first → IsWhole own journal → IsWhole longer journal → ⊥
@@ -153,10 +154,12 @@ no_more : (code : CodeShape) (journals : List Journal) (last final : WorldShape)
     AreWhole journals notes → AreWhole journals longer → more ≡ []
 unfolding AreWhole
 no_more code journals last final [] later notes longer run is one two = refl
-no_more code journals last final (event ∷ more) later notes longer (after, note, rest, noted, run, later_is) is one two =
+no_more code journals last final (event ∷ more) later notes longer (after, note, rest, noted, run, later_is) is one
+    two =
     let beyond = one_more code last after event note notes rest longer noted
     (is ∙ ap (λ (ns : List Note). notes ++ ns) later_is) in
-    absurd (no_longer (lines_at note.host notes) (lines_at note.host longer) (journal_at journals note.host) beyond.first
+    absurd (no_longer (lines_at note.host notes) (lines_at note.host longer) (journal_at journals note.host)
+    beyond.first
     beyond.rest beyond.lines_are beyond.step (one note.host) (two note.host))
 
 same_events : (code : CodeShape) (journals : List Journal) (events others : List Event) (last : WorldShape)

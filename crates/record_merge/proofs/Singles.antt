@@ -1,25 +1,23 @@
 -- At most one thing goes on after a step, and at most one event is possible.
-use Rattle.std.proofs.Common.{◌≡◌, ◌≢◌, ◌∙◌, ℕ, zero, suc, ◌+◌, ◌<◌, ◌⊎◌, inl, inr, Bool, true, false, List, [], ◌∷◌, ◌++◌}
+use Rattle.std.proofs.Common.{◌≡◌, ◌≢◌, ◌∙◌, ℕ, zero, suc, ◌⊎◌, inl, inr, Bool, true, false, List, [], ◌∷◌, ◌++◌}
 use Rattle.std.proofs.Common.{length, Option, Some, None, refl, ap, sym, subst, arith}
 use Rattle.std.specs.Prelude.{IsSome, IsSomeAnd, IsTrue, slice_get, remove, ◌==◌, ◌&&◌, if◌then◌else◌}
 use Rattle.std.proofs.lemmas.Bool.{eq-eqb, eqb-true}
 use Rattle.std.proofs.lemmas.Bool.Decides.{eqb_tells}
 use Rattle.js_base.specs.declared.ids.HostId.{HostId}
-use Rattle.js_base.proofs.Options.{some_same, some_or_none}
+use Rattle.js_base.proofs.Options.{some_or_none}
 use Rattle.event_text.specs.declared.event.Event.{Event}
 use Rattle.event_text.specs.declared.event.Event.TheVariants.{Take, Turn, Act}
-use Rattle.event_text.specs.declared.event.BadMessage.{BadMessage}
 use Rattle.host_code.specs.Code.{CodeShape}
 use Rattle.host_code.specs.declared.message.Message.{Message}
-use Rattle.host_code.specs.Thread.{ThreadShape}
-use Rattle.host_core.specs.Host.{HostShape, Outcome, Letter, with_label, with_message}
-use Rattle.net_world.specs.Choice.{Runs, NoneRuns, Flies, NothingFlies}
+use Rattle.host_core.specs.Host.{HostShape, Outcome, Letter, with_label}
+use Rattle.net_world.specs.Choice.{Runs, Flies, NothingFlies}
 use Rattle.net_world.specs.Flying.{Flight, Flying, with_flights}
 use Rattle.net_world.specs.World.{WorldShape, IsStep, IsTakeStep, IsTurnStep, state_at, misbehaves, with_state}
 use Rattle.net_world.specs.World.{without_flight, after_sending, after_posting, after_telling, letter_of, after_step}
 use Rattle.net_world.proofs.Moved.{Moved, mover_state, other_state, bad_moved}
 use Rattle.net_world.proofs.Present.{same_id}
-use Rattle.record_merge.specs.Single.{Active, nothing, runs, flies, RunsAlone, FliesAlone, IsOnly, AllObey, IsSingle}
+use Rattle.record_merge.specs.Single.{Active, nothing, runs, flies, FliesAlone, IsOnly, AllObey, IsSingle}
 use Rattle.record_merge.proofs.Spent.{IsSpent, turn_spent, take_spent}
 
 -- ---- what runs
@@ -70,7 +68,7 @@ others_after : (world after : WorldShape) (host : HostId) (state : HostShape) (f
 others_after world after host state flying rest moved other running = elim (eqb_tells other.0 host.0) [
   | inl same ↦ same_id other host same.1
   | inr apart ↦ rest other (subst (λ o. IsSomeAnd o (λ s. IsSome s.running))
-    (other_state world after host other state flying moved apart.1) running)
+      (other_state world after host other state flying moved apart.1) running)
 ]
 
 -- nothing more is in flight: a thread goes on, or nothing
@@ -80,14 +78,19 @@ pub quiet_left : (world after : WorldShape) (host : HostId) (old state : HostSha
 quiet_left world after host old state obey obeys rest none moved =
     let there = mover_state world after host old state world.flying obeys moved in
     let others = others_after world after host state world.flying rest moved in
-    let flights : NothingFlies after = λ from to some. none from to (λ is. some (ap (λ f. f from to) moved.flying ∙ is)) in
-    let obeying : AllObey after = λ other. bad_moved world after host old state world.flying obeys moved other ∙ obey other in
+    let flights : NothingFlies after =
+    λ from to some. none from to (λ is. some (ap (λ f. f from to) moved.flying ∙ is)) in
+    let obeying : AllObey after =
+    λ other. bad_moved world after host old state world.flying obeys moved other ∙ obey other in
     elim (some_or_none state.running) [
       | inl rests ↦ record {
         obey = obeying;
         active = nothing;
-        only = (λ other running. rests_there after host state there rests
-            (subst (Runs after) (others other running) running), flights);
+        only = (
+          λ other running. rests_there after host state there rests
+              (subst (Runs after) (others other running) running),
+          flights,
+        );
       }
       | inr goes ↦ record {
         obey = obeying;
@@ -141,11 +144,12 @@ letter_left world after host old state (Some letter) obey obeys rest none spent 
     bad_moved world moved host old state world.flying obeys bare letter.to ∙ obey letter.to in
     let flight : Flight = record { message = letter.message; label = letter.label } in
     let done : after_posting moved host letter ≡ after =
-    sym (ap (λ b. if b then after_telling moved host (Some (letter.to, letter.message)) else after_posting moved host letter)
+    sym (ap (λ b. if b then after_telling moved host (Some (letter.to, letter.message))
+    else after_posting moved host letter)
     bad) ∙ leaves in
     let empty = not_some (world.flying host letter.to) (none host letter.to) in
     posted_left world after host letter.to old state flight obey obeys rest none
-    (elim spent [ | inl rests ↦ rests | inr unsent ↦ absurd (cc) ]) (record {
+    (elim spent [ inl rests ↦ rests | inr unsent ↦ absurd (cc) ]) (record {
       hosts = ap (λ (w : WorldShape). w.hosts) (sym done);
       flying = ap (λ (w : WorldShape). w.flying) (sym done)
           ∙ ap (λ flights. with_flights world.flying host letter.to (flights ++ flight ∷ [])) empty;
@@ -211,7 +215,8 @@ taken_flights : (world : WorldShape) (from to : HostId) (place : ℕ) (flight : 
     slice_get (world.flying from to) place ≡ Some flight → NothingFlies (without_flight world from to place)
 taken_flights world from to place flight alone there i j some =
     let left = remove (world.flying from to) place in
-    let gone : left ≡ [] = ap (remove (world.flying from to)) (first_place (world.flying from to) place flight alone.there there)
+    let gone : left ≡ [] =
+    ap (remove (world.flying from to)) (first_place (world.flying from to) place flight alone.there there)
     ∙ none_left (world.flying from to) alone.there in
     elim (some_or_empty (world.flying i j)) [
       | inl empty ↦
@@ -236,7 +241,8 @@ turn_single code world after host single step =
 take_single : (code : CodeShape) (world after : WorldShape) (from to : HostId) (place : ℕ) → IsSingle world →
     IsTakeStep code world from to place after → IsSingle after
 take_single code world after from to place single step =
-    let only = subst (IsOnly world) (take_alone code world after from to place single.active single.only step) single.only in
+    let only =
+    subst (IsOnly world) (take_alone code world after from to place single.active single.only step) single.only in
     let taken = without_flight world from to place in
     step_left taken after to step.state step.outcome (Some step.flight.label) single.obey step.obeys
     (λ other running. absurd (only.0 other running)) (taken_flights world from to place step.flight only.1 step.there)
@@ -271,7 +277,8 @@ one_event code world first second (Act from to made) other single step next =
 one_event code world first second event (Act from to made) single step next =
     absurd (act_nowhere world from single.obey next.bad)
 one_event code world first second (Turn host) (Turn target) single step next =
-    let same = sym (active_at code world first (Turn host) single step) ∙ active_at code world second (Turn target) single next in
+    let same = sym (active_at code world first (Turn host) single step)
+    ∙ active_at code world second (Turn target) single next in
     cc
 one_event code world first second (Turn host) (Take from to place) single step next =
     let same = sym (active_at code world first (Turn host) single step)

@@ -3,8 +3,8 @@
 -- A journal is the list of its lines that tell of a turn, a take or a send, each by its words. There is one for each
 -- host, in order. A host may have been stopped behind a step and before the line of what the step sent, so the last
 -- such line may be missing.
-use Rattle.std.specs.Prelude.{◌≡◌, ◌≢◌, ◌⊎◌, ◌≤◌, ◌<◌, ℕ, List, [], ◌∷◌, ◌++◌, length, map, take, slice_get, slice_index}
-use Rattle.std.specs.Prelude.{unwrap_or, IsSomeAnd, Some}
+use Rattle.std.specs.Prelude.{◌≡◌, ◌≢◌, ◌⊎◌, ◌≤◌, ◌<◌, ℕ, List, [], ◌∷◌, ◌++◌, length, map, take, slice_get}
+use Rattle.std.specs.Prelude.{slice_index, unwrap_or, IsSomeAnd, Some}
 use Rattle.js_base.specs.declared.ids.HostId.{HostId}
 use Rattle.event_text.specs.declared.event.Event.{Event}
 use Rattle.event_text.specs.Lines.{LineShape}
