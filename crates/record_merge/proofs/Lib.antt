@@ -5,3 +5,5 @@ pub mod NotedRuns
 pub mod OneMeeting
 pub mod OneLeft
 pub mod Furthest
+pub mod NextNotes
+pub mod FirstFlights

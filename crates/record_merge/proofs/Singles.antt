@@ -11,7 +11,7 @@ use Rattle.event_text.specs.declared.event.Event.TheVariants.{Take, Turn, Act}
 use Rattle.host_code.specs.Code.{CodeShape}
 use Rattle.host_code.specs.declared.message.Message.{Message}
 use Rattle.host_core.specs.Host.{HostShape, Outcome, Letter, with_label}
-use Rattle.net_world.specs.Choice.{Runs, Flies, NothingFlies}
+use Rattle.net_world.specs.Choice.{Runs, NoneRuns, Flies, NothingFlies}
 use Rattle.net_world.specs.Flying.{Flight, Flying, with_flights}
 use Rattle.net_world.specs.World.{WorldShape, IsStep, IsTakeStep, IsTurnStep, state_at, misbehaves, with_state}
 use Rattle.net_world.specs.World.{without_flight, after_sending, after_posting, after_telling, letter_of, after_step}
@@ -102,28 +102,49 @@ quiet_left world after host old state obey obeys rest none moved =
       }
     ]
 
+pub posted_flights : (world after : WorldShape) (host to : HostId) (state : HostShape) (flight : Flight) →
+    Moved world host state (with_flights world.flying host to (flight ∷ [])) after →
+    after.flying host to ≡ flight ∷ []
+posted_flights world after host to state flight moved =
+    ap (λ (f : Flying). f host to) moved.flying ∙ own_flight host to (flight ∷ []) world.flying
+
 -- a message is in flight, and nothing runs
-pub posted_left : (world after : WorldShape) (host to : HostId) (old state : HostShape) (flight : Flight) →
-    AllObey world → state_at world host ≡ Some old → OthersRest world host → NothingFlies world →
-    state.running ≡ None →
-    Moved world host state (with_flights world.flying host to (flight ∷ [])) after → IsSingle after
-posted_left world after host to old state flight obey obeys rest none rests moved =
+pub posted_only : (world after : WorldShape) (host to : HostId) (old state : HostShape) (flight : Flight) →
+    state_at world host ≡ Some old → OthersRest world host → NothingFlies world → state.running ≡ None →
+    Moved world host state (with_flights world.flying host to (flight ∷ [])) after →
+    NoneRuns after × FliesAlone after host to
+posted_only world after host to old state flight obeys rest none rests moved =
     let flying = with_flights world.flying host to (flight ∷ []) in
     let there = mover_state world after host old state flying obeys moved in
-    let others = others_after world after host state flying rest moved in
-    record {
-      obey = λ other. bad_moved world after host old state flying obeys moved other ∙ obey other;
-      active = flies host to;
-      only = (
-        λ other running. rests_there after host state there rests (subst (Runs after) (others other running) running),
-        record {
-          there = ap (λ (f : Flying). length (f host to)) moved.flying
-              ∙ ap length (own_flight host to (flight ∷ []) world.flying);
-          alone = λ from target some. no_flight from target host to (flight ∷ []) world.flying
-              (not_some (world.flying from target) (none from target))
-              (λ is. some (ap (λ f. f from target) moved.flying ∙ is));
-        },
-      );
+    let others = others_after world after host state flying rest moved in (
+      λ other running. rests_there after host state there rests (subst (Runs after) (others other running) running),
+      record {
+        there = ap length (posted_flights world after host to state flight moved);
+        alone = λ from target some. no_flight from target host to (flight ∷ []) world.flying
+            (not_some (world.flying from target) (none from target))
+            (λ is. some (ap (λ f. f from target) moved.flying ∙ is));
+      },
+    )
+
+-- what is sent is in flight alone
+pub letter_moved : (world after : WorldShape) (host : HostId) (old state : HostShape) (letter : Letter) →
+    AllObey world → state_at world host ≡ Some old → NothingFlies world →
+    after_sending (with_state world host state) host (Some letter) ≡ after →
+    Moved world host state
+    (with_flights world.flying host letter.to (record { message = letter.message; label = letter.label } ∷ [])) after
+letter_moved world after host old state letter obey obeys none leaves =
+    let moved = with_state world host state in
+    let bare : Moved world host state world.flying moved = record { hosts = refl; flying = refl } in
+    let bad : misbehaves moved letter.to ≡ false =
+    bad_moved world moved host old state world.flying obeys bare letter.to ∙ obey letter.to in
+    let flight : Flight = record { message = letter.message; label = letter.label } in
+    let done : after_posting moved host letter ≡ after =
+    sym (ap (λ b. if b then after_telling moved host (Some (letter.to, letter.message))
+    else after_posting moved host letter) bad) ∙ leaves in
+    let empty = not_some (world.flying host letter.to) (none host letter.to) in record {
+      hosts = ap (λ (w : WorldShape). w.hosts) (sym done);
+      flying = ap (λ (w : WorldShape). w.flying) (sym done)
+          ∙ ap (λ flights. with_flights world.flying host letter.to (flights ++ flight ∷ [])) empty;
     }
 
 -- ---- a step
@@ -138,24 +159,17 @@ letter_left world after host old state None obey obeys rest none spent leaves =
       flying = ap (λ (w : WorldShape). w.flying) (sym leaves);
     })
 letter_left world after host old state (Some letter) obey obeys rest none spent leaves =
-    let moved = with_state world host state in
-    let bare : Moved world host state world.flying moved = record { hosts = refl; flying = refl } in
-    let bad : misbehaves moved letter.to ≡ false =
-    bad_moved world moved host old state world.flying obeys bare letter.to ∙ obey letter.to in
     let flight : Flight = record { message = letter.message; label = letter.label } in
-    let done : after_posting moved host letter ≡ after =
-    sym (ap (λ b. if b then after_telling moved host (Some (letter.to, letter.message))
-    else after_posting moved host letter)
-    bad) ∙ leaves in
-    let empty = not_some (world.flying host letter.to) (none host letter.to) in
-    posted_left world after host letter.to old state flight obey obeys rest none
-    (elim spent [ inl rests ↦ rests | inr unsent ↦ absurd (cc) ]) (record {
-      hosts = ap (λ (w : WorldShape). w.hosts) (sym done);
-      flying = ap (λ (w : WorldShape). w.flying) (sym done)
-          ∙ ap (λ flights. with_flights world.flying host letter.to (flights ++ flight ∷ [])) empty;
-    })
+    let flying = with_flights world.flying host letter.to (flight ∷ []) in
+    let moved = letter_moved world after host old state letter obey obeys none leaves in
+    let rests : state.running ≡ None = elim spent [ | inl rests ↦ rests | inr unsent ↦ absurd (cc) ] in
+    record {
+      obey = λ other. bad_moved world after host old state flying obeys moved other ∙ obey other;
+      active = flies host letter.to;
+      only = posted_only world after host letter.to old state flight obeys rest none rests moved;
+    }
 
-nothing_sent : (label : Option ℕ) (sent : Option (HostId × Message)) → sent ≡ None → letter_of label sent ≡ None
+pub nothing_sent : (label : Option ℕ) (sent : Option (HostId × Message)) → sent ≡ None → letter_of label sent ≡ None
 nothing_sent None sent is = refl
 nothing_sent (Some label) sent is = ap (with_label label) is
 
@@ -211,7 +225,7 @@ none_left [] one = absurd (cc)
 none_left (first ∷ []) one = refl
 none_left (first ∷ next ∷ flights) one = absurd (omega arith)
 
-taken_flights : (world : WorldShape) (from to : HostId) (place : ℕ) (flight : Flight) → FliesAlone world from to →
+pub taken_flights : (world : WorldShape) (from to : HostId) (place : ℕ) (flight : Flight) → FliesAlone world from to →
     slice_get (world.flying from to) place ≡ Some flight → NothingFlies (without_flight world from to place)
 taken_flights world from to place flight alone there i j some =
     let left = remove (world.flying from to) place in
@@ -248,7 +262,7 @@ take_single code world after from to place single step =
     (λ other running. absurd (only.0 other running)) (taken_flights world from to place step.flight only.1 step.there)
     (take_spent code step.state from step.flight.message step.outcome step.rests step.takes) step.leaves
 
-act_nowhere : (world : WorldShape) (from : HostId) → AllObey world → IsTrue (misbehaves world from) → ⊥
+pub act_nowhere : (world : WorldShape) (from : HostId) → AllObey world → IsTrue (misbehaves world from) → ⊥
 act_nowhere world from obey bad = let never : false ≡ true = sym (obey from) ∙ bad in absurd (cc)
 
 pub step_single : (code : CodeShape) (world after : WorldShape) (event : Event) → IsSingle world →

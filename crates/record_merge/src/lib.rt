@@ -1,6 +1,10 @@
 //! The journals of all hosts, merged into one list of events.
 #![tactic(auto)]
 
+mod journal;
 mod laws;
+mod merging;
+mod step_lines;
+mod words;
 
 pub use laws::{merge_laws, single_laws};
