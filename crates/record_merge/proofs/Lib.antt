@@ -7,3 +7,6 @@ pub mod OneLeft
 pub mod Furthest
 pub mod NextNotes
 pub mod FirstFlights
+pub mod Walks
+pub mod HeldJournals
+pub mod Merged

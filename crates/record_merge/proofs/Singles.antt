@@ -197,7 +197,7 @@ turn_alone code world after host (flies from to) only step =
 none_there : (place : ℕ) (flight : Flight) → ¬ (slice_get [] place ≡ Some flight)
 none_there place flight is = absurd (cc)
 
-flies_there : (world : WorldShape) (from to : HostId) (place : ℕ) (flight : Flight) →
+pub flies_there : (world : WorldShape) (from to : HostId) (place : ℕ) (flight : Flight) →
     slice_get (world.flying from to) place ≡ Some flight → Flies world from to
 flies_there world from to place flight there = λ is.
     absurd (none_there place flight (subst (λ flights. slice_get flights place ≡ Some flight) is there))
@@ -213,7 +213,7 @@ take_alone code world after from to place (flies sender target) only step =
     let same = only.1.alone from to (flies_there world from to place step.flight step.there) in
     rw (same.0, same.1) refl
 
-first_place : (flights : List Flight) (place : ℕ) (flight : Flight) → length flights ≡ 1 →
+pub first_place : (flights : List Flight) (place : ℕ) (flight : Flight) → length flights ≡ 1 →
     slice_get flights place ≡ Some flight → place ≡ 0
 first_place [] place flight one there = absurd (cc)
 first_place (first ∷ []) zero flight one there = refl

@@ -1,21 +1,23 @@
 //! The one list of events that journals allow.
 
 ghost use Rattle.std.specs.Prelude.{◌≡◌, ◌↔◌, ◌∷◌, ◌<◌, [], IfOk, IsTrue, Some, IfSome, IfNone, length, map, unwrap_or, Option};
-ghost use Rattle.std.specs.Prelude.{slice_get};
+ghost use Rattle.std.specs.Prelude.{◌++◌, OnOk, replicate, slice_index};
 ghost use Rattle.std.specs.Option.{option_map};
 ghost use Rattle.host_code.specs.Messages.{MessageFits};
 ghost use Rattle.net_world.specs.Choice.{IsNextEvent};
 ghost use Rattle.net_world.specs.Fits.{WorldFits, world_of};
-ghost use Rattle.net_world.specs.World.{mover};
+ghost use Rattle.net_world.specs.World.{mover, IsStep};
 ghost use Rattle.event_text.specs.Lines.{words};
-ghost use Rattle.record_merge.specs.JournalLines.{journal_of, next_of, IsFitting, IsPassed};
+ghost use Rattle.record_merge.specs.JournalLines.{journal_of, next_of, IsFitting, IsPassed, HasPassed};
+ghost use Rattle.record_merge.specs.Meeting.{journal_at, IsAtEnd};
+ghost use Rattle.record_merge.specs.Single.{IsSingle};
 ghost use Rattle.event_text.specs.declared.event.Event.{Event};
 ghost use Rattle.record_merge.specs.JournalWords.{send_words};
 ghost use Rattle.record_merge.specs.NextLines.{IsFirst, step_words, sent_next};
 
 use crate::journal::JournalLine;
 use crate::step_lines::{is_send_line, is_take_line, is_turn_line};
-use event_text::Event;
+use event_text::{BadMessage, Event};
 use host_code::{Code, Message};
 use js_base::{HostId, OutOfMemory};
 use net_world::World;
@@ -166,4 +168,73 @@ fn behind_send(
     } else {
         Ok((place + 1, true))
     }
+}
+
+/// An event that comes next happens, whose line is the next one of its host's journal. After want of memory the journals
+/// are as before.
+fn go_on(
+    alloc: Global,
+    code: &Code,
+    world: &mut World,
+    journals: &[Vec<JournalLine<'_>>],
+    places: &mut Vec<usize>,
+    left: &mut Vec<bool>,
+    event: &Event,
+) -> Result<(), OutOfMemory>
+    requires fits { WorldFits code.now world.old }
+    requires next { IsNextEvent (world_of world.old) (Some event.now) }
+    requires host { (mover event.now).0 < length journals.now }
+    requires there { slice_index places.old.items (mover event.now).0 < length (journal_at
+        (map (λ journal. journal_of journal.items) journals.now) (mover event.now)) }
+    requires places { length places.old.items ≡ length journals.now }
+    requires left { length left.old.items ≡ length journals.now }
+    ensures step { OnOk result (IsStep code.now (world_of world.old) event.now (world_of world.new)) }
+    ensures passed { OnOk result (HasPassed code.now (world_of world.new)
+        (map (λ journal. journal_of journal.items) journals.now) (mover event.now) places.old.items left.old.items
+        places.new.items left.new.items) }
+    ensures fits { WorldFits code.now world.new }
+{
+    let host = mover(event).0 as usize;
+    if world.apply(code, event).is_err() {
+        return Err(OutOfMemory);
+    }
+    let (place, gone) = passed(alloc, code, world, &journals[host], places[host])?;
+    places[host] = place;
+    left[host] = gone;
+    Ok(())
+}
+
+/// Makes the events happen whose lines come next in the journals of their hosts, as long as there is one, and tells how
+/// far each journal is met.
+// The kit's borrow checker has to be told of each type that an event holds, so the function names one.
+pub fn walk(
+    alloc: Global,
+    code: &Code,
+    world: &mut World,
+    journals: &[Vec<JournalLine<'_>>],
+    places: &mut Vec<usize>,
+) -> Result<Vec<Event>, OutOfMemory>
+    requires fits { WorldFits code.now world.old }
+    requires single { IsSingle (world_of world.old) }
+    requires places { places.old.items ≡ replicate (length journals.now) 0 }
+    ensures end { IfOk result (λ events. IsAtEnd code.now (world_of world.old)
+        (map (λ journal. journal_of journal.items) journals.now) places.new.items events.items) }
+    ensures count { IfOk result (λ _. length places.new.items ≡ length journals.now) }
+{
+    let _no_message: Option<BadMessage> = None;
+    let mut left = vec![in alloc; false; journals.len()]?;
+    let mut events = Vec::new(alloc);
+    while let Some(event) = fitting(alloc, code, world, journals, places, &left)? {
+        go_on(alloc, code, world, journals, places, &mut left, &event)?;
+        add_event(&mut events, event)?;
+    }
+    Ok(events)
+}
+
+/// Puts an event behind the others.
+fn add_event(events: &mut Vec<Event>, event: Event) -> Result<(), OutOfMemory>
+    ensures { OnOk result (events.new.items ≡ events.old.items ++ event ∷ []) }
+{
+    let _no_message: Option<BadMessage> = None;
+    Ok(events.push(event)?)
 }
