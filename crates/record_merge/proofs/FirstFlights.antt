@@ -1,11 +1,11 @@
 -- The first message in flight.
-use Rattle.std.proofs.Common.{◌≡◌, ◌≢◌, ◌∙◌, ℕ, List, [], ◌∷◌, Option, Some, None, refl, ap, sym, subst, ◌≤◌, length, get_or, arith}
-use Rattle.std.specs.Prelude.{All, map, slice_get, IfNone, IfSome}
-use Rattle.std.specs.Option.{option_copied}
+use Rattle.std.proofs.Common.{◌≡◌, ◌≢◌, ◌∙◌, ℕ, List, [], ◌∷◌, Option, Some, refl, ap, sym}
+use Rattle.std.proofs.Common.{subst, ◌≤◌, length, get_or, arith}
+use Rattle.std.specs.Prelude.{All, map, slice_get}
 use Rattle.std.proofs.lemmas.List.Elements.{All-head}
 use Rattle.js_base.specs.declared.ids.HostId.{HostId}
 use Rattle.event_text.specs.declared.event.Event.{Event}
-use Rattle.event_text.specs.declared.event.Event.TheVariants.{Take, Turn, Act}
+use Rattle.event_text.specs.declared.event.Event.TheVariants.{Take}
 use Rattle.host_code.specs.declared.message.Message.{Message}
 use Rattle.host_code.specs.Code.{CodeShape}
 use Rattle.host_code.specs.Messages.{MessageFits}

@@ -1,7 +1,7 @@
 -- Journals in the program, at the number of a host.
 use Rattle.std.proofs.Common.{◌≡◌, ◌∙◌, ℕ, zero, suc, ◌-◌, ◌<◌, Bool, false, List, [], ◌∷◌, ◌++◌, length, Some}
 use Rattle.std.proofs.Common.{refl, ap, sym, subst, arith, get_or, Vec, Global}
-use Rattle.std.specs.Prelude.{map, replicate, slice_get, slice_set, slice_index, unwrap_or}
+use Rattle.std.specs.Prelude.{replicate, slice_get, slice_set, slice_index, unwrap_or}
 use Rattle.std.proofs.lemmas.List.{length-map}
 use Rattle.std.proofs.lemmas.Option.{slice_get_within}
 use Rattle.js_base.specs.declared.ids.HostId.{HostId}
@@ -15,7 +15,6 @@ use Rattle.record_merge.specs.NextLines.{step_words, sent_next}
 use Rattle.record_merge.specs.Single.{IsSingle}
 use Rattle.record_merge.proofs.Walks.{merged_none, merged_more, event_line, journal_there, met, lines_of, met_within}
 use Rattle.record_merge.proofs.Walks.{met_set, passed_higher}
-
 
 pub journal_found : (journals : List (Vec JournalLine Global)) (n : ℕ) (one : Vec JournalLine Global) →
     n < length journals → one ≡ get_or journals n one →
@@ -31,7 +30,8 @@ get_or_any (x ∷ xs) zero d e within = refl
 get_or_any (x ∷ xs) (suc n) d e within = get_or_any xs n d e (omega (arith, within))
 
 pub passed_at : (journals : List (Vec JournalLine Global)) (number host : HostId) (one : Vec JournalLine Global)
-    (lines : List JournalLine) (places : List ℕ) (place : ℕ) (sent : Journal) (passed : ℕ × Bool) → number ≡ host → host.0 < length journals →
+    (lines : List JournalLine) (places : List ℕ) (place : ℕ) (sent : Journal) (passed : ℕ × Bool) → number ≡ host →
+    host.0 < length journals →
     one ≡ get_or journals number.0 one → lines ≡ one.items → place ≡ get_or places number.0 place →
     host.0 < length places →
     IsPassed (journal_of lines) place sent passed →

@@ -10,7 +10,7 @@ use Rattle.host_code.specs.Code.{CodeShape}
 use Rattle.net_world.specs.World.{WorldShape}
 use Rattle.record_merge.specs.declared.journal.JournalLine.{JournalLine}
 use Rattle.record_merge.specs.JournalLines.{said_line, journal_of, all_of, said_of, number_at}
-use Rattle.record_merge.specs.Meeting.{Journal, journal_at, MeetsAt, MeetsUpTo, Meets, IsAtEnd, IsFirstLeft, IsLeftAt}
+use Rattle.record_merge.specs.Meeting.{Journal, journal_at, MeetsAt, Meets, IsAtEnd, IsFirstLeft, IsLeftAt}
 use Rattle.record_merge.specs.Meeting.{words_in}
 use Rattle.record_merge.specs.Notes.{lines_at}
 use Rattle.record_merge.specs.Single.{IsSingle}

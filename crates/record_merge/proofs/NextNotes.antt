@@ -10,18 +10,18 @@ use Rattle.host_code.specs.declared.message.Message.{Message}
 use Rattle.host_code.specs.Code.{CodeShape, instruction_at}
 use Rattle.host_code.specs.Thread.{ThreadShape}
 use Rattle.host_core.specs.Host.{HostShape, Outcome, Letter, with_running}
-use Rattle.host_core.specs.Turn.{IsTurn, IsTurnOf, IsRunning, label_of_turn, label_of_thread}
+use Rattle.host_core.specs.Turn.{IsTurnOf, IsRunning, label_of_turn, label_of_thread}
 use Rattle.net_world.specs.Choice.{NothingFlies, IsNextEvent}
 use Rattle.net_world.specs.Flying.{Flight}
 use Rattle.net_world.specs.World.{WorldShape, IsStep, IsTakeStep, IsTurnStep, state_at, with_state, without_flight}
-use Rattle.net_world.specs.World.{after_sending, letter_of, after_step}
+use Rattle.net_world.specs.World.{after_sending, letter_of}
 use Rattle.record_merge.specs.JournalWords.{take_words, sent_words, send_words, turn_words}
 use Rattle.record_merge.specs.NextLines.{taken_words, step_words, flying_words, sent_next, note_of}
-use Rattle.record_merge.specs.Notes.{Note, IsNoted}
+use Rattle.record_merge.specs.Notes.{IsNoted}
 use Rattle.record_merge.specs.Single.{flies, IsOnly, AllObey, IsSingle}
 use Rattle.record_merge.proofs.Singles.{OthersRest, turn_alone, take_alone, taken_flights, nothing_sent, letter_moved}
 use Rattle.record_merge.proofs.Singles.{posted_only, posted_flights, act_nowhere}
-use Rattle.record_merge.proofs.Spent.{IsSpent, turn_spent, take_spent}
+use Rattle.record_merge.proofs.Spent.{turn_spent, take_spent}
 
 -- ---- what is sent has a label
 
@@ -88,7 +88,7 @@ sent_is code world after host old state (Some sent) label next obey obeys rest n
           let posts : after_sending (with_state world host state) host (Some letter) ≡ after =
           ap (λ l. after_sending (with_state world host state) host (letter_of l (Some sent))) (sym there.1) ∙ leaves in
           let moved = letter_moved world after host old state letter obey obeys none posts in
-          let rests : state.running ≡ None = elim spent [ | inl rests ↦ rests | inr unsent ↦ absurd (cc) ] in
+          let rests : state.running ≡ None = elim spent [ inl rests ↦ rests | inr unsent ↦ absurd (cc) ] in
           flying_next code after host sent.0 flight next (posted_flights world after host sent.0 state flight moved)
           (posted_only world after host sent.0 old state flight obeys rest none rests moved) is
     ]
@@ -120,14 +120,13 @@ take_noted code world after from to place next single step is =
     (take_spent code step.state from step.flight.message step.outcome step.rests step.takes)
     (inr (step.flight.label, refl)) step.leaves is in
     let first : step_words code world (Take from to place) ≡ take_words code from step.flight.message =
-    ap (taken_words code from) step.there in
-    (
+    ap (taken_words code from) step.there in (
       step,
       ap (λ (words : List Word). record { host = to; lines = words ∷ sent_next code after next }) first
-      ∙ ap (λ (lines : List (List Word)). record {
-        host = to;
-        lines = take_words code from step.flight.message ∷ lines;
-      }) sent,
+          ∙ ap (λ (lines : List (List Word)). record {
+            host = to;
+            lines = take_words code from step.flight.message ∷ lines;
+          }) sent,
     )
 
 pub step_noted : (code : CodeShape) (world after : WorldShape) (event : Event) (next : Option Event) →

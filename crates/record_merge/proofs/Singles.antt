@@ -162,7 +162,7 @@ letter_left world after host old state (Some letter) obey obeys rest none spent 
     let flight : Flight = record { message = letter.message; label = letter.label } in
     let flying = with_flights world.flying host letter.to (flight ∷ []) in
     let moved = letter_moved world after host old state letter obey obeys none leaves in
-    let rests : state.running ≡ None = elim spent [ | inl rests ↦ rests | inr unsent ↦ absurd (cc) ] in
+    let rests : state.running ≡ None = elim spent [ inl rests ↦ rests | inr unsent ↦ absurd (cc) ] in
     record {
       obey = λ other. bad_moved world after host old state flying obeys moved other ∙ obey other;
       active = flies host letter.to;

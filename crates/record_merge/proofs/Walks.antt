@@ -1,7 +1,7 @@
 -- Journals that are met by one event more, and how that ends.
 use Rattle.std.proofs.Common.{◌≡◌, ◌≢◌, ◌∙◌, ℕ, zero, suc, ◌+◌, ◌≤◌, ◌<◌, ◌⊎◌, inl, inr, Bool, true, false, List, []}
 use Rattle.std.proofs.Common.{◌∷◌, ◌++◌, length, take, Option, Some, None, refl, ap, sym, subst, arith, append-nil}
-use Rattle.std.specs.Prelude.{slice_get, slice_set, slice_index, replicate, unwrap_or, codes, ◌==◌, if◌then◌else◌}
+use Rattle.std.specs.Prelude.{slice_get, slice_set, slice_index, replicate, unwrap_or}
 use Rattle.std.proofs.lemmas.Bool.{ne_eqb}
 use Rattle.std.proofs.lemmas.Bool.Decides.{eqb_tells}
 use Rattle.std.proofs.lemmas.List.{append_assoc, length-append, length-set}
@@ -20,7 +20,7 @@ use Rattle.record_merge.specs.JournalWords.{IsSendLine}
 use Rattle.record_merge.specs.Meeting.{Journal, journal_at, IsKept, IsAtEnd}
 use Rattle.record_merge.specs.NextLines.{taken_words, step_words, flying_words, sent_next, note_of}
 use Rattle.record_merge.specs.Notes.{Note, IsNoted, IsNotedRun, lines_at}
-use Rattle.record_merge.specs.Single.{nothing, runs, flies, IsOnly, IsSingle}
+use Rattle.record_merge.specs.Single.{IsOnly, IsSingle}
 use Rattle.record_merge.proofs.NextNotes.{step_noted}
 use Rattle.record_merge.proofs.NotedRuns.{noted_step}
 use Rattle.record_merge.proofs.OneMeeting.{lines_append, own_lines}
@@ -61,16 +61,22 @@ merged_none code world journals single = record {
 run_more : (code : CodeShape) (world last after : WorldShape) (events : List Event) (event : Event)
     (notes : List Note) (note : Note) → IsNotedRun code world events last notes → IsNoted code last event after note →
     IsNotedRun code world (events ++ event ∷ []) after (notes ++ note ∷ [])
-run_more code world last after [] event notes note run noted =
-    (
-      after, note, [], subst (λ (w : WorldShape). IsNoted code w event after note) (sym run.0) noted,
-      (refl, refl), ap (λ (ns : List Note). ns ++ note ∷ []) run.1,
-    )
-run_more code world last after (first ∷ events) event notes note (next, one, later, happens, run, notes_are) noted =
-    (
-      next, one, later ++ note ∷ [], happens, run_more code next last after events event later note run noted,
-      ap (λ (ns : List Note). ns ++ note ∷ []) notes_are,
-    )
+run_more code world last after [] event notes note run noted = (
+  after,
+  note,
+  [],
+  subst (λ (w : WorldShape). IsNoted code w event after note) (sym run.0) noted,
+  (refl, refl),
+  ap (λ (ns : List Note). ns ++ note ∷ []) run.1,
+)
+run_more code world last after (first ∷ events) event notes note (next, one, later, happens, run, notes_are) noted = (
+  next,
+  one,
+  later ++ note ∷ [],
+  happens,
+  run_more code next last after events event later note run noted,
+  ap (λ (ns : List Note). ns ++ note ∷ []) notes_are,
+)
 
 take_next : (journal : Journal) (place : ℕ) (line : List Word) → slice_get journal place ≡ Some line →
     take (suc place) journal ≡ take place journal ++ line ∷ []
@@ -110,7 +116,8 @@ pub record IsNextLine (own journal : Journal) (place : ℕ) (line : List Word) :
   pub full : own ≡ take place journal
   pub there : slice_get journal place ≡ Some line
 
-next_line : (own journal : Journal) (place : ℕ) (left : Option Bool) (line : List Word) → IsRead own journal place left →
+next_line : (own journal : Journal) (place : ℕ) (left : Option Bool) (line : List Word) →
+    IsRead own journal place left →
     next_unless left (slice_get journal place) ≡ Some line → IsNextLine own journal place line
 next_line own journal place None line read there = record { full = read; there = there }
 next_line own journal place (Some false) line read there = record { full = read; there = there }
@@ -189,7 +196,8 @@ pub merged_more : (code : CodeShape) (world last after : WorldShape) (journals :
     HasMerged code world journals events last places left →
     next_of journals places left (mover event) ≡ Some (step_words code last event) → IsStep code last event after →
     IsNextEvent after next →
-    IsPassed (journal_at journals (mover event)) (slice_index places (mover event).0) (sent_next code after next) passed →
+    IsPassed (journal_at journals (mover event)) (slice_index places (mover event).0) (sent_next code after next)
+    passed →
     HasMerged code world journals (events ++ event ∷ []) after (slice_set places (mover event).0 passed.0)
     (slice_set left (mover event).0 passed.1)
 merged_more code world last after journals events event next places left passed merged line step comes pass =
@@ -212,7 +220,7 @@ merged_more code world last after journals events event next places left passed 
     let flag : slice_get (slice_set left me.0 passed.1) me.0 ≡ Some passed.1 =
     flag_set left me.0 passed.1 (omega (arith, there, left_are)) in
     let read_me : IsRead (lines_at me (merged.notes ++ note ∷ [])) journal
-        (slice_index (slice_set places me.0 passed.0) me.0) (slice_get (slice_set left me.0 passed.1) me.0) =
+    (slice_index (slice_set places me.0 passed.0) me.0) (slice_get (slice_set left me.0 passed.1) me.0) =
     subst (λ f. IsRead (lines_at me (merged.notes ++ note ∷ [])) journal
     (slice_index (slice_set places me.0 passed.0) me.0) f) (sym flag)
     (subst (λ n. IsRead (lines_at me (merged.notes ++ note ∷ [])) journal n (Some passed.1)) (sym now)
@@ -222,16 +230,16 @@ merged_more code world last after journals events event next places left passed 
     record {
       within = λ host. elim (eqb_tells host.0 me.0) [
         | inl same ↦ subst (λ (h : HostId). slice_index (slice_set places me.0 passed.0) h.0
-          ≤ length (journal_at journals h)) (sym (same_id host me same.1)) within_me
+            ≤ length (journal_at journals h)) (sym (same_id host me same.1)) within_me
         | inr apart ↦ subst (λ n. n ≤ length (journal_at journals host))
-          (sym (index_other places me.0 host.0 passed.0 apart.1)) (merged.within host)
+            (sym (index_other places me.0 host.0 passed.0 apart.1)) (merged.within host)
       ];
       notes = merged.notes ++ note ∷ [];
       run = run_more code world last after events event merged.notes note merged.run noted;
       read = λ host. elim (eqb_tells host.0 me.0) [
         | inl same ↦ subst (λ (h : HostId). IsRead (lines_at h (merged.notes ++ note ∷ [])) (journal_at journals h)
-          (slice_index (slice_set places me.0 passed.0) h.0) (slice_get (slice_set left me.0 passed.1) h.0))
-          (sym (same_id host me same.1)) read_me
+            (slice_index (slice_set places me.0 passed.0) h.0) (slice_get (slice_set left me.0 passed.1) h.0))
+            (sym (same_id host me same.1)) read_me
         | inr apart ↦
             let lines : lines_at host (merged.notes ++ note ∷ []) ≡ lines_at host merged.notes =
             lines_append host merged.notes (note ∷ [])
@@ -340,7 +348,7 @@ merged_end code world last journals events places left merged fitting = record {
       let step = noted_step code last after event note noted in
       let host = note.host in
       let unread = not_left (lines_at host merged.notes) (journal_at journals host) (slice_index places host.0)
-          (slice_get left host.0) (merged.read host) full in
+      (slice_get left host.0) (merged.read host) full in
       let line : next_of journals places left host ≡ Some (step_words code last event) = unread ∙ same ∙ first.line in
       stays code last after journals places left event merged.single step fitting
       (ap (next_of journals places left) (sym first.host) ∙ line);

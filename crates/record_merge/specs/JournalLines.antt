@@ -1,6 +1,6 @@
 -- Journals in the program, and how far they are met there.
-use Rattle.std.specs.Prelude.{◌≡◌, ◌≢◌, ◌⊎◌, ◌+◌, ◌≤◌, ⊤, ℕ, Bool, true, false, List, [], ◌∷◌, ◌++◌, map, take, slice_get, slice_set}
-use Rattle.std.specs.Prelude.{Option, Some, None, length, slice_index, unwrap_or, Vec}
+use Rattle.std.specs.Prelude.{◌≡◌, ◌≢◌, ◌⊎◌, ◌+◌, ◌≤◌, ⊤, ℕ, Bool, true, false, List, [], ◌∷◌, ◌++◌, map, take}
+use Rattle.std.specs.Prelude.{Option, Some, None, length, slice_get, slice_set, slice_index, unwrap_or, Vec}
 use Rattle.std.specs.Global.{Global}
 use Rattle.std.specs.Option.{option_map}
 use Rattle.js_base.specs.declared.ids.HostId.{HostId}
@@ -97,6 +97,8 @@ abbrev pub IsNotMerged : CodeShape → WorldShape → List (Vec JournalLine Glob
 IsNotMerged code world journals error.OutOfMemory = ⊤
 IsNotMerged code world journals (error.NoMatch host number) = IsLeftAt code world (said_of journals) host number
 
+-- the number of the line at a place of a host's journal
 abbrev pub number_at : List (Vec JournalLine Global) → HostId → ℕ → Option ℕ
 number_at journals host place =
-    option_map (λ (line : LineShape). line.number) (slice_get (unwrap_or (slice_get (said_of journals) host.0) []) place)
+    option_map (λ (line : LineShape). line.number)
+    (slice_get (unwrap_or (slice_get (said_of journals) host.0) []) place)

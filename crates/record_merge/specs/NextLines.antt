@@ -1,5 +1,5 @@
 -- The lines of an event, as they are found in the worlds before it and after it.
-use Rattle.std.specs.Prelude.{◌≡◌, ℕ, List, [], ◌∷◌, Option, Some, None, slice_get}
+use Rattle.std.specs.Prelude.{◌≡◌, List, [], ◌∷◌, Option, Some, None, slice_get}
 use Rattle.js_base.specs.declared.ids.HostId.{HostId}
 use Rattle.event_text.specs.declared.event.Event.{Event}
 use Rattle.event_text.specs.declared.event.Event.TheVariants.{Take, Turn, Act}

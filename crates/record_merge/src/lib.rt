@@ -1,4 +1,4 @@
-//! The journals of all hosts, merged into one list of events.
+//! The journals of all hosts, of which none misbehaves, merged into the one list of events that they tell.
 #![tactic(auto)]
 
 mod journal;

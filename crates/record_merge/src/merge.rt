@@ -14,8 +14,8 @@ use event_text::{BadMessage, Event};
 use host_code::Code;
 use host_decl::Hosts;
 use jif_tree::Store;
-use js_base::{HostId, OutOfMemory};
 use js_base::limits::HOSTS;
+use js_base::{HostId, OutOfMemory};
 use net_world::World;
 use std::alloc::Global;
 

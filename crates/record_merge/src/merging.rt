@@ -1,6 +1,7 @@
 //! The one list of events that journals allow.
 
-ghost use Rattle.std.specs.Prelude.{◌≡◌, ◌↔◌, ◌∷◌, ◌<◌, [], IfOk, IsTrue, Some, IfSome, IfNone, length, map, unwrap_or, Option};
+ghost use Rattle.std.specs.Prelude.{◌≡◌, ◌↔◌, ◌∷◌, ◌<◌, [], IfOk, IsTrue, Some, IfSome, IfNone, length, map};
+ghost use Rattle.std.specs.Prelude.{unwrap_or, Option};
 ghost use Rattle.std.specs.Prelude.{◌++◌, OnOk, replicate, slice_index};
 ghost use Rattle.std.specs.Option.{option_map};
 ghost use Rattle.host_code.specs.Messages.{MessageFits};
@@ -35,12 +36,7 @@ fn mover(event: &Event) -> HostId
 }
 
 /// The first message in flight from a host to a host.
-fn first_flying<'a>(
-    code: &Code,
-    world: &'a World,
-    from: HostId,
-    to: HostId,
-) -> Option<&'a Message>
+fn first_flying<'a>(code: &Code, world: &'a World, from: HostId, to: HostId) -> Option<&'a Message>
     requires fits { WorldFits code.now world.now }
     ensures none { IfNone result ((world_of world.now).flying from to ≡ []) }
     ensures some { IfSome result (λ message. IsFirst code.now ((world_of world.now).flying from to) message.now) }
@@ -170,7 +166,7 @@ fn behind_send(
     }
 }
 
-/// An event that comes next happens, whose line is the next one of its host's journal. After want of memory the journals
+/// An event that comes next happens, whose line is the next one of its host's journal. After want of memory the places
 /// are as before.
 fn go_on(
     alloc: Global,
@@ -195,6 +191,7 @@ fn go_on(
     ensures fits { WorldFits code.now world.new }
 {
     let host = mover(event).0 as usize;
+    // What comes next is possible, so memory ran out, or the host has made 2^62 steps, which is out of reach.
     if world.apply(code, event).is_err() {
         return Err(OutOfMemory);
     }

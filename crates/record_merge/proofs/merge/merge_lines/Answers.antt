@@ -1,8 +1,7 @@
-use Rattle.std.proofs.Common.{◌≡◌, ◌∙◌, length, ap, subst}
-use Rattle.std.specs.Prelude.{slice_index, Some}
+use Rattle.std.proofs.Common.{◌∙◌, length, ap, subst}
 use Rattle.net_world.specs.World.{world_at_start}
-use Rattle.record_merge.specs.JournalLines.{all_of, number_at}
-use Rattle.record_merge.specs.Meeting.{IsAtEnd, IsFirstLeft, journal_at}
+use Rattle.record_merge.specs.JournalLines.{all_of}
+use Rattle.record_merge.specs.Meeting.{IsAtEnd}
 use Rattle.record_merge.proofs.Merged.{not_merged, all_met}
 use Rattle.record_merge.proofs.merge.merge_lines.Goals as goal
 

@@ -19,20 +19,23 @@ pub go_on-requires-clause-host : goal.go_on-requires-clause-host
 go_on-requires-clause-host c =
     fits_host c.args.code.now (world_of c.args.world.now) (world_of c.loop-events.world) c.args.journals.now
     c.loop-events.events.items c.in-Some.event c.loop-events.places.items c.loop-events.left.items
-    c.loop-events.invariant.merged (rw (c.in-Some.is, c.deref.ensures.value, c.deref-in-loop-events.ensures.value) at c.in_ok-event.ensures)
+    c.loop-events.invariant.merged
+    (rw (c.in-Some.is, c.deref.ensures.value, c.deref-in-loop-events.ensures.value) at c.in_ok-event.ensures)
 
 pub go_on-requires-clause-there : goal.go_on-requires-clause-there
 go_on-requires-clause-there c =
     fits_place c.args.code.now (world_of c.args.world.now) (world_of c.loop-events.world) c.args.journals.now
     c.loop-events.events.items c.in-Some.event c.loop-events.places.items c.loop-events.left.items
-    c.loop-events.invariant.merged (rw (c.in-Some.is, c.deref.ensures.value, c.deref-in-loop-events.ensures.value) at c.in_ok-event.ensures)
+    c.loop-events.invariant.merged
+    (rw (c.in-Some.is, c.deref.ensures.value, c.deref-in-loop-events.ensures.value) at c.in_ok-event.ensures)
 
 pub loop-events-smaller : goal.loop-events-smaller
 loop-events-smaller c =
     fewer_left c.args.code.now (world_of c.args.world.now) (world_of c.loop-events.world) (world_of c.go_on.new.world)
     (all_of c.args.journals.now) c.loop-events.events.items c.in-Some.event c.loop-events.places.items
     c.loop-events.left.items c.go_on.new.places.items c.go_on.new.left.items c.loop-events.invariant.merged
-    (rw (c.in-Some.is, c.deref.ensures.value, c.deref-in-loop-events.ensures.value) at c.in_ok-event.ensures) c.in_ok-go_on.ensures.step c.in_ok-go_on.ensures.passed
+    (rw (c.in-Some.is, c.deref.ensures.value, c.deref-in-loop-events.ensures.value) at c.in_ok-event.ensures)
+    c.in_ok-go_on.ensures.step c.in_ok-go_on.ensures.passed
 
 pub loop-events-preserved : goal.loop-events-preserved
 loop-events-preserved c = record {
@@ -43,7 +46,9 @@ loop-events-preserved c = record {
       (merged_on c.args.code.now (world_of c.args.world.now) (world_of c.loop-events.world)
       (world_of c.go_on.new.world) (all_of c.args.journals.now) c.loop-events.events.items c.in-Some.event
       c.loop-events.places.items c.loop-events.left.items c.go_on.new.places.items c.go_on.new.left.items
-      c.loop-events.invariant.merged (rw (c.in-Some.is, c.deref.ensures.value, c.deref-in-loop-events.ensures.value) at c.in_ok-event.ensures) c.in_ok-go_on.ensures.step
+      c.loop-events.invariant.merged
+      (rw (c.in-Some.is, c.deref.ensures.value, c.deref-in-loop-events.ensures.value) at c.in_ok-event.ensures)
+      c.in_ok-go_on.ensures.step
       c.in_ok-go_on.ensures.passed);
 }
 
@@ -53,7 +58,8 @@ returns c =
     record {
       end = merged_end c.args.code.now (world_of c.args.world.now) (world_of c.loop-events.world)
           (all_of c.args.journals.now) c.loop-events.events.items c.loop-events.places.items
-          c.loop-events.left.items c.loop-events.invariant.merged (rw (none, c.deref.ensures.value, c.deref-in-loop-events.ensures.value) at c.in_ok-event.ensures);
+          c.loop-events.left.items c.loop-events.invariant.merged
+          (rw (none, c.deref.ensures.value, c.deref-in-loop-events.ensures.value) at c.in_ok-event.ensures);
       count = c.loop-events.invariant.merged.places_count
           ∙ length-map c.args.journals.now (λ (journal : Vec JournalLine Global). journal_of journal.items);
     }

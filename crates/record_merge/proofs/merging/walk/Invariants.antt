@@ -1,4 +1,4 @@
-use Rattle.std.proofs.Common.{◌≡◌, ◌-◌}
+use Rattle.std.proofs.Common.{◌-◌}
 use Rattle.std.specs.Prelude.{map}
 use Rattle.net_world.specs.Fits.{WorldFits, world_of}
 use Rattle.record_merge.specs.JournalLines.{journal_of, HasMerged}
