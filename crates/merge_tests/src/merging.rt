@@ -53,7 +53,7 @@ fn split(alloc: Global) -> Result<(Code, Hosts), Fail> {
 }
 
 /// What the journals of the two hosts tell.
-fn told(alloc: Global, first: &[&str], second: &[&str]) -> Result<String, Fail> {
+fn told<'a>(alloc: Global, first: &[&'a str], second: &[&'a str]) -> Result<String, Fail> {
     let (code, hosts) = split(alloc)?;
     let Ok(start) = read_values(alloc, code.fields(), b"") else {
         return Err(Fail::from("no starting values"));
@@ -74,7 +74,13 @@ fn told(alloc: Global, first: &[&str], second: &[&str]) -> Result<String, Fail> 
 #[test]
 fn journals_are_merged(rt: HostRuntime) -> Result<(), Fail> {
     let alloc = rt.alloc();
-    let first = ["turn", "turn", "send B set 1.0 b 0 2", "take B ack 1.0", "turn"];
+    let first = [
+        "turn",
+        "turn",
+        "send B set 1.0 b 0 2",
+        "take B ack 1.0",
+        "turn",
+    ];
     let second = ["take A set 1.0 b 0 2", "send A ack 1.0"];
     let all = told(alloc, &first, &second)?;
     assert!(rt; all.as_str() == "turn A\nturn A\ntake A B 0\ntake B A 0\nturn A\n");
@@ -87,7 +93,13 @@ fn journals_are_merged(rt: HostRuntime) -> Result<(), Fail> {
 #[test]
 fn journals_are_left(rt: HostRuntime) -> Result<(), Fail> {
     let alloc = rt.alloc();
-    let first = ["turn", "turn", "send B set 1.0 b 0 2", "take B ack 1.0", "turn"];
+    let first = [
+        "turn",
+        "turn",
+        "send B set 1.0 b 0 2",
+        "take B ack 1.0",
+        "turn",
+    ];
     let another = told(alloc, &first, &["take A set 1.0 b 0 3", "send A ack 1.0"])?;
     assert!(rt; another.as_str() == "host 0 line 4");
     // The line of a message was cut out, so the host is left behind its step.

@@ -1,5 +1,5 @@
 -- The first message in flight.
-use Rattle.std.proofs.Common.{◌≡◌, ◌≢◌, ◌∙◌, ℕ, List, [], ◌∷◌, Option, Some, refl, ap, sym}
+use Rattle.std.proofs.Common.{◌≡◌, ◌≢◌, ◌∙◌, ℕ, List, [], ◌∷◌, Some, refl, ap, sym}
 use Rattle.std.proofs.Common.{subst, ◌≤◌, length, get_or, arith}
 use Rattle.std.specs.Prelude.{All, map, slice_get}
 use Rattle.std.proofs.lemmas.List.Elements.{All-head}
@@ -13,8 +13,8 @@ use Rattle.net_world.specs.Choice.{IsNextEvent}
 use Rattle.net_world.specs.Fits.{FlightFits}
 use Rattle.net_world.specs.Flying.{Flight}
 use Rattle.net_world.specs.World.{WorldShape}
-use Rattle.record_merge.specs.JournalWords.{take_words, send_words}
-use Rattle.record_merge.specs.NextLines.{IsFirst, taken_words, step_words, flying_words, sent_next}
+use Rattle.record_merge.specs.JournalWords.{take_words}
+use Rattle.record_merge.specs.NextLines.{IsFirst, taken_words, step_words}
 
 pub take_step : (code : CodeShape) (world : WorldShape) (from to : HostId) (place : ℕ) (event : Event)
     (message : Message) → event ≡ Take from to place → IsNextEvent world (Some event) →
@@ -28,14 +28,6 @@ pub none_flies : (world : WorldShape) (from to : HostId) (place : ℕ) (event : 
     IsNextEvent world (Some event) → world.flying from to ≢ []
 none_flies world from to place event is next =
     (subst (λ (e : Event). IsNextEvent world (Some e)) is next).1.target.flies
-
-pub send_next : (code : CodeShape) (world : WorldShape) (from to : HostId) (place : ℕ) (next : Option Event)
-    (message : Message) → next ≡ Some (Take from to place) → IsNextEvent world next →
-    IsFirst code (world.flying from to) message → sent_next code world next ≡ send_words code to message ∷ []
-send_next code world from to place next message is comes first =
-    let here = subst (IsNextEvent world) is comes in
-    ap (sent_next code world) is ∙ ap (λ n. flying_words code to (slice_get (world.flying from to) n)) here.2
-    ∙ ap (flying_words code to) first.there ∙ ap (λ (m : Message). send_words code to m ∷ []) first.is
 
 pub first_at : (code : CodeShape) (from to : HostId) (flights : List Flight) (messages : List Message)
     (message : Message) → All (FlightFits code from to) flights → messages ≡ map (λ (f : Flight). f.message) flights →
