@@ -1,0 +1,12 @@
+pub mod Spent
+pub mod Singles
+pub mod Beginnings
+pub mod NotedRuns
+pub mod OneMeeting
+pub mod OneLeft
+pub mod Furthest
+pub mod NextNotes
+pub mod FirstFlights
+pub mod Walks
+pub mod HeldJournals
+pub mod Merged
