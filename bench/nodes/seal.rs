@@ -1,21 +1,8 @@
-//! HMAC (RFC 2104) with SHA-256 (FIPS 180-4), in stock Rust.
+//! HMAC (RFC 2104) with SHA-256, in stock Rust.
+
+use crate::sha256::sha256;
 
 const BLOCK: usize = 64;
-
-// the first 32 bits behind the point of the square roots of the first primes, and of their cube roots
-const START: [u32; 8] = [
-    0x6a09e667, 0xbb67ae85, 0x3c6ef372, 0xa54ff53a, 0x510e527f, 0x9b05688c, 0x1f83d9ab, 0x5be0cd19,
-];
-const ROUNDS: [u32; 64] = [
-    0x428a2f98, 0x71374491, 0xb5c0fbcf, 0xe9b5dba5, 0x3956c25b, 0x59f111f1, 0x923f82a4, 0xab1c5ed5,
-    0xd807aa98, 0x12835b01, 0x243185be, 0x550c7dc3, 0x72be5d74, 0x80deb1fe, 0x9bdc06a7, 0xc19bf174,
-    0xe49b69c1, 0xefbe4786, 0x0fc19dc6, 0x240ca1cc, 0x2de92c6f, 0x4a7484aa, 0x5cb0a9dc, 0x76f988da,
-    0x983e5152, 0xa831c66d, 0xb00327c8, 0xbf597fc7, 0xc6e00bf3, 0xd5a79147, 0x06ca6351, 0x14292967,
-    0x27b70a85, 0x2e1b2138, 0x4d2c6dfc, 0x53380d13, 0x650a7354, 0x766a0abb, 0x81c2c92e, 0x92722c85,
-    0xa2bfe8a1, 0xa81a664b, 0xc24b8b70, 0xc76c51a3, 0xd192e819, 0xd6990624, 0xf40e3585, 0x106aa070,
-    0x19a4c116, 0x1e376c08, 0x2748774c, 0x34b0bcb5, 0x391c0cb3, 0x4ed8aa4a, 0x5b9cca4f, 0x682e6ff3,
-    0x748f82ee, 0x78a5636f, 0x84c87814, 0x8cc70208, 0x90befffa, 0xa4506ceb, 0xbef9a3f7, 0xc67178f2,
-];
 
 /// The tag of bytes under a key of 32 bytes.
 pub fn tag(key: &[u8; 32], bytes: &[u8]) -> [u8; 32] {
@@ -23,51 +10,6 @@ pub fn tag(key: &[u8; 32], bytes: &[u8]) -> [u8; 32] {
     for (it, byte) in pad.iter_mut().zip(key) {
         *it ^= byte;
     }
-    let inner = digest(&[&pad, bytes]);
-    digest(&[&pad.map(|it| it ^ 0x36 ^ 0x5c), &inner])
-}
-
-/// The digest of parts, one behind the other.
-pub fn digest(parts: &[&[u8]]) -> [u8; 32] {
-    let mut bytes = parts.concat();
-    let bits = 8 * bytes.len() as u64;
-    bytes.push(0x80);
-    bytes.resize(bytes.len().next_multiple_of(8), 0);
-    while bytes.len() % BLOCK != BLOCK - 8 {
-        bytes.extend([0; 8]);
-    }
-    bytes.extend(bits.to_be_bytes());
-    let mut state = START;
-    for block in bytes.chunks_exact(BLOCK) {
-        compress(&mut state, block);
-    }
-    let mut result = [0; 32];
-    for (to, word) in result.chunks_exact_mut(4).zip(state) {
-        to.copy_from_slice(&word.to_be_bytes());
-    }
-    result
-}
-
-fn compress(state: &mut [u32; 8], block: &[u8]) {
-    let mut words = [0u32; 64];
-    for (word, bytes) in words.iter_mut().zip(block.chunks_exact(4)) {
-        *word = u32::from_be_bytes(bytes.try_into().expect("four bytes"));
-    }
-    for at in 16..64 {
-        let (one, two) = (words[at - 15], words[at - 2]);
-        let low = one.rotate_right(7) ^ one.rotate_right(18) ^ (one >> 3);
-        let high = two.rotate_right(17) ^ two.rotate_right(19) ^ (two >> 10);
-        words[at] = words[at - 16].wrapping_add(low).wrapping_add(words[at - 7]).wrapping_add(high);
-    }
-    let [mut a, mut b, mut c, mut d, mut e, mut f, mut g, mut h] = *state;
-    for (word, round) in words.iter().zip(ROUNDS) {
-        let high = e.rotate_right(6) ^ e.rotate_right(11) ^ e.rotate_right(25);
-        let one = h.wrapping_add(high).wrapping_add((e & f) ^ (!e & g)).wrapping_add(round).wrapping_add(*word);
-        let low = a.rotate_right(2) ^ a.rotate_right(13) ^ a.rotate_right(22);
-        let two = low.wrapping_add((a & b) ^ (a & c) ^ (b & c));
-        (h, g, f, e, d, c, b, a) = (g, f, e, d.wrapping_add(one), c, b, a, one.wrapping_add(two));
-    }
-    for (it, more) in state.iter_mut().zip([a, b, c, d, e, f, g, h]) {
-        *it = it.wrapping_add(more);
-    }
+    let inner = sha256(&[&pad, bytes].concat());
+    sha256(&[&pad.map(|it| it ^ 0x36 ^ 0x5c)[..], &inner].concat())
 }

@@ -1,7 +1,9 @@
 // The frames of the loop of `run` between two processes in stock Rust: as many, of the same sizes, a connection for each,
-// and nothing else, or each in an envelope with a number and a tag (`seal`). With no third word it starts itself as the
+// and nothing else, or each in an envelope with a number and a tag (`seal.rs`). With no third word it starts itself as the
 // second process.
 mod seal;
+#[path = "../code/sha256.rs"]
+mod sha256;
 
 use std::io::{Read, Write};
 use std::os::unix::net::{UnixListener, UnixStream};
@@ -66,8 +68,6 @@ fn take(link: &mut Link, listener: &UnixListener, size: usize) {
 }
 
 fn main() {
-    // the digest of "abc" of FIPS 180-4
-    assert_eq!(seal::digest(&[b"a", b"bc"])[..4], [0xba, 0x78, 0x16, 0xbf]);
     let words: Vec<String> = env::args().collect();
     let rounds: usize = words[1].parse().expect("a number of rounds");
     let is_second = words.len() > 3;
