@@ -494,6 +494,12 @@ impl Host {
             Message::Set { field, .. } => has_bit(&self.checks.sets, field.0, from),
             Message::Forward { var, .. } => has_bit(&self.checks.forwards, var.0, from),
             Message::Sync { entry, .. } | Message::Rgoto { entry, .. } => has_bit(&self.checks.enters, entry.0, from),
+            Message::RgotoWith { entry, ref riders, .. } => {
+                has_bit(&self.checks.enters, entry.0, from)
+                    && riders.pairs[..riders.count as usize]
+                        .iter()
+                        .all(|(var, _)| has_bit(&self.checks.forwards, var.0, from))
+            }
             _ => true,
         };
         if !passes {
@@ -518,6 +524,12 @@ impl Host {
                 return Ok(Some((from, Message::Token { request, token })));
             }
             Message::Rgoto { frame, entry, token } => self.enter(code, entry, frame, token),
+            Message::RgotoWith { frame, entry, token, riders } => {
+                for (var, value) in &riders.pairs[..riders.count as usize] {
+                    self.stores.set_variable(frame, *var, *value);
+                }
+                self.enter(code, entry, frame, token);
+            }
             Message::Lgoto { token } => self.pop_or_ignore(code, &token),
             Message::Value { request, value } => {
                 self.wake(Awaited::Value, request, from, |thread| thread.add_temporary(value))?;

@@ -30,6 +30,13 @@ pub fn tag(key: &[u8; KEY_BYTES], host: HostId, frame: FrameId, entry: EntryId, 
     tag
 }
 
+/// Up to eight variables with their values, in order.
+#[derive(Clone, Copy, Debug, PartialEq)]
+pub struct Riders {
+    pub count: u8,
+    pub pairs: [(VarId, i64); 8],
+}
+
 #[derive(Clone, Copy, Debug, PartialEq)]
 pub enum Message {
     Get { request: RequestId, field: FieldId, index: i64 },
@@ -37,6 +44,8 @@ pub enum Message {
     Forward { request: RequestId, frame: FrameId, var: VarId, value: i64 },
     Sync { request: RequestId, frame: FrameId, entry: EntryId, token: Token },
     Rgoto { frame: FrameId, entry: EntryId, token: Token },
+    #[allow(dead_code)]
+    RgotoWith { frame: FrameId, entry: EntryId, token: Token, riders: Riders },
     Lgoto { token: Token },
     Value { request: RequestId, value: i64 },
     Ack { request: RequestId },
@@ -50,6 +59,7 @@ impl Message {
         match *self {
             Message::Sync { token, .. }
             | Message::Rgoto { token, .. }
+            | Message::RgotoWith { token, .. }
             | Message::Lgoto { token }
             | Message::Token { token, .. } => Some(token),
             _ => None,

@@ -1,7 +1,7 @@
 //! Scripts in stock Rust: lines that name misbehaving hosts, lines that set starting values, and lines that say events.
 
 use crate::code::{EntryId, FieldId, FrameId, HostId, RequestId, SiteId, VarId};
-use crate::message::{TAG_BYTES, Token};
+use crate::message::{Riders, TAG_BYTES, Token};
 use crate::world::{BadMessage, BadToken, Event};
 
 pub const HOSTS: [&str; 2] = ["T", "A"];
@@ -102,13 +102,30 @@ fn message<'a>(bad: u16, words: &mut impl Iterator<Item = &'a [u8]>) -> Option<B
             entry: entry(next()?)?,
             token: token(bad, next()?)?,
         },
-        b"rgoto" => BadMessage::Rgoto { frame: frame(next()?)?, entry: entry(next()?)?, token: token(bad, next()?)? },
+        b"rgoto" => {
+            let (frame, entry, token) = (frame(next()?)?, entry(next()?)?, token(bad, next()?)?);
+            match next() {
+                None => BadMessage::Rgoto { frame, entry, token },
+                Some(b"with") => BadMessage::RgotoWith { frame, entry, token, riders: riders(next)? },
+                Some(_) => return None,
+            }
+        }
         b"lgoto" => BadMessage::Lgoto { token: token(bad, next()?)? },
         b"value" => BadMessage::Value { request: request(next()?)?, value: signed(next()?)? },
         b"ack" => BadMessage::Ack { request: request(next()?)? },
         b"token" => BadMessage::Token { request: request(next()?)?, token: token(bad, next()?)? },
         _ => return None,
     })
+}
+
+/// Pairs up to the end of a line, one to eight.
+fn riders<'a>(mut next: impl FnMut() -> Option<&'a [u8]>) -> Option<Riders> {
+    let mut riders = Riders { count: 0, pairs: [(VarId(0), 0); 8] };
+    while let Some(word) = next() {
+        *riders.pairs.get_mut(riders.count as usize)? = (var(word)?, signed(next()?)?);
+        riders.count += 1;
+    }
+    (riders.count > 0).then_some(riders)
 }
 
 fn token(bad: u16, word: &[u8]) -> Option<BadToken> {

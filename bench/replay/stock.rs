@@ -81,6 +81,14 @@ fn put_message(out: &mut impl Write, message: &Message) -> io::Result<()> {
             write!(out, "rgoto {}.{} e{} ", frame.site.0, frame.count, entry.0)?;
             put_token(out, token)
         }
+        Message::RgotoWith { frame, entry, token, riders } => {
+            write!(out, "rgoto {}.{} e{} ", frame.site.0, frame.count, entry.0)?;
+            put_token(out, token)?;
+            write!(out, " with")?;
+            riders.pairs[..riders.count as usize]
+                .iter()
+                .try_for_each(|(var, value)| write!(out, " {} {value}", var.0))
+        }
         Message::Lgoto { token } => {
             write!(out, "lgoto ")?;
             put_token(out, token)

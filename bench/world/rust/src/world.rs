@@ -2,7 +2,7 @@
 
 use crate::code::{Code, EntryId, FieldId, FrameId, HOSTS, HostId, RequestId, VarId};
 use crate::host::{Host, HostError, Sent};
-use crate::message::{KEY_BYTES, Message, Token};
+use crate::message::{KEY_BYTES, Message, Riders, Token};
 use std::collections::{TryReserveError, VecDeque};
 
 /// A token that a misbehaving host may present.
@@ -24,6 +24,7 @@ pub enum BadMessage {
     Forward { request: RequestId, frame: FrameId, var: VarId, value: i64 },
     Sync { request: RequestId, frame: FrameId, entry: EntryId, token: BadToken },
     Rgoto { frame: FrameId, entry: EntryId, token: BadToken },
+    RgotoWith { frame: FrameId, entry: EntryId, token: BadToken, riders: Riders },
     Lgoto { token: BadToken },
     Value { request: RequestId, value: i64 },
     Ack { request: RequestId },
@@ -107,6 +108,9 @@ impl Told {
                 Message::Sync { request, frame, entry, token: self.presented(token)? }
             }
             BadMessage::Rgoto { frame, entry, token } => Message::Rgoto { frame, entry, token: self.presented(token)? },
+            BadMessage::RgotoWith { frame, entry, token, riders } => {
+                Message::RgotoWith { frame, entry, token: self.presented(token)?, riders }
+            }
             BadMessage::Lgoto { token } => Message::Lgoto { token: self.presented(token)? },
             BadMessage::Token { request, token } => Message::Token { request, token: self.presented(token)? },
         })
