@@ -41,13 +41,13 @@ pub const FRAMES: &str = "\
         FrameId { site: SiteId(16909060), count: 18446744073709551615 }, entry: EntryId(11), serial: \
         9223372036854775808, tag: [1, 2, 3, 4, 5, 6, 7, 8, 9, 10, 11, 12, 13, 14, 15, 16] } })\n\
     with | 0 0 0 84 9 11 0 0 0 5 0 0 0 0 0 0 6 7 0 0 0 10 15 1 2 3 4 255 255 255 255 255 255 255 255 0 0 0 11 128 0 0 \
-        0 0 0 0 0 1 2 3 4 5 6 7 8 9 10 11 12 13 14 15 16 2 0 0 0 13 127 255 255 255 255 255 255 255 0 0 1 2 255 255 255 \
-        255 255 255 255 254 | \
-        HostId(9) Message(RgotoWith { frame: FrameId { site: SiteId(5), count: 1543 }, entry: EntryId(10), token: Token \
-        { host: HostId(15), frame: FrameId { site: SiteId(16909060), count: 18446744073709551615 }, entry: EntryId(11), \
-        serial: 9223372036854775808, tag: [1, 2, 3, 4, 5, 6, 7, 8, 9, 10, 11, 12, 13, 14, 15, 16] }, pairs: Riders { \
-        count: 2, pairs: [(VarId(13), 9223372036854775807), (VarId(258), -2), (VarId(0), 0), (VarId(0), 0), (VarId(0), \
-        0), (VarId(0), 0), (VarId(0), 0), (VarId(0), 0)] } })\n\
+        0 0 0 0 0 1 2 3 4 5 6 7 8 9 10 11 12 13 14 15 16 2 0 0 0 13 127 255 255 255 255 255 255 255 0 0 1 2 255 255 \
+        255 255 255 255 255 254 | \
+        HostId(9) Message(RgotoWith { frame: FrameId { site: SiteId(5), count: 1543 }, entry: EntryId(10), token: \
+        Token { host: HostId(15), frame: FrameId { site: SiteId(16909060), count: 18446744073709551615 }, entry: \
+        EntryId(11), serial: 9223372036854775808, tag: [1, 2, 3, 4, 5, 6, 7, 8, 9, 10, 11, 12, 13, 14, 15, 16] }, \
+        pairs: Riders { count: 2, pairs: [(VarId(13), 9223372036854775807), (VarId(258), -2), (VarId(0), 0), \
+        (VarId(0), 0), (VarId(0), 0), (VarId(0), 0), (VarId(0), 0), (VarId(0), 0)] } })\n\
     done | 0 0 0 2 8 10 | \
         HostId(8) Done";
 

@@ -38,8 +38,8 @@ fn rides_to(split: &Split<'_>, host: HostId, x: VarId, carried: Option<HostId>) 
     }
 }
 
-/// The variable whose value rides behind a statement that runs at a spot, where what the statement gives is carried to a
-/// host or to none.
+/// The variable whose value rides behind a statement that runs at a spot, where what the statement gives is carried to
+/// a host or to none.
 pub fn rides_behind(
     split: &Split<'_>,
     spot: Spot,

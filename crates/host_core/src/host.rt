@@ -166,8 +166,8 @@ impl Host {
         self.stopped || self.calls >= MOST_CALLS
     }
 
-    /// Makes room for one more of each thing, and for as many variables as may ride with a message. Nothing else changes,
-    /// also after an error.
+    /// Makes room for one more of each thing, and for as many variables as may ride with a message. Nothing else
+    /// changes, also after an error.
     fn reserve(&mut self) -> Result<(), OutOfMemory>
         ensures waiting { OnOk result (0 < self.new.room) }
         ensures variables { OnOk result (MOST_RIDERS ≤ self.new.stores.spare) }

@@ -137,8 +137,8 @@ impl Host {
         }
     }
 
-    /// A thread is to start at an entry and in a frame, some of whose variables become the values that ride. It holds the
-    /// token.
+    /// A thread is to start at an entry and in a frame, some of whose variables become the values that ride. It holds
+    /// the token.
     pub(crate) fn take_rgoto_with(
         &mut self,
         code: &Code,

@@ -1,6 +1,7 @@
 -- What the bytes of a file of keys say to a node.
 use Rattle.std.specs.Prelude.{ℕ, zero, suc, ◌+◌, Bool, not, ◌==◌, ◌&&◌, ◌||◌, if◌then◌else◌, nat_lt, is_none}
-use Rattle.std.specs.Prelude.{List, [], ◌∷◌, length, replicate, Option, Some, None, Result, Ok, Err, slice_get, slice_set}
+use Rattle.std.specs.Prelude.{List, [], ◌∷◌, length, replicate, Option, Some, None, Result}
+use Rattle.std.specs.Prelude.{Ok, Err, slice_get, slice_set}
 use Rattle.std.specs.Option.{option_map}
 use Rattle.js_base.specs.declared.ids.HostId.{HostId}
 use Rattle.host_code.specs.Code.{CodeShape}

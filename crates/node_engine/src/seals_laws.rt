@@ -10,8 +10,8 @@ ghost use Rattle.node_engine.specs.declared.arrivals.Arrival.TheVariants as arri
 ghost use Rattle.node_engine.specs.declared.arrivals.DropReason.TheVariants as dropped;
 ghost use Rattle.node_engine.specs.Arrivals.{Arrives};
 ghost use Rattle.node_engine.specs.NodeWorlds.{Inside, Part, Line, Sealing, Sending};
-ghost use Rattle.node_engine.specs.Seals.{SealedLinks, SealsShape, after_opening, link_of, opened_of, refused, string_for};
-ghost use Rattle.node_engine.specs.Seals.{unsealed};
+ghost use Rattle.node_engine.specs.Seals.{SealedLinks, SealsShape, after_opening, link_of, opened_of};
+ghost use Rattle.node_engine.specs.Seals.{refused, string_for, unsealed};
 ghost use Rattle.node_engine.specs.SealsFile.{lacks, seals_of};
 ghost use Rattle.node_engine.specs.Units.{AreArrivalParts, frame_parts};
 
