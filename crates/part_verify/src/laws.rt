@@ -1,6 +1,6 @@
 //! Laws of the check, for who reasons about it.
 
-ghost use Rattle.std.specs.Prelude.{◌≡◌, ◌≢◌};
+ghost use Rattle.std.specs.Prelude.{◌≡◌, ◌≢◌, ◌⊎◌};
 ghost use Rattle.js_base.specs.declared.ids.HostId.{HostId};
 ghost use Rattle.host_code.specs.Code.{CodeShape};
 ghost use Rattle.part_verify.specs.declared.errors.VerifyError.{VerifyError};
@@ -18,4 +18,8 @@ pub fn verify_laws()
     // A sound part is refused for nothing else.
     ensures never_both { (code : CodeShape) (me : HostId) (error : VerifyError) →
         IsSoundPart code me → IsRefusedFor code me error → error ≡ OutOfMemory }
+
+    // Any part is sound, or refused for something else.
+    ensures sound_or_refused { (code : CodeShape) (me : HostId) → IsSoundPart code me
+        ⊎ ((error : VerifyError) × (error ≢ OutOfMemory) × IsRefusedFor code me error) }
 {}

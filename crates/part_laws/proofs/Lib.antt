@@ -1,0 +1,2 @@
+pub mod NeedsKept
+pub mod ShownWell
