@@ -8,9 +8,10 @@ use std::test::Fail;
 /// Behind each `#` the name of a file, and from the next line on its text. The program `P` has two fields of two
 /// owners, each assigned once, and of its hosts `H` there is one for each owner: A's part sets its own field, and asks
 /// B to set the other. In `handed` two hosts are handed the right to go on by a third. Of its hosts `far` the first is
-/// one that two trust, then comes one of Bob's that is far from it, and one of Carol's that Alice trusts. The events
-/// `E` and the starting values `S` are none. `K` has the keys of the links of A and B, and `other_keys` has each in the
-/// place of the other.
+/// one that two trust, then comes one of Bob's that is far from it, and one of Carol's that Alice trusts. In `told` a
+/// number of Alice's rides to the host of Bob's field, and her secret `k` has no part; of its hosts `near` there is
+/// one for each of the two. The events `E` and the starting values `S` are none. `K` has the keys of the links of A
+/// and B, and `other_keys` has each in the place of the other.
 const TEXTS: &str = "\
     #P\n\
     int{Alice:} a;\nint{Bob:} b;\nvoid main{}() {\n  a = 1;\n  b = 2;\n}\n\
@@ -30,6 +31,12 @@ const TEXTS: &str = "\
     [[host]]\nname = 'H'\nlabel = '{Bob:}'\n\
     [[host]]\nname = 'D'\nlabel = '{Carol:; ?: Alice}'\n\
     [[link]]\nfrom = 'H'\nto = 'T'\ncost = 10\n\
+    #told\n\
+    int{Bob:} b;\nint{Alice:; ?:Alice} k;\nvoid main{?:Alice}() {\nint x = 7;\nb = b + x;\n}\
+    #near\n\
+    principals = ['Alice', 'Bob']\n\
+    [[host]]\nname = 'T'\nlabel = '{Alice:; ?: Alice}'\n\
+    [[host]]\nname = 'B'\nlabel = '{Bob:}'\n\
     #bad_program\n\
     int{} 9x;\
     #bad_start\n\

@@ -16,6 +16,8 @@ mod limits;
 #[cfg(test)]
 mod node;
 #[cfg(test)]
+mod node_parts;
+#[cfg(test)]
 mod node_refusals;
 #[cfg(test)]
 mod node_seals;

@@ -6,6 +6,7 @@ use Rattle.std.specs.Option.{option_map}
 use Rattle.js_base.specs.declared.text.TheConstants.{LINE_FEED}
 use Rattle.js_base.specs.declared.status.Status.{Status}
 use Rattle.js_base.specs.declared.status.Status.TheVariants as status
+use Rattle.js_base.specs.declared.ids.EntryId.{EntryId}
 use Rattle.js_base.specs.declared.ids.FieldId.{FieldId}
 use Rattle.js_base.specs.declared.ids.StmtId.{StmtId}
 use Rattle.principals.specs.ActsFor.{Declared}
@@ -54,6 +55,8 @@ pub data RefusalShape : Type 0 where
   NoHost : (name : List ℕ) → RefusalShape
   OtherHosts : (code hosts : List ℕ) → RefusalShape
   NoKey : (file host : List ℕ) → RefusalShape
+  WeakEntry : (file : List ℕ) (entry : EntryId) (place : ℕ) → RefusalShape
+  Reveals : (file : List ℕ) (place : ℕ) → RefusalShape
 
 -- what a refusal of the program says
 abbrev pub refusal_shape : native.Refusal → RefusalShape
@@ -74,6 +77,8 @@ refusal_shape (variants.BadCode file why) = BadCode (string_bytes file) why
 refusal_shape (variants.NoHost name) = NoHost (string_bytes name)
 refusal_shape (variants.OtherHosts code hosts) = OtherHosts (string_bytes code) (string_bytes hosts)
 refusal_shape (variants.NoKey file host) = NoKey (string_bytes file) (string_bytes host)
+refusal_shape (variants.WeakEntry file entry place) = WeakEntry (string_bytes file) entry place
+refusal_shape (variants.Reveals file place) = Reveals (string_bytes file) place
 
 -- the status with which a refused program ends
 abbrev pub refusal_status : RefusalShape → Status
@@ -94,6 +99,8 @@ refusal_status (BadCode file why) = status.InputRefused
 refusal_status (NoHost name) = status.InputRefused
 refusal_status (OtherHosts code hosts) = status.InputRefused
 refusal_status (NoKey file host) = status.InputRefused
+refusal_status (WeakEntry file entry place) = status.InputRefused
+refusal_status (Reveals file place) = status.InputRefused
 
 -- ---- programs
 
@@ -229,6 +236,11 @@ refusal_text (BadCode file why) = file ++ (codes ": " ++ why_no_code why)
 refusal_text (NoHost name) = codes "no host " ++ name
 refusal_text (OtherHosts code hosts) = codes "the hosts of " ++ (code ++ (codes " are not those of " ++ hosts))
 refusal_text (NoKey file host) = file ++ (codes ": no key for host " ++ host)
+refusal_text (WeakEntry file entry place) =
+    file ++ (codes ": instruction " ++ (decimal place
+    ++ (codes " names more than the need of entry e" ++ decimal entry.0)))
+refusal_text (Reveals file place) =
+    file ++ (codes ": instruction " ++ (decimal place ++ codes " shows a host what it may not see"))
 
 -- a line of a program of this name on the error output
 abbrev pub error_line : (program text : List ℕ) → List ℕ

@@ -6,13 +6,13 @@ ghost use Rattle.front_end.specs.Refusals.{refusal_shape, refusal_status, refusa
 
 use crate::refusal_texts::{
     at_line_text, code_text, hosts_text, labels_text, lexed_text, no_key_text, parsed_text,
-    resolved_text,
+    resolved_text, reveals_text, weak_entry_text,
 };
 use host_decl::HostsError;
 use jif_lex::LexError;
 use jif_parse::ParseError;
 use jif_resolve::ResolveError;
-use js_base::Status;
+use js_base::{EntryId, Status};
 use label_check::CheckError;
 use place_rules::PlaceError;
 use split_file::SplitError;
@@ -107,6 +107,18 @@ pub enum Refusal {
         file: String,
         host: String,
     },
+    /// An entry of the split file leads to the instruction at this place of a host's part, which names more than the
+    /// entry's need has.
+    WeakEntry {
+        file: String,
+        entry: EntryId,
+        place: u32,
+    },
+    /// The instruction at this place of a host's part shows another host what that may not see.
+    Reveals {
+        file: String,
+        place: u32,
+    },
 }
 
 impl Refusal {
@@ -131,7 +143,9 @@ impl Refusal {
             | Refusal::BadCode { .. }
             | Refusal::NoHost { .. }
             | Refusal::OtherHosts { .. }
-            | Refusal::NoKey { .. } => Status::InputRefused,
+            | Refusal::NoKey { .. }
+            | Refusal::WeakEntry { .. }
+            | Refusal::Reveals { .. } => Status::InputRefused,
         }
     }
 
@@ -161,6 +175,10 @@ impl Refusal {
                 format!(in alloc; "the hosts of {code} are not those of {hosts}")
             }
             Refusal::NoKey { file, host } => no_key_text(alloc, file, host),
+            Refusal::WeakEntry { file, entry, place } => {
+                weak_entry_text(alloc, file, *entry, *place)
+            }
+            Refusal::Reveals { file, place } => reveals_text(alloc, file, *place),
         }
     }
 }

@@ -16,7 +16,7 @@ use jif_lex::LexError;
 use jif_parse::ParseError;
 use jif_resolve::ResolveError;
 use jif_tree::{Field, Program};
-use js_base::{FieldId, OutOfMemory, StmtId};
+use js_base::{EntryId, FieldId, OutOfMemory, StmtId};
 use label_check::CheckError;
 use label_lattice::label_text;
 use place_rules::PlaceError;
@@ -98,6 +98,27 @@ pub fn no_key_text(alloc: Global, file: &str, host: &str) -> Result<String, Allo
     ensures { IfOk result (λ text. string_bytes text ≡ refusals.refusal_text (refusals.NoKey file.now host.now)) }
 {
     format!(in alloc; "{file}: no key for host {host}")
+}
+
+/// The words of a split file in which an entry leads to an instruction that names more than its need has.
+pub fn weak_entry_text(
+    alloc: Global,
+    file: &str,
+    entry: EntryId,
+    place: u32,
+) -> Result<String, AllocError>
+    ensures { IfOk result (λ text.
+        string_bytes text ≡ refusals.refusal_text (refusals.WeakEntry file.now entry place)) }
+{
+    let number = entry.0;
+    format!(in alloc; "{file}: instruction {place} names more than the need of entry e{number}")
+}
+
+/// The words of a split file in which an instruction shows another host what that may not see.
+pub fn reveals_text(alloc: Global, file: &str, place: u32) -> Result<String, AllocError>
+    ensures { IfOk result (λ text. string_bytes text ≡ refusals.refusal_text (refusals.Reveals file.now place)) }
+{
+    format!(in alloc; "{file}: instruction {place} shows a host what it may not see")
 }
 
 /// Why a text has no tokens.

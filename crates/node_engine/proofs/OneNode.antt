@@ -12,6 +12,10 @@ use Rattle.js_base.proofs.Options.{some_same}
 use Rattle.host_code.specs.Code.{CodeShape}
 use Rattle.host_decl.specs.Hosts.{HostsShape, HostShape}
 use Rattle.event_text.specs.Settings.{form_of}
+use Rattle.part_verify.specs.declared.errors.VerifyError.{VerifyError}
+use Rattle.part_verify.specs.declared.errors.VerifyError.TheVariants as unsound
+use Rattle.part_verify.specs.Refusing.{IsRefusedFor}
+use Rattle.part_verify.specs.SoundPart.{IsSoundPart}
 use Rattle.split_file.specs.declared.error.SplitError.{SplitError}
 use Rattle.split_file.specs.File.{file_code}
 use Rattle.front_end.specs.PlacedCode.{code_of}
@@ -25,18 +29,23 @@ use Rattle.front_end.proofs.OneStart.{start_once}
 use Rattle.front_end.proofs.Stages.{IsOne, give, one_then, stop_with}
 use Rattle.node_engine.specs.declared.seals_file.SealsError.{SealsError}
 use Rattle.node_engine.specs.declared.seals_file.SealsError.TheVariants as error
-use Rattle.node_engine.specs.NodeSources.{AreHostsOf, CodeRead, IsNamed, NodeSource, bad_code, no_host, other_hosts}
-use Rattle.node_engine.specs.NodeSources.{NodeSources, NodeStart, NodeStarts, OfHost, PlacedNode, ReadyNode, ReadyNodes}
-use Rattle.node_engine.specs.NodeSources.{Sealed, SealedBy, Valued}
+use Rattle.node_engine.specs.NodeSources.{AreHostsOf, CodeRead, HostFound, IsNamed, NodeSource, NodeSources, NodeStart}
+use Rattle.node_engine.specs.NodeSources.{NodeStarts, OfHost, PartChecked, PartRefused, PlacedNode, ReadyNode}
+use Rattle.node_engine.specs.NodeSources.{ReadyNodes, Sealed, SealedBy, Valued, bad_code, no_host, other_hosts}
 use Rattle.node_engine.specs.Nodes.{LoadedNode, TellsKeys}
 use Rattle.node_engine.specs.Seals.{SealsShape}
 use Rattle.node_engine.specs.SealsFile.{seals_of}
 use Rattle.node_engine.specs.Options.{Asked, SourceName, Program as from_program, Code as from_code, name_of}
 
--- what is known of programs and host files
+-- what is known of programs, host files and parts
 pub record OneSources : Type 0 where
   pub plans : (program hosts : List ℕ) → IsOne (PlacedSources program hosts)
   pub hosts : (bytes : List ℕ) → IsOne (HostsRead bytes)
+  pub one_refusal : (code : CodeShape) (me : HostId) (first second : VerifyError) →
+      first ≢ unsound.OutOfMemory → second ≢ unsound.OutOfMemory →
+      IsRefusedFor code me first → IsRefusedFor code me second → first ≡ second
+  pub never_both : (code : CodeShape) (me : HostId) (why : VerifyError) → IsSoundPart code me →
+      IsRefusedFor code me why → why ≡ unsound.OutOfMemory
 
 valued_once : (file start : List ℕ) (code : CodeShape) (hosts : HostsShape) → IsOne (Valued file start code hosts)
 valued_once file start code hosts =
@@ -164,15 +173,51 @@ host_once name code hosts source (stopped verdict) (given second) one two =
 host_once name code hosts source (stopped verdict) (stopped other) one two =
     ap (stop_with {X = NodeStart}) (missing_once name code hosts source verdict other one two)
 
+-- ---- the node's part
+
+-- nothing is due for want of memory
+not_memory : (file : List ℕ) (why : VerifyError) (verdict : VerdictShape) → PartRefused file why verdict →
+    why ≢ unsound.OutOfMemory
+not_memory file unsound.OutOfMemory verdict refused = absurd refused
+not_memory file (unsound.WeakEntry entry place) verdict refused = λ same. cc
+not_memory file (unsound.Reveals place) verdict refused = λ same. cc
+
+told_alike : (file : List ℕ) (why : VerifyError) (first second : VerdictShape) → PartRefused file why first →
+    PartRefused file why second → first ≡ second
+told_alike file unsound.OutOfMemory first second one two = absurd one
+told_alike file (unsound.WeakEntry entry place) first second one two = one ∙ sym two
+told_alike file (unsound.Reveals place) first second one two = one ∙ sym two
+
+part_once : OneSources → (name : SourceName) (node : NodeStart) → IsOne (PartChecked name node)
+part_once laws (from_program name) node first second one two = one ∙ sym two
+part_once laws (from_code name) node (given first) (given second) one two =
+    ap (give {X = NodeStart}) (one.0 ∙ sym two.0)
+part_once laws (from_code name) node (given first) (stopped verdict) one two =
+    absurd (not_memory name two.0 verdict two.2 (laws.never_both node.source.code node.me two.0 one.1 two.1))
+part_once laws (from_code name) node (stopped verdict) (given second) one two =
+    absurd (not_memory name one.0 verdict one.2 (laws.never_both node.source.code node.me one.0 two.1 one.1))
+part_once laws (from_code name) node (stopped verdict) (stopped other) one two =
+    let same : one.0 ≡ two.0 =
+    laws.one_refusal node.source.code node.me one.0 two.0 (not_memory name one.0 verdict one.2)
+    (not_memory name two.0 other two.2) one.1 two.1 in
+    ap (stop_with {X = NodeStart}) (told_alike name two.0 verdict other
+    (subst (λ (why : VerifyError). PartRefused name why verdict) same one.2) two.2)
+
 -- ---- nodes
 
-pub node_once : OneSources → (asked : Asked) (source hosts start : List ℕ) →
-    IsOne (NodeStarts asked source hosts start)
-node_once laws asked source hosts start =
+found_once : OneSources → (asked : Asked) (source hosts start : List ℕ) →
+    IsOne (HostFound asked source hosts start)
+found_once laws asked source hosts start =
     one_then (NodeSources asked.source source hosts asked.start start)
     (OfHost asked.host (name_of asked.source) asked.hosts)
     (source_once laws asked.source source hosts asked.start start)
     (λ it was. host_once asked.host (name_of asked.source) asked.hosts it)
+
+pub node_once : OneSources → (asked : Asked) (source hosts start : List ℕ) →
+    IsOne (NodeStarts asked source hosts start)
+node_once laws asked source hosts start =
+    one_then (HostFound asked source hosts start) (PartChecked asked.source) (found_once laws asked source hosts start)
+    (λ it was. part_once laws asked.source it)
 
 -- the same bytes are held where files tell them
 told_once : (holds : List ℕ → Option (List ℕ)) (held : Option (List ℕ → Option (List ℕ))) (name first second : List ℕ) →

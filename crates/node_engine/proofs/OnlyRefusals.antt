@@ -12,10 +12,13 @@ use Rattle.front_end.specs.Stages.{Outcome, given, stopped, Then}
 use Rattle.front_end.specs.Starting.{StartingValues, long, bad_line, read}
 use Rattle.front_end.specs.Verdicts.{VerdictShape, Refuse, Print}
 use Rattle.std.specs.Prelude.{ℤ, ⊤}
+use Rattle.part_verify.specs.declared.errors.VerifyError.{VerifyError}
+use Rattle.part_verify.specs.declared.errors.VerifyError.TheVariants as unsound
 use Rattle.node_engine.specs.declared.seals_file.SealsError.{SealsError}
 use Rattle.node_engine.specs.declared.seals_file.SealsError.TheVariants as error
-use Rattle.node_engine.specs.NodeSources.{CodeRead, NodeSource, NodeSources, NodeStart, NodeStarts, OfHost, PlacedNode}
-use Rattle.node_engine.specs.NodeSources.{ReadyNode, ReadyNodes, Sealed, SealedBy, Valued}
+use Rattle.node_engine.specs.NodeSources.{CodeRead, HostFound, NodeSource, NodeSources, NodeStart, NodeStarts, OfHost}
+use Rattle.node_engine.specs.NodeSources.{PartChecked, PartRefused, PlacedNode, ReadyNode, ReadyNodes, Sealed}
+use Rattle.node_engine.specs.NodeSources.{SealedBy, Valued}
 use Rattle.node_engine.specs.Seals.{SealsShape}
 use Rattle.node_engine.specs.SealsFile.{seals_of}
 use Rattle.node_engine.specs.Options.{Asked, SourceName, Program as from_program, Code as from_code, name_of}
@@ -92,12 +95,27 @@ host_refuses : (name code hosts : List ℕ) (source : NodeSource) → Refuses (O
 host_refuses name code hosts source verdict (inl (none, is)) = is_refused verdict _ is
 host_refuses name code hosts source verdict (inr (me, named, unlike, is)) = is_refused verdict _ is
 
-pub node_refuses : (asked : Asked) (source hosts start : List ℕ) → Refuses (NodeStarts asked source hosts start)
-node_refuses asked source hosts start =
+part_refuses : (file : List ℕ) (why : VerifyError) (verdict : VerdictShape) → PartRefused file why verdict →
+    IsRefusal verdict
+part_refuses file unsound.OutOfMemory verdict refused = absurd refused
+part_refuses file (unsound.WeakEntry entry place) verdict refused = is_refused verdict _ refused
+part_refuses file (unsound.Reveals place) verdict refused = is_refused verdict _ refused
+
+checked_refuses : (name : SourceName) (node : NodeStart) → Refuses (PartChecked name node)
+checked_refuses (from_program name) node verdict is = absurd (let never : ⊥ = cc in never)
+checked_refuses (from_code name) node verdict (why, refused, told) = part_refuses name why verdict told
+
+found_refuses : (asked : Asked) (source hosts start : List ℕ) → Refuses (HostFound asked source hosts start)
+found_refuses asked source hosts start =
     then_refuses (NodeSources asked.source source hosts asked.start start)
     (OfHost asked.host (name_of asked.source) asked.hosts)
     (source_refuses asked.source source hosts asked.start start)
     (λ it. host_refuses asked.host (name_of asked.source) asked.hosts it)
+
+pub node_refuses : (asked : Asked) (source hosts start : List ℕ) → Refuses (NodeStarts asked source hosts start)
+node_refuses asked source hosts start =
+    then_refuses (HostFound asked source hosts start) (PartChecked asked.source)
+    (found_refuses asked source hosts start) (λ it. checked_refuses asked.source it)
 
 -- a node that stops with what it stops with
 stopped_once : (verdict other : VerdictShape) (first second : Outcome ReadyNode) → first ≡ stopped verdict →

@@ -12,6 +12,10 @@ use Rattle.event_text.specs.Settings.{form_of}
 use Rattle.js_base.specs.declared.ids.HostId.{HostId}
 use Rattle.host_code.specs.Code.{CodeShape, CodeHostShape}
 use Rattle.host_decl.specs.Hosts.{HostsShape, HostShape}
+use Rattle.part_verify.specs.declared.errors.VerifyError.{VerifyError}
+use Rattle.part_verify.specs.declared.errors.VerifyError.TheVariants as unsound
+use Rattle.part_verify.specs.Refusing.{IsRefusedFor}
+use Rattle.part_verify.specs.SoundPart.{IsSoundPart}
 use Rattle.split_file.specs.declared.error.SplitError.{SplitError}
 use Rattle.split_file.specs.File.{file_code}
 use Rattle.front_end.specs.PlacedCode.{code_of}
@@ -19,25 +23,27 @@ use Rattle.front_end.specs.PlacedSources.{PlacedSources}
 use Rattle.front_end.specs.Sources.{HostsRead}
 use Rattle.front_end.specs.Stages.{given, stopped, Then}
 use Rattle.front_end.specs.Starting.{StartingValues}
-use Rattle.front_end.specs.Verdicts.{too_long}
+use Rattle.front_end.specs.Verdicts.{VerdictShape, too_long}
 use Rattle.front_end.proofs.SomeStages.{HasOutcome, some_then}
 use Rattle.front_end.proofs.SomeStart.{SomeStart, start_some}
 use Rattle.node_engine.specs.declared.seals_file.SealsError.{SealsError}
 use Rattle.node_engine.specs.declared.seals_file.SealsError.TheVariants as error
 use Rattle.node_engine.specs.declared.seals_file.TheConstants.{SEALS_BYTES}
-use Rattle.node_engine.specs.NodeSources.{CodeRead, NodeSource, NodeSources, NodeStart, NodeStarts, OfHost, ReadyNodes}
-use Rattle.node_engine.specs.NodeSources.{PlacedNode, Sealed, SealedBy, Valued, bad_code, named_host, no_host}
-use Rattle.node_engine.specs.NodeSources.{other_hosts}
+use Rattle.node_engine.specs.NodeSources.{CodeRead, HostFound, NodeSource, NodeSources, NodeStart, NodeStarts, OfHost}
+use Rattle.node_engine.specs.NodeSources.{PartChecked, PartRefused, PlacedNode, ReadyNodes, Sealed, SealedBy, Valued}
+use Rattle.node_engine.specs.NodeSources.{bad_code, named_host, no_host, other_hosts, reveals, weak_entry}
 use Rattle.node_engine.specs.Seals.{SealedLinks, SealsShape}
 use Rattle.node_engine.specs.SealsFile.{behind_line, behind_lines, first_lacking, no_links, or_bad_line, seals_of}
 use Rattle.node_engine.specs.SealsFile.{unless_lacking, whole_links, with_line}
 use Rattle.node_engine.specs.Options.{Asked, SourceName, Program as from_program, Code as from_code, name_of}
 
--- what is known of programs, host files and files of starting values
+-- what is known of programs, host files, files of starting values and parts
 pub record SomeSources : Type 0 where
   pub plans : (program hosts : List ℕ) → HasOutcome (PlacedSources program hosts)
   pub hosts : (bytes : List ℕ) → HasOutcome (HostsRead bytes)
   pub start : SomeStart
+  pub parts : (code : CodeShape) (me : HostId) →
+      IsSoundPart code me ⊎ ((why : VerifyError) × (why ≢ unsound.OutOfMemory) × IsRefusedFor code me why)
 
 -- ---- sources
 
@@ -134,13 +140,36 @@ host_some name code hosts source = elim (row_named source.hosts.hosts name) [
   ]
 ]
 
-pub node_some : SomeSources → (asked : Asked) (source hosts start : List ℕ) →
-    HasOutcome (NodeStarts asked source hosts start)
-node_some laws asked source hosts start =
+-- ---- the node's part
+
+refused_some : (file : List ℕ) (why : VerifyError) → why ≢ unsound.OutOfMemory →
+    (verdict : VerdictShape) × PartRefused file why verdict
+refused_some file unsound.OutOfMemory not = absurd (not refl)
+refused_some file (unsound.WeakEntry entry place) not = (weak_entry file entry place, refl)
+refused_some file (unsound.Reveals place) not = (reveals file place, refl)
+
+part_some : SomeSources → (name : SourceName) (node : NodeStart) → HasOutcome (PartChecked name node)
+part_some laws (from_program name) node = (given node, refl)
+part_some laws (from_code name) node = elim (laws.parts node.source.code node.me) [
+  | inl sound ↦ (given node, (refl, sound))
+  | inr (why, not, refused) ↦
+      let told = refused_some name why not in
+      (stopped told.0, (why, refused, told.1))
+]
+
+found_some : SomeSources → (asked : Asked) (source hosts start : List ℕ) →
+    HasOutcome (HostFound asked source hosts start)
+found_some laws asked source hosts start =
     some_then (NodeSources asked.source source hosts asked.start start)
     (OfHost asked.host (name_of asked.source) asked.hosts)
     (source_some laws asked.source source hosts asked.start start)
     (λ it was. host_some asked.host (name_of asked.source) asked.hosts it)
+
+pub node_some : SomeSources → (asked : Asked) (source hosts start : List ℕ) →
+    HasOutcome (NodeStarts asked source hosts start)
+node_some laws asked source hosts start =
+    some_then (HostFound asked source hosts start) (PartChecked asked.source) (found_some laws asked source hosts start)
+    (λ it was. part_some laws asked.source it)
 
 -- ---- seals
 

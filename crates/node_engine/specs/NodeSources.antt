@@ -4,11 +4,16 @@ use Rattle.std.specs.Prelude.{◌≡◌, ◌≢◌, ◌⊎◌, ℕ, ◌<◌, ◌
 use Rattle.std.specs.Prelude.{Result, Ok, Err, All}
 use Rattle.std.specs.Prelude.{slice_get, take}
 use Rattle.js_base.specs.declared.ids.HostId.{HostId}
+use Rattle.js_base.specs.declared.ids.EntryId.{EntryId}
 use Rattle.js_base.specs.declared.limits.TheConstants.{SPLIT_FILE_BYTES}
 use Rattle.host_code.specs.Code.{CodeShape, CodeHostShape}
 use Rattle.host_code.specs.MessageText.{host_text}
 use Rattle.host_decl.specs.Hosts.{HostsShape, HostShape}
 use Rattle.event_text.specs.Settings.{form_of}
+use Rattle.part_verify.specs.declared.errors.VerifyError.{VerifyError}
+use Rattle.part_verify.specs.declared.errors.VerifyError.TheVariants as unsound
+use Rattle.part_verify.specs.Refusing.{IsRefusedFor}
+use Rattle.part_verify.specs.SoundPart.{IsSoundPart}
 use Rattle.split_file.specs.declared.error.SplitError.{SplitError}
 use Rattle.split_file.specs.File.{file_code}
 use Rattle.front_end.specs.PlacedCode.{code_of}
@@ -37,6 +42,12 @@ no_host name = Refuse (refusals.NoHost name)
 
 abbrev pub other_hosts : (code hosts : List ℕ) → VerdictShape
 other_hosts code hosts = Refuse (refusals.OtherHosts code hosts)
+
+abbrev pub weak_entry : (file : List ℕ) (entry : EntryId) (place : ℕ) → VerdictShape
+weak_entry file entry place = Refuse (refusals.WeakEntry file entry place)
+
+abbrev pub reveals : (file : List ℕ) (place : ℕ) → VerdictShape
+reveals file place = Refuse (refusals.Reveals file place)
 
 abbrev pub no_key : (file host : List ℕ) → VerdictShape
 no_key file host = Refuse (refusals.NoKey file host)
@@ -103,16 +114,36 @@ OfHost name code hosts source (stopped verdict) =
     ⊎ ((me : HostId) × IsNamed source.hosts name me × (¬ AreHostsOf source.code source.hosts.hosts)
     × (verdict ≡ other_hosts code hosts))
 
+-- ---- the node's part
+
+-- what is due where a host's part of the code of a file is refused; that memory ran out is said elsewhere
+abbrev pub PartRefused : (file : List ℕ) → VerifyError → VerdictShape → Type 0
+PartRefused file unsound.OutOfMemory verdict = ⊥
+PartRefused file (unsound.WeakEntry entry place) verdict = verdict ≡ weak_entry file entry place
+PartRefused file (unsound.Reveals place) verdict = verdict ≡ reveals file place
+
+-- A host that is given the code of a split file looks at its own part first, and does not run a part that is not sound.
+-- Of the code of a program it takes its own word.
+abbrev pub PartChecked : SourceName → NodeStart → Outcome NodeStart → Type 0
+PartChecked (from_program name) node end = end ≡ given node
+PartChecked (from_code name) node (given same) = (same ≡ node) × IsSoundPart node.source.code node.me
+PartChecked (from_code name) node (stopped verdict) =
+    (why : VerifyError) × IsRefusedFor node.source.code node.me why × PartRefused name why verdict
+
 -- ---- all stages, where the files hold these bytes
 
 abbrev pub NodeSources : SourceName → (source hosts file start : List ℕ) → Outcome NodeSource → Type 0
 NodeSources (from_program name) source hosts file start = FromProgram source hosts file start
 NodeSources (from_code name) source hosts file start = FromCode name source hosts file start
 
-abbrev pub NodeStarts : Asked → (source hosts start : List ℕ) → Outcome NodeStart → Type 0
-NodeStarts asked source hosts start =
+-- with the number of the node's host, before this has looked at its part
+abbrev pub HostFound : Asked → (source hosts start : List ℕ) → Outcome NodeStart → Type 0
+HostFound asked source hosts start =
     Then (NodeSources asked.source source hosts asked.start start)
     (OfHost asked.host (name_of asked.source) asked.hosts)
+
+abbrev pub NodeStarts : Asked → (source hosts start : List ℕ) → Outcome NodeStart → Type 0
+NodeStarts asked source hosts start = Then (HostFound asked source hosts start) (PartChecked asked.source)
 
 -- ---- the seals
 

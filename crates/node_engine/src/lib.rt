@@ -8,6 +8,7 @@ mod node;
 mod node_end;
 mod node_error;
 mod node_files;
+mod node_part;
 mod node_source;
 mod node_start;
 mod options;

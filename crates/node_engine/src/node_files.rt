@@ -5,11 +5,13 @@ ghost use Rattle.js_base.specs.declared.limits.TheConstants.{HOSTS_BYTES, SCRIPT
 ghost use Rattle.front_end.specs.Loading.{EndsAs, IsLoaded, StopsWith};
 ghost use Rattle.front_end.specs.Loads.{AreKept, files_change};
 ghost use Rattle.front_end.specs.Stages.{Then, stopped};
-ghost use Rattle.node_engine.specs.NodeSources.{IsStarted, NodeSources, NodeStart as SourcedNode, NodeStarts, Sealed};
-ghost use Rattle.node_engine.specs.NodeSources.{SealedBy, no_key, node_source, node_start, ready_node};
+ghost use Rattle.node_engine.specs.NodeSources.{HostFound, IsStarted, NodeSources, NodeStart as SourcedNode};
+ghost use Rattle.node_engine.specs.NodeSources.{NodeStarts, Sealed, SealedBy, no_key, node_source, node_start};
+ghost use Rattle.node_engine.specs.NodeSources.{ready_node};
 ghost use Rattle.node_engine.specs.Nodes.{IsNodeDue, files_of, most_of};
 ghost use Rattle.node_engine.specs.Options.{asked_shape, name_of, source_name};
 
+use crate::node_part::part_checked;
 use crate::node_source::{NodeSource, code_source, program_source};
 use crate::node_start::{NodeStart, copies, of_host};
 use crate::options::{Options, SourceWord};
@@ -238,7 +240,7 @@ fn no_key(alloc: Global, file: &str, host: &str) -> Stop
     }
 }
 
-/// The node of files that were loaded.
+/// The node of files that were loaded, whose host has looked at its part.
 fn node_of_loaded(
     alloc: Global,
     options: &Options<'_>,
@@ -249,6 +251,23 @@ fn node_of_loaded(
     ensures due { (c h s : List ℕ) → IsLoaded (most_of (source_name options.now.source)) c source.now →
         IsLoaded HOSTS_BYTES h hosts.now → IsLoaded SCRIPT_BYTES s start.now →
         EndsAs node_start (NodeStarts (asked_shape options.now) c h s) result }
+    ensures started { IfOk result IsStarted }
+{
+    let node = host_of_loaded(alloc, options, source, hosts, start)?;
+    part_checked(alloc, options.source, node)
+}
+
+/// The node of files that were loaded, before its host has looked at its part.
+fn host_of_loaded(
+    alloc: Global,
+    options: &Options<'_>,
+    source: &Loaded,
+    hosts: &Loaded,
+    start: &Loaded,
+) -> Result<NodeStart, Stop>
+    ensures due { (c h s : List ℕ) → IsLoaded (most_of (source_name options.now.source)) c source.now →
+        IsLoaded HOSTS_BYTES h hosts.now → IsLoaded SCRIPT_BYTES s start.now →
+        EndsAs node_start (HostFound (asked_shape options.now) c h s) result }
     ensures started { IfOk result IsStarted }
 {
     let source = source_of_loaded(alloc, options, source, hosts, start)?;

@@ -12,6 +12,7 @@ ghost use Rattle.node_engine.specs.Options.{Asked};
 use event_text::script_laws;
 use front_end::source_laws;
 use host_decl::host_file_laws;
+use part_verify::verify_laws;
 
 /// Laws of what a node begins with. The call does nothing.
 pub fn node_laws()
@@ -43,5 +44,6 @@ pub fn node_laws()
 {
     source_laws();
     host_file_laws();
+    verify_laws();
     script_laws();
 }

@@ -10,7 +10,12 @@ use Rattle.node_engine.proofs.SomeNode.{SomeSources, node_some, ready_some}
 use Rattle.node_engine.proofs.start_laws.node_laws.Goals as goal
 
 sources : (c : goal.After-script_laws) → OneSources
-sources c = record { plans = c.source_laws.ensures.one_plan; hosts = c.source_laws.ensures.one_hosts }
+sources c = record {
+  plans = c.source_laws.ensures.one_plan;
+  hosts = c.source_laws.ensures.one_hosts;
+  one_refusal = c.verify_laws.ensures.one_refusal;
+  never_both = c.verify_laws.ensures.never_both;
+}
 
 -- a host file has hosts, or is refused
 hosts_some : (c : goal.After-script_laws) (bytes : List ℕ) → HasOutcome (HostsRead bytes)
@@ -25,6 +30,7 @@ some_sources c = record {
   plans = c.source_laws.ensures.some_plan;
   hosts = hosts_some c;
   start = c.script_laws.ensures.some_start;
+  parts = c.verify_laws.ensures.sound_or_refused;
 }
 
 pub returns-clause-one_node : goal.returns-clause-one_node
