@@ -1,0 +1,3 @@
+mod HostFile
+mod MadeTokens
+mod MadeLimits
