@@ -1,3 +1,4 @@
 mod HostFile
 mod MadeTokens
 mod MadeLimits
+mod MadeLabels
