@@ -2,3 +2,4 @@ mod HostFile
 mod MadeTokens
 mod MadeLimits
 mod MadeLabels
+mod MadeTrees
