@@ -3,3 +3,4 @@ mod MadeTokens
 mod MadeLimits
 mod MadeLabels
 mod MadeTrees
+mod MadeRuns
