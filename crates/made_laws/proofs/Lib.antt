@@ -4,3 +4,4 @@ mod MadeLimits
 mod MadeLabels
 mod MadeTrees
 mod MadeRuns
+mod MadeHosts
