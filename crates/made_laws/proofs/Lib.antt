@@ -5,3 +5,4 @@ mod MadeLabels
 mod MadeTrees
 mod MadeRuns
 mod MadeHosts
+mod MadePlaces

@@ -71,7 +71,7 @@ both = bottom_of alice_and_bob
 abbrev both_known : List KnownPart
 both_known = trust_of (record { 0 = 0 } ∷ record { 0 = 1 } ∷ []) ∷ []
 
-any_of_one : {X : Type 0} (P : X → Type 0) (x : X) → Any P (x ∷ []) → P x
+pub any_of_one : {X : Type 0} (P : X → Type 0) (x : X) → Any P (x ∷ []) → P x
 any_of_one P x (zero, y, within, read, holds) = subst P (sym read) holds
 any_of_one P x (suc k, y, within, read, holds) = absurd (omega (arith, within))
 
