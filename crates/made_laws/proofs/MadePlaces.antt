@@ -25,7 +25,8 @@ use Rattle.place_rules.specs.declared.place_error.PlaceError.{PlaceError}
 use Rattle.place_rules.specs.declared.place_error.PlaceError.TheVariants as error
 use Rattle.made_laws.proofs.MadeLabels.{LabelLaws, MadeLabels, both, joined_both, two_declared, any_of_one}
 use Rattle.made_laws.proofs.MadeHosts.{made_file}
-use Rattle.made_laws.proofs.MadeTrees.{made_tree, method_tree, block_tree, field_at}
+use Rattle.made_laws.proofs.MadeTrees.{made_tree, alice_field, bob_field, method_tree, block_tree}
+use Rattle.made_laws.proofs.MadeTrees.{field_at}
 
 -- ---- the program with its labels
 
@@ -43,7 +44,7 @@ own_setting labels lines numbers =
     setting_of alice_and_bob (made_tree labels lines numbers) (method_tree lines numbers)
 
 -- each statement has the program label that both trust
-all_both : List ℕ → List Label
+abbrev all_both : List ℕ → List Label
 all_both numbers = map (λ n. both) numbers
 
 block_pcs : (labels : MadeLabels) (lines : ℕ → ℕ) (whole : List ℕ) (variables : VariableLabels) (id at : ℕ)
@@ -186,17 +187,17 @@ told_both : LabelLaws → (test : Telling → Bool) (tellings : List Telling) �
     AllByRecursion (λ (telling : Telling). telling.label ≡ both) tellings →
     fold join_of both (map (λ telling. telling.label) (filter test tellings)) ≡ both
 told_both laws test [] all = refl
-told_both laws test (telling ∷ tellings) all = by (test telling)
+told_both laws test (telling ∷ tellings) all = by (told_both laws test tellings all.1) (test telling)
   where
-    by : (passes : Bool) → fold join_of both (map (λ telling. telling.label)
-        (if passes then telling ∷ filter test tellings else filter test tellings)) ≡ both
-    by false = told_both laws test tellings all.1
-    by true =
-        ap (λ (label : Label). fold join_of (join_of both label)
-        (map (λ telling. telling.label) (filter test tellings))) all.0
-        ∙ ap (λ (label : Label). fold join_of label (map (λ telling. telling.label) (filter test tellings)))
+    by : fold join_of both (map (λ one. one.label) (filter test tellings)) ≡ both → (passes : Bool) →
+        fold join_of both (map (λ one. one.label) (if passes then telling ∷ filter test tellings else filter test tellings))
+        ≡ both
+    by rest false = rest
+    by rest true =
+        ap (λ (label : Label). fold join_of (join_of both label) (map (λ one. one.label) (filter test tellings))) all.0
+        ∙ ap (λ (label : Label). fold join_of label (map (λ one. one.label) (filter test tellings)))
         (laws.join_idempotent both)
-        ∙ told_both laws test tellings all.1
+        ∙ rest
 
 all_joined : {X : Type 0} (P : X → Type 0) (front more : List X) → AllByRecursion P front → AllByRecursion P more →
     AllByRecursion P (front ++ more)
@@ -232,8 +233,8 @@ has_place laws labels lines numbers needs (error.NoHostForField field) are some 
     refused.unheld (all_at (λ one. IsHeld (MayHoldField one) (made_file labels).hosts) _ field.0 refused.one
     (subst (λ loc. AllByRecursion (λ one. IsHeld (MayHoldField one) (made_file labels).hosts)
     (zip (made_tree labels lines numbers).fields loc)) (sym are.loc)
-    (field_held laws labels _ _ (told 0) labels.alice_said.over (own_host labels lines numbers true),
-    (field_held laws labels _ _ (told 1) labels.bob_said.over (own_host labels lines numbers false), tt)))
+    (field_held laws labels (alice_field labels) _ (told 0) labels.alice_said.over (own_host labels lines numbers true),
+    (field_held laws labels (bob_field labels) _ (told 1) labels.bob_said.over (own_host labels lines numbers false), tt)))
     refused.place)
   where
     uses : List StatementUse

@@ -6,9 +6,10 @@ use Rattle.std.specs.List.{flat_map, range_with_len, AllByRecursion}
 use Rattle.std.specs.Fmt.{decimal}
 use Rattle.std.proofs.lemmas.Grind.{flat_map-append}
 use Rattle.std.proofs.lemmas.Fmt.{length-decimal-le}
+use Rattle.std.proofs.lemmas.List.FromFn.{length-range_with_len}
 use Rattle.std.proofs.lemmas.Int.{ints}
 use Rattle.js_base.specs.Name.{IsName}
-use Rattle.js_base.specs.declared.limits.TheConstants.{LARGEST_NUMBER, PROGRAM_BYTES}
+use Rattle.js_base.specs.declared.limits.TheConstants.{LARGEST_NUMBER, PROGRAM_BYTES, STATEMENTS}
 use Rattle.jif_lex.specs.declared.token.TokenKind.{TokenKind}
 use Rattle.jif_lex.specs.declared.token.TokenKind.TheVariants.{Name, Number, Word, Symbol}
 use Rattle.jif_lex.specs.declared.token.Word.TheVariants as word
@@ -190,3 +191,17 @@ statements_length (number ∷ numbers) below =
 
 head_length : (rest : List Spelled) → length (spelled_text (head_parts rest)) ≡ length (spelled_text rest) + 72
 head_length rest = omega arith
+
+-- the text of so many statements is no longer than a program may be
+pub program_short : (statements : ℕ) → statements < STATEMENTS → length (made_program statements) ≤ PROGRAM_BYTES
+program_short statements less =
+    let numbers = range_with_len 0 statements in
+    let rest = statements_length numbers (range_below 0 statements (10 ^ 4) (omega (arith, less))) in
+    omega (arith, less, rest, ap length (program_spelled statements), head_length (statements_parts numbers),
+    length-range_with_len 0 statements)
+
+pub program_apart : (statements : ℕ) → statements < STATEMENTS → AreApart (program_parts statements)
+program_apart statements less =
+    let numbers = range_with_len 0 statements in
+    head_apart (statements_parts numbers) (statements_apart numbers
+    (small_below (10 ^ 4) numbers (omega arith) (range_below 0 statements (10 ^ 4) (omega (arith, less)))))

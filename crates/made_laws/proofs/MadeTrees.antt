@@ -47,10 +47,15 @@ method_tree lines numbers = record {
   body = block_tree lines 1 34 numbers;
 }
 
+abbrev pub alice_field : MadeLabels → FieldTree
+alice_field labels = record { name = codes "a"; label = labels.alice; size = 1; array = false; first = pos 0 }
+
+abbrev pub bob_field : MadeLabels → FieldTree
+bob_field labels = record { name = codes "b"; label = labels.bob; size = 1; array = false; first = pos 0 }
+
 abbrev pub made_tree : MadeLabels → (lines : ℕ → ℕ) → List ℕ → ProgramTree
 made_tree labels lines numbers = record {
-  fields = record { name = codes "a"; label = labels.alice; size = 1; array = false; first = pos 0 }
-      ∷ record { name = codes "b"; label = labels.bob; size = 1; array = false; first = pos 0 } ∷ [];
+  fields = alice_field labels ∷ bob_field labels ∷ [];
   vars = [];
   methods = method_tree lines numbers ∷ [];
   main = record { 0 = 0 };
