@@ -5,4 +5,6 @@ mod MadeLabels
 mod MadeTrees
 mod MadeRuns
 mod MadeHosts
+mod MadeDrafts
 mod MadePlaces
+mod Making

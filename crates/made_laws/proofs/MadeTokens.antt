@@ -18,8 +18,7 @@ use Rattle.jif_lex.specs.declared.token.Symbol.TheVariants as symbol
 use Rattle.jif_lex.specs.declared.token.Symbol as symbols
 use Rattle.jif_lex.specs.Spelled.{Spelled, token_part, space_part, line_end_part, spelled_text, spelled_kinds}
 use Rattle.jif_lex.specs.Spelled.{AreApart, IsSpellable}
-use Rattle.made_laws.specs.Text.{lines_text, line_text}
-use Rattle.made_laws.specs.MadePrograms.{made_field, made_statement, made_statements, made_head, made_program}
+use Rattle.made_laws.specs.MadePrograms.{text_of, made_field, made_statement, made_statements, made_head, made_program}
 
 -- ---- parts of a text
 
@@ -102,9 +101,9 @@ pub head_apart : (rest : List Spelled) → AreApart rest → AreApart (head_part
 head_apart rest is =
     alice_field_apart (bob_field_parts (main_parts rest)) (bob_field_apart (main_parts rest) (main_apart rest is))
 
-head_spelled : (rest : List Spelled) (behind : List (List ℕ)) → lines_text behind ≡ spelled_text rest →
-    lines_text (made_head ++ behind) ≡ spelled_text (head_parts rest)
-head_spelled rest behind is = ap (λ (text : List ℕ). lines_text made_head ++ text) is
+head_spelled : (rest : List Spelled) (behind : List (List ℕ)) → text_of behind ≡ spelled_text rest →
+    text_of (made_head ++ behind) ≡ spelled_text (head_parts rest)
+head_spelled rest behind is = ap (λ (text : List ℕ). text_of made_head ++ text) is
 
 -- ---- statements
 
@@ -139,10 +138,10 @@ statement_spelled : (field digits rest : List ℕ) →
 statement_spelled field digits rest = simp append_assoc refl
 
 statements_spelled : (numbers : List ℕ) →
-    lines_text (map made_statement numbers ++ codes "}" ∷ []) ≡ spelled_text (statements_parts numbers)
+    text_of (map made_statement numbers ++ codes "}" ∷ []) ≡ spelled_text (statements_parts numbers)
 statements_spelled [] = refl
 statements_spelled (number ∷ numbers) =
-    statement_spelled (made_field number) (decimal number) (lines_text (map made_statement numbers ++ codes "}" ∷ []))
+    statement_spelled (made_field number) (decimal number) (text_of (map made_statement numbers ++ codes "}" ∷ []))
     ∙ ap (λ (rest : List ℕ). made_field number ++ (codes " = " ++ (made_field number ++ (codes " + "
     ++ (decimal number ++ (codes ";\n" ++ rest)))))) (statements_spelled numbers)
 

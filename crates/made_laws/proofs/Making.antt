@@ -2,7 +2,7 @@
 use Rattle.std.proofs.Common.{◌≡◌, ◌≢◌, ℕ, ◌+◌, ◌<◌, ◌≤◌, ◌^◌, ◌⊎◌, List, [], length, map, refl, sym, subst, ap, ◌∙◌, arith}
 use Rattle.std.specs.List.{range_with_len}
 use Rattle.std.proofs.lemmas.List.FromFn.{length-range_with_len}
-use Rattle.std.specs.Prelude.{⊎_elim}
+use Rattle.std.proofs.Common.{⊎_elim}
 use Rattle.js_base.specs.declared.limits.TheConstants.{PROGRAM_BYTES, STATEMENTS, HOSTS}
 use Rattle.principals.specs.ActsFor.{Declared}
 use Rattle.jif_lex.specs.declared.token.Token.{Token}
@@ -17,13 +17,11 @@ use Rattle.jif_grammar.specs.Unmarked.{program_then}
 use Rattle.host_decl.specs.Hosts.{HostsShape}
 use Rattle.need_labels.specs.Labelled.{Labelled}
 use Rattle.need_labels.specs.Needs.{NeedsShape, AreNeedsOf}
-use Rattle.need_labels.specs.Plan.{PlanShape}
 use Rattle.place_rules.specs.Allowed.{AllowedShape}
 use Rattle.place_rules.specs.PlaceRules.{AreAllowed}
 use Rattle.place_rules.specs.Refusal.{IsRefused}
 use Rattle.place_rules.specs.declared.place_error.PlaceError.{PlaceError}
 use Rattle.place_rules.specs.declared.place_error.PlaceError.TheVariants as error
-use Rattle.placement.specs.Placing.{IsPlaced}
 use Rattle.made_laws.specs.Made.{IsAccepted}
 use Rattle.made_laws.specs.MadePrograms.{made_program}
 use Rattle.made_laws.proofs.MadeDrafts.{made_draft, made_resolved}
@@ -43,9 +41,6 @@ pub record PlaceLaws : Type 0 where
   pub allowed_or_refused : (labelled : Labelled) (needs : NeedsShape) (hosts : HostsShape) →
       length hosts.hosts ≤ HOSTS → ((allowed : AllowedShape) × AreAllowed labelled needs hosts allowed)
       ⊎ ((why : PlaceError) × (why ≢ error.OutOfMemory) × IsRefused labelled needs hosts why)
-  pub some_plan : (labelled : Labelled) (needs : NeedsShape) (hosts : HostsShape) (allowed : AllowedShape) →
-      0 < length hosts.hosts → AreAllowed labelled needs hosts allowed →
-      (plan : PlanShape) × IsPlaced labelled needs hosts allowed plan
 
 pub record MadeLaws : Type 0 where
   pub spelled : SpelledLaw
@@ -71,7 +66,6 @@ accepted laws statements less =
     let allowed = ⊎_elim (λ found. found)
         (λ refused. absurd (has_place laws.labels labels lines numbers needs.0 refused.0 needs.1 refused.1 refused.2))
         (laws.places.allowed_or_refused labelled needs.0 file (omega arith)) in
-    let plan = laws.places.some_plan labelled needs.0 file allowed.0 (omega arith) allowed.1 in
     record {
       few = program_short statements less;
       list = list;
@@ -94,8 +88,7 @@ accepted laws statements less =
       needs = needs.0;
       needs_are = needs.1;
       allowed = allowed.0;
-      plan = plan.0;
-      placed = plan.1;
+      allowed_are = allowed.1;
       runs = λ program values is.
           subst (λ steps. HasLength program values steps) count (made_length labels lines numbers program values is);
     }

@@ -1,2 +1,2 @@
-pub mod Text
 pub mod MadePrograms
+pub mod Made

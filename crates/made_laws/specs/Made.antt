@@ -1,5 +1,5 @@
--- What becomes of the program that is made for a number of statements, and of its host file: they are read, and the
--- program is placed on the hosts and runs to its end.
+-- What becomes of the program that is made for a number of statements, and of its host file: they are read, each part of
+-- the program has a host that may hold it, and the program runs to its end.
 use Rattle.std.specs.Prelude.{◌≡◌, ℕ, ◌≤◌, ℤ, List, length, map}
 use Rattle.js_base.specs.declared.limits.TheConstants.{PROGRAM_BYTES}
 use Rattle.jif_lex.specs.declared.token.Token.{Token}
@@ -15,9 +15,8 @@ use Rattle.jif_tree.specs.Trees.{ProgramTree, program_tree}
 use Rattle.jif_resolve.specs.Verdicts.{IsProgramOf}
 use Rattle.need_labels.specs.Labelled.{Labelled}
 use Rattle.need_labels.specs.Needs.{NeedsShape, AreNeedsOf}
-use Rattle.need_labels.specs.Plan.{PlanShape}
 use Rattle.place_rules.specs.Allowed.{AllowedShape}
-use Rattle.placement.specs.Placing.{IsPlaced}
+use Rattle.place_rules.specs.PlaceRules.{AreAllowed}
 use Rattle.made_laws.specs.MadePrograms.{made_hosts, made_program}
 
 -- a program of these hosts with the labels that the label check finds
@@ -29,7 +28,7 @@ labelled_with file tree = record {
 }
 
 -- The text has tokens, which are a draft, and the host file says hosts. The names of the draft stand for a program, its
--- labels keep the rules, and its parts have a plan on these hosts.
+-- labels keep the rules, and each of its parts has one of the hosts at least that may hold it.
 pub record IsAccepted (statements : ℕ) : Type 0 where
   pub few : length (made_program statements) ≤ PROGRAM_BYTES
   pub list : List Token
@@ -44,8 +43,7 @@ pub record IsAccepted (statements : ℕ) : Type 0 where
   pub needs : NeedsShape
   pub needs_are : AreNeedsOf file.principals (labelled_with file tree) needs
   pub allowed : AllowedShape
-  pub plan : PlanShape
-  pub placed : IsPlaced (labelled_with file tree) needs file allowed plan
+  pub allowed_are : AreAllowed (labelled_with file tree) needs file allowed
   -- from any starting values its plain run takes a step for each statement
   pub runs : (program : Program) (values : List (List ℤ)) → program_tree program ≡ tree →
       HasLength program values statements

@@ -1,12 +1,16 @@
 -- The program and the host file that are made for a number of statements.
 use Rattle.std.specs.Prelude.{ℕ, ◌%◌, ◌==◌, if◌then◌else◌, List, [], ◌∷◌, ◌++◌, codes, map}
 use Rattle.std.specs.Fmt.{decimal}
-use Rattle.std.specs.List.{range_with_len}
-use Rattle.made_laws.specs.Text.{lines_text}
+use Rattle.std.specs.List.{flat_map, range_with_len}
+use Rattle.js_base.specs.declared.text.TheConstants.{LINE_FEED}
+
+-- each line is ended by a line feed
+abbrev pub text_of : List (List ℕ) → List ℕ
+text_of lines = flat_map (λ line. line ++ LINE_FEED ∷ []) lines
 
 -- T is trusted by both, and each of the others sees what is its owner's, who alone trusts it
 abbrev pub made_hosts : List ℕ
-made_hosts = lines_text (
+made_hosts = text_of (
     codes "principals = ['Alice', 'Bob']"
     ∷ codes "[[host]]" ∷ codes "name = 'T'" ∷ codes "label = '{?:Alice, Bob}'"
     ∷ codes "[[host]]" ∷ codes "name = 'A'" ∷ codes "label = '{Alice:; ?:Alice}'"
@@ -32,4 +36,4 @@ abbrev pub made_statements : ℕ → List (List ℕ)
 made_statements statements = map made_statement (range_with_len 0 statements)
 
 abbrev pub made_program : ℕ → List ℕ
-made_program statements = lines_text (made_head ++ made_statements statements ++ codes "}" ∷ [])
+made_program statements = text_of (made_head ++ made_statements statements ++ codes "}" ∷ [])
