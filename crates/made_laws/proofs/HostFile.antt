@@ -1,6 +1,6 @@
 -- The host file that is made, read as TOML.
 use Rattle.std.proofs.Common.{◌≡◌, refl, Some, codes, ℕ, List}
-use Rattle.toml.specs.Data.{Data, string, array, table, Items, no_items, item, Members, no_members, member}
+use Rattle.toml.specs.Data.{Data, string, array, table, no_items, item, Members, no_members, member}
 use Rattle.toml.specs.Parse.{parse_document}
 use Rattle.toml.proofs.OnLiterals.{toml_on_literals}
 use Rattle.made_laws.specs.MadePrograms.{made_hosts}

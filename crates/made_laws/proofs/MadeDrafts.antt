@@ -1,26 +1,22 @@
 -- The draft of the program that is made, and that the names of this draft stand for its tree.
-use Rattle.std.proofs.Common.{◌≡◌, ℕ, zero, suc, pos, ◌+◌, ◌<◌, ◌≤◌, ◌%◌, ◌==◌, Bool, true, false, List, [], ◌∷◌, ◌++◌, length}
-use Rattle.std.proofs.Common.{map, codes, refl, sym, subst, ap, ◌∙◌, arith, Option, Some, None, if◌then◌else◌}
-use Rattle.std.specs.Prelude.{⊤}
+use Rattle.std.proofs.Common.{◌≡◌, ℕ, pos, ◌+◌, ◌%◌, ◌==◌, Bool, true, false, List, [], ◌∷◌, ◌++◌}
+use Rattle.std.proofs.Common.{map, codes, refl, sym, subst, ap, Some, if◌then◌else◌}
 use Rattle.std.specs.List.{AllZip}
-use Rattle.std.proofs.lemmas.List.{append-nil}
-use Rattle.jif_lex.specs.declared.token.Token.{Token}
 use Rattle.label_lattice.specs.declared.label.Label.{Label}
 use Rattle.label_lattice.specs.PrintedExamples.{alice_and_bob}
 use Rattle.label_lattice.specs.Written.{Part, IsKnownPart}
 use Rattle.jif_tree.specs.Trees.{scalar, number}
-use Rattle.jif_grammar.specs.DraftShapes.{DraftShape, BlockShape, end_shape, LabelShape, MethodShape}
-use Rattle.jif_grammar.specs.Drafts.{draft_of, block_at, label_at}
+use Rattle.jif_grammar.specs.DraftShapes.{DraftShape, BlockShape, end_shape, LabelShape}
+use Rattle.jif_grammar.specs.Drafts.{draft_of, block_at}
 use Rattle.jif_resolve.specs.Counts.{LocalShape, locals_in}
-use Rattle.jif_resolve.specs.Faults.{faults_of, block_faults, setting_of}
+use Rattle.jif_resolve.specs.Faults.{faults_of, block_faults}
 use Rattle.jif_resolve.specs.Labels.{IsLabelFor, parts_of}
 use Rattle.jif_resolve.specs.Meanings.{Global, globals_of}
 use Rattle.jif_resolve.specs.Places.{Setting, Place, meaning_at}
 use Rattle.jif_resolve.specs.Variables.{VariableShape}
 use Rattle.jif_resolve.specs.declared.meaning.Meaning.TheVariants as sense
-use Rattle.jif_resolve.specs.Resolved.{IsBlockFor, IsTreeOf, IsFieldFor, IsVariableFor}
+use Rattle.jif_resolve.specs.Resolved.{IsBlockFor, IsVariableFor}
 use Rattle.jif_resolve.specs.Verdicts.{IsProgramOf}
-use Rattle.made_laws.specs.MadePrograms.{made_field}
 use Rattle.made_laws.proofs.MadeLabels.{MadeLabels, IsSaid, both}
 use Rattle.made_laws.proofs.MadeLimits.{made_phrases, made_block, alice_label, bob_label, both_label}
 use Rattle.made_laws.proofs.MadeTrees.{made_tree, block_tree, method_tree, field_at, field_of, value_tree}
@@ -69,8 +65,7 @@ block_resolved : (lines : ℕ → ℕ) (whole : List ℕ) (id at : ℕ) (numbers
     IsBlockFor (inside lines whole) (before id) (block_shape lines at numbers) (block_tree lines id at numbers)
 block_resolved lines whole id at [] = refl
 block_resolved lines whole id at (n ∷ numbers) =
-    let found = field_found lines whole id (n % 2 == 0) in
-    (
+    let found = field_found lines whole id (n % 2 == 0) in (
       value_tree n,
       block_tree lines (id + 1) (at + 3 + 3) numbers,
       rw found refl,

@@ -1,12 +1,12 @@
 -- The hosts that the host file of made programs says.
-use Rattle.std.proofs.Common.{◌≡◌, ◌≢◌, ℕ, zero, suc, pos, ◌+◌, ◌<◌, ◌≤◌, ◌⊎◌, inl, inr, Bool, true, false, List, [], ◌∷◌, ◌++◌}
-use Rattle.std.proofs.Common.{length, map, codes, refl, sym, subst, ap, ◌∙◌, arith, Option, Some, None, Ordering, Less, Equal}
+use Rattle.std.proofs.Common.{◌≡◌, ℕ, ◌≤◌, inl, inr, Bool, true, false, List, [], ◌∷◌, ◌++◌}
+use Rattle.std.proofs.Common.{length, codes, refl, sym, ap, ◌∙◌, arith, Option, Some, None, Ordering, Less, Equal}
 use Rattle.std.proofs.Common.{Greater, nat_cmp}
-use Rattle.std.specs.Prelude.{⊤, IsTrue, IsUtf8, nat_lt}
+use Rattle.std.specs.Prelude.{IsUtf8, nat_lt}
 use Rattle.std.proofs.lemmas.Bool.Decides.{Decides-ltb}
 use Rattle.std.proofs.lemmas.Str.{IsUtf8-from_ascii}
 use Rattle.js_base.proofs.Texts.{list_ascii}
-use Rattle.std.specs.List.{AllByRecursion, AllZip, IsDistinct}
+use Rattle.std.specs.List.{IsDistinct}
 use Rattle.std.specs.Ordering.{match_ordering, is_eq}
 use Rattle.std.specs.Cmp.Lexicographic.{slice_cmp}
 use Rattle.std.specs.Str.{bytes_eq}
@@ -15,20 +15,19 @@ use Rattle.std.proofs.lemmas.Map.Text.{is_eq-slice_cmp}
 use Rattle.js_base.specs.Name.{is_name}
 use Rattle.js_base.specs.declared.limits.TheConstants.{PROGRAM_BYTES}
 use Rattle.std.proofs.lemmas.Slice.Eq.{bytes_eq-Decides}
-use Rattle.jif_lex.specs.declared.token.TokenKind.{TokenKind}
 use Rattle.jif_lex.specs.declared.token.Symbol.TheVariants.{LeftBrace, RightBrace}
 use Rattle.jif_lex.specs.Spelled.{Spelled, spelled_text, spelled_kinds, AreApart, HasKinds}
 use Rattle.label_lattice.specs.declared.label.Label.{Label}
 use Rattle.label_lattice.specs.PrintedExamples.{alice_and_bob}
 use Rattle.label_lattice.specs.Written.{Part, parts_tokens, symbol, TrustIsLast}
-use Rattle.toml.specs.Data.{Data, string, table, Members, no_members, member, get_member}
+use Rattle.toml.specs.Data.{Data, string, Members, no_members, member, get_member}
 use Rattle.host_decl.specs.declared.schema.TableKind.{TableKind}
 use Rattle.host_decl.specs.declared.schema.TableKind.TheVariants as kinds
-use Rattle.host_decl.specs.Schema.{is_bad, IsBadKey, IsSound, IsSoundFile}
+use Rattle.host_decl.specs.Schema.{is_bad, IsSound, IsSoundFile}
 use Rattle.host_decl.specs.Draft.{draft_of, key_of, path_of}
 use Rattle.host_decl.specs.Hosts.{HostShape, HostsShape, AreHostNames}
 use Rattle.host_decl.specs.LabelText.{IsLabelText}
-use Rattle.host_decl.specs.Meaning.{IsHostOf, IsMeaningOf}
+use Rattle.host_decl.specs.Meaning.{IsMeaningOf}
 use Rattle.host_decl.specs.Reading.{ReadsHosts}
 use Rattle.made_laws.specs.MadePrograms.{made_hosts}
 use Rattle.made_laws.proofs.HostFile.{made_members, reads_members}
@@ -105,8 +104,8 @@ two_sound kind one other first second one_fits other_fits no_others key bad =
       | inr not_one ↦ elim (cases_Bool (bytes_eq key other)) [
         | inl same ↦ clash (ap (bad_at) ((bytes_eq-Decides key other).0 same) ∙ other_fits) bad
         | inr not_other ↦
-          clash (ap (is_bad kind key) (missed key one first (member other second no_members) not_one
-          ∙ missed key other second no_members not_other) ∙ no_others key not_one not_other) bad
+            clash (ap (is_bad kind key) (missed key one first (member other second no_members) not_one
+            ∙ missed key other second no_members not_other) ∙ no_others key not_one not_other) bad
       ]
     ]
   where
@@ -128,10 +127,16 @@ host_sound label name is =
     (λ key not_label not_name. rw not_label (rw not_name refl))
 
 pub members_sound : IsSoundFile made_members
-members_sound =
-    (file_sound, (host_sound (codes "{?:Alice, Bob}") (codes "T") refl,
-    (host_sound (codes "{Alice:; ?:Alice}") (codes "A") refl,
-    (host_sound (codes "{Bob:; ?:Bob}") (codes "B") refl, tt))))
+members_sound = (
+  file_sound,
+  (
+    host_sound (codes "{?:Alice, Bob}") (codes "T") refl,
+    (
+      host_sound (codes "{Alice:; ?:Alice}") (codes "A") refl,
+      (host_sound (codes "{Bob:; ?:Bob}") (codes "B") refl, tt),
+    ),
+  ),
+)
 
 -- ---- the file
 
@@ -185,6 +190,9 @@ hosts_text =
     (list_ascii (λ byte. nat_lt byte 128) (λ byte low. (Decides-ltb byte 128).0 low) made_hosts refl)
 
 pub reads_hosts : SpelledLaw → (labels : MadeLabels) → ReadsHosts made_hosts (made_file labels)
-reads_hosts law labels =
-    (made_members, record { few = omega arith; text = hosts_text; reads = reads_members },
-    members_sound, file_means law labels)
+reads_hosts law labels = (
+  made_members,
+  record { few = omega arith; text = hosts_text; reads = reads_members },
+  members_sound,
+  file_means law labels,
+)

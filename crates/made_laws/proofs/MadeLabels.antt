@@ -1,20 +1,18 @@
--- The labels of the program that is made: one of Alice alone, one of Bob alone, and one that both trust and that forbids
--- nothing.
-use Rattle.std.proofs.Common.{◌≡◌, ℕ, zero, suc, ◌+◌, ◌<◌, ◌⊎◌, ◌↔◌, inl, inr, List, [], ◌∷◌, length, All, Any, codes}
-use Rattle.std.proofs.Common.{refl, sym, subst, ap, ◌∙◌, arith, Some}
-use Rattle.std.specs.Prelude.{⊤, slice_get}
+-- The labels of the program that is made: one of Alice alone, one of Bob alone, and one that both trust and that
+-- forbids nothing.
+use Rattle.std.proofs.Common.{◌≡◌, ℕ, zero, suc, ◌<◌, List, [], ◌∷◌, Any, codes}
+use Rattle.std.proofs.Common.{refl, sym, subst, ◌∙◌, arith}
 use Rattle.std.specs.List.{AllByRecursion, AllZip, IsDistinct}
 use Rattle.std.proofs.lemmas.List.Elements.{All-nil, All-cons}
 use Rattle.js_base.specs.Name.{IsName}
 use Rattle.js_base.specs.declared.ids.PrincipalId.{PrincipalId}
 use Rattle.principals.specs.ActsFor.{Declared, IsDeclared, ActsFor, LeadsTo}
 use Rattle.label_lattice.specs.declared.label.Label.{Label}
-use Rattle.label_lattice.specs.declared.label.TheConstants.{READERS}
-use Rattle.label_lattice.specs.Label.{Forbids, Trusts, Flows, IsBottom}
+use Rattle.label_lattice.specs.Label.{Flows, IsBottom}
 use Rattle.label_lattice.specs.Lattice.{bottom_of, join_of}
 use Rattle.label_lattice.specs.Over.{IsLabelOver}
 use Rattle.label_lattice.specs.PrintedExamples.{alice_and_bob}
-use Rattle.label_lattice.specs.Written.{Part, policy, trust, KnownPart, policy_of, trust_of, HasDeclaredNames}
+use Rattle.label_lattice.specs.Written.{Part, KnownPart, trust_of, HasDeclaredNames}
 use Rattle.label_lattice.specs.Written.{IsKnownPart, IsMadeOf, PartForbids, PartTrusts}
 use Rattle.made_laws.proofs.MadeLimits.{alice_label, bob_label, both_label}
 
@@ -76,8 +74,8 @@ any_of_one P x (zero, y, within, read, holds) = subst P (sym read) holds
 any_of_one P x (suc k, y, within, read, holds) = absurd (omega (arith, within))
 
 of_two : (principal : ℕ) →
-    Any (λ (member : PrincipalId). ActsFor alice_and_bob member.0 principal) (record { 0 = 0 } ∷ record { 0 = 1 } ∷ []) →
-    principal < 2
+    Any (λ (member : PrincipalId). ActsFor alice_and_bob member.0 principal)
+    (record { 0 = 0 } ∷ record { 0 = 1 } ∷ []) → principal < 2
 of_two principal (zero, member, within, read, acts) =
     let leads = subst (λ (one : PrincipalId). ActsFor alice_and_bob one.0 principal) (sym read) acts in
     omega (arith, only_itself 0 leads.0 principal leads.1)
@@ -99,13 +97,15 @@ both_said laws =
       known = both_known;
       are_known = ((refl, (refl, tt)), tt);
       means = record {
-        forbids = λ owner reader own read.
-            (λ forbids. absurd (sets.forbids owner reader own read forbids),
-            λ forbids. absurd (any_of_one (PartForbids alice_and_bob owner reader) _ forbids));
-        trusts = λ principal within.
-            (λ trusts. (0, _, omega arith, refl, two_of principal ((sets.trusts principal within).0 trusts)),
-            λ trusts. (sets.trusts principal within).1
-            (of_two principal (any_of_one (PartTrusts alice_and_bob principal) _ trusts)));
+        forbids = λ owner reader own read. (
+          λ forbids. absurd (sets.forbids owner reader own read forbids),
+          λ forbids. absurd (any_of_one (PartForbids alice_and_bob owner reader) _ forbids),
+        );
+        trusts = λ principal within. (
+          λ trusts. (0, _, omega arith, refl, two_of principal ((sets.trusts principal within).0 trusts)),
+          λ trusts. (sets.trusts principal within).1
+              (of_two principal (any_of_one (PartTrusts alice_and_bob principal) _ trusts)),
+        );
       };
       over = laws.bottom_over alice_and_bob two_declared;
     }

@@ -1,32 +1,30 @@
 -- The program that is made as phrases of the grammar, and that it passes no limit.
-use Rattle.std.proofs.Common.{◌≡◌, ℕ, zero, suc, pos, ◌+◌, ◌<◌, ◌≤◌, ◌&&◌, Bool, true, false, List, [], ◌∷◌, ◌++◌, length}
-use Rattle.std.proofs.Common.{codes, refl, ap, sym, subst, ◌∙◌, arith, Option, Some, None, inl, inr}
-use Rattle.std.specs.Prelude.{⊤}
+use Rattle.std.proofs.Common.{◌≡◌, ℕ, pos, ◌+◌, ◌<◌, ◌≤◌, ◌&&◌, Bool, true, false, List, [], ◌∷◌, ◌++◌, length}
+use Rattle.std.proofs.Common.{codes, refl, ap, sym, subst, arith, Option, Some, None, inl, inr}
 use Rattle.std.proofs.lemmas.Bool.{and_parts}
 use Rattle.std.proofs.lemmas.List.{append-nil}
 use Rattle.jif_lex.specs.declared.token.Symbol.TheVariants.{LeftParenthesis, RightParenthesis, LeftBrace, RightBrace}
 use Rattle.jif_lex.specs.declared.token.Symbol.TheVariants.{Assign, Plus, Semicolon}
 use Rattle.jif_lex.specs.declared.token.TokenKind.TheVariants.{Name, Number}
 use Rattle.js_base.specs.declared.binary_operator.BinOp.TheVariants as operator
-use Rattle.js_base.specs.declared.limits.TheConstants.{FIELDS, METHODS, PARAMETERS, VARIABLES, STATEMENTS}
-use Rattle.js_base.specs.declared.limits.TheConstants.{EXPRESSION_NODES, ARRAY_SIZE, ELEMENTS, NESTING}
+use Rattle.js_base.specs.declared.limits.TheConstants.{STATEMENTS}
 use Rattle.jif_lex.specs.declared.token.TokenKind.{TokenKind}
-use Rattle.jif_lex.specs.Spelled.{Spelled, spelled_kinds}
+use Rattle.jif_lex.specs.Spelled.{spelled_kinds}
 use Rattle.label_lattice.specs.Written.{policy, trust, symbol}
 use Rattle.jif_grammar.specs.declared.what.What.{What}
 use Rattle.jif_grammar.specs.declared.what.What.TheVariants as counted
 use Rattle.jif_grammar.specs.Phrases.{LabelPhrase, ExprPhrase, number, variable, binary, BlockPhrase, end, assignment}
-use Rattle.jif_grammar.specs.Phrases.{unset, field, method, ItemPhrase, MethodPhrase, ProgramPhrase}
+use Rattle.jif_grammar.specs.Phrases.{unset, field, method, MethodPhrase, ProgramPhrase}
 use Rattle.jif_grammar.specs.Grouping.{IsBlock, IsProgram}
 use Rattle.jif_grammar.specs.Marks.{Marked, plain, Tally, tally_at_start, after_token, after_tokens, HasTooMany}
-use Rattle.jif_grammar.specs.Spelling.{spelling, block_spelling, item_spelling, head_spelling}
+use Rattle.jif_grammar.specs.Spelling.{block_spelling, item_spelling, head_spelling}
 use Rattle.jif_grammar.specs.Unmarked.{program_then, block_then}
 use Rattle.jif_grammar.specs.Programs.{IsWithin, IsWithinLimits}
 use Rattle.jif_grammar.specs.Verdicts.{excess}
 use Rattle.jif_grammar.proofs.ExcessOf.{IsFirst, excess_first}
 use Rattle.jif_grammar.proofs.StaysWithin.{StaysWithin, stays_program, within_joined}
 use Rattle.made_laws.specs.MadePrograms.{made_field}
-use Rattle.made_laws.proofs.MadeTokens.{statements_parts, program_parts, head_parts}
+use Rattle.made_laws.proofs.MadeTokens.{statements_parts, head_parts}
 
 -- ---- phrases
 
@@ -106,9 +104,10 @@ none_of (Some x) is = let never : ⊥ = cc in absurd never
 stays_where : (t : Tally) (tokens : List Marked) → has_no_excess t tokens ≡ true → StaysWithin t tokens
 stays_where t [] is = tt
 stays_where t (token ∷ tokens) is =
-    let both = and_parts (is_none (excess (after_token t token))) (has_no_excess (after_token t token) tokens) is in
-    (within_where (after_token t token) (none_of (excess (after_token t token)) both.0),
-    stays_where (after_token t token) tokens both.1)
+    let both = and_parts (is_none (excess (after_token t token))) (has_no_excess (after_token t token) tokens) is in (
+      within_where (after_token t token) (none_of (excess (after_token t token)) both.0),
+      stays_where (after_token t token) tokens both.1,
+    )
 
 -- what has begun where so many statements have, and of the last so many nodes
 abbrev during : (statements nodes : ℕ) → Tally
@@ -142,10 +141,25 @@ block_stays : (statements nodes : ℕ) (numbers : List ℕ) → statements + len
 block_stays statements nodes [] few = tt
 block_stays statements nodes (n ∷ numbers) few =
     let within : (k : ℕ) → k ≤ 3 → IsWithin (during (statements + 1) k) =
-        λ k small. within_during (statements + 1) k (omega (arith, few)) small in
-    (within 0 (omega arith), (within 0 (omega arith), (within 1 (omega arith), (within 2 (omega arith),
-    (within 3 (omega arith), (within 3 (omega arith),
-    block_stays (statements + 1) 3 numbers (omega (arith, few))))))))
+    λ k small. within_during (statements + 1) k (omega (arith, few)) small in (
+      within 0 (omega arith),
+      (
+        within 0 (omega arith),
+        (
+          within 1 (omega arith),
+          (
+            within 2 (omega arith),
+            (
+              within 3 (omega arith),
+              (
+                within 3 (omega arith),
+                block_stays (statements + 1) 3 numbers (omega (arith, few)),
+              ),
+            ),
+          ),
+        ),
+      ),
+    )
 
 block_ends : (statements nodes : ℕ) (numbers : List ℕ) → statements + length numbers ≤ STATEMENTS → nodes ≤ 3 →
     StaysWithin (after_tokens (during statements nodes) (block_spelling 0 (made_block numbers)))
@@ -168,10 +182,10 @@ phrases_within numbers few =
     let end = plain 0 (symbol RightBrace) ∷ [] in
     let whole = append-nil block in
     let stays : StaysWithin (during 1 0) (block ++ []) =
-        subst (λ tokens. StaysWithin (during 1 0) tokens) (sym whole) (block_stays 1 0 numbers (omega (arith, few))) in
+    subst (λ tokens. StaysWithin (during 1 0) tokens) (sym whole) (block_stays 1 0 numbers (omega (arith, few))) in
     let ends : StaysWithin (after_tokens (during 1 0) (block ++ [])) end =
-        subst (λ tokens. StaysWithin (after_tokens (during 1 0) tokens) end) (sym whole)
-        (block_ends 1 0 numbers (omega (arith, few)) (omega arith)) in
+    subst (λ tokens. StaysWithin (after_tokens (during 1 0) tokens) end) (sym whole)
+    (block_ends 1 0 numbers (omega (arith, few)) (omega arith)) in
     stays_program (made_phrases numbers)
     (within_joined tally_at_start head_marks (block ++ [] ++ end ++ []) (stays_where tally_at_start head_marks refl)
     (within_joined (during 1 0) (block ++ [] ++ end) [] (within_joined (during 1 0) (block ++ []) end stays ends) tt))

@@ -1,12 +1,12 @@
 -- Each part of the program that is made has a host that may hold it: what is of one label stands on the host of this
 -- label.
-use Rattle.std.proofs.Common.{◌≡◌, ◌≢◌, ℕ, zero, suc, pos, ◌+◌, ◌<◌, ◌≤◌, ◌%◌, ◌==◌, ◌↔◌, Bool, true, false, List, [], ◌∷◌, ◌++◌}
+use Rattle.std.proofs.Common.{◌≡◌, ◌≢◌, ℕ, zero, suc, ◌+◌, ◌<◌, ◌≤◌, ◌%◌, ◌==◌, Bool, true, false, List, [], ◌∷◌}
+use Rattle.std.proofs.Common.{◌++◌}
 use Rattle.std.proofs.Common.{length, map, refl, sym, subst, ap, ◌∙◌, arith, Some, filter, if◌then◌else◌}
-use Rattle.std.specs.Prelude.{⊤, Any, Option, slice_get, unwrap_or, nat_eq}
+use Rattle.std.specs.Prelude.{Any, Option, slice_get, unwrap_or, nat_eq}
 use Rattle.std.specs.Option.{IsSomeAnd}
-use Rattle.std.specs.List.{AllByRecursion, AllZip, fold, flat_map, zip, range_with_len}
+use Rattle.std.specs.List.{AllByRecursion, AllZip, fold, flat_map, zip}
 use Rattle.std.proofs.lemmas.List.{append-nil}
-use Rattle.js_base.specs.declared.ids.StmtId.{StmtId}
 use Rattle.label_lattice.specs.declared.label.Label.{Label}
 use Rattle.label_lattice.specs.Label.{ConfFlows, IntegFlows, Trusts}
 use Rattle.label_lattice.specs.Lattice.{join_of, empty_label}
@@ -14,16 +14,17 @@ use Rattle.label_lattice.specs.Over.{IsLabelOver}
 use Rattle.label_lattice.specs.PrintedExamples.{alice_and_bob}
 use Rattle.host_decl.specs.Hosts.{HostShape}
 use Rattle.jif_tree.specs.Trees.{FieldTree}
-use Rattle.jif_tree.specs.LabelRules.{MethodSetting, VariableLabels, StatementLabels, setting_of, block_labels, field_label}
+use Rattle.jif_tree.specs.LabelRules.{MethodSetting, VariableLabels, StatementLabels, setting_of, block_labels}
+use Rattle.jif_tree.specs.LabelRules.{field_label}
 use Rattle.jif_tree.specs.LabelRules.{program_labels, variable_labels}
 use Rattle.need_labels.specs.Labelled.{Labelled, pc_of}
-use Rattle.need_labels.specs.Needs.{Backing, for_label, Backs, StatementUse, block_uses, statement_uses, NeedsShape}
+use Rattle.need_labels.specs.Needs.{for_label, Backs, StatementUse, block_uses, statement_uses, NeedsShape}
 use Rattle.need_labels.specs.Needs.{IsNeed, AreNeedsOf, Telling, told_of}
-use Rattle.place_rules.specs.PlaceRules.{told_fields, needed_statements, MayHoldField, MayHoldStatement, IsHeld}
-use Rattle.place_rules.specs.Refusal.{IsFirstUnheld, IsRefused}
+use Rattle.place_rules.specs.PlaceRules.{MayHoldField, MayHoldStatement, IsHeld}
+use Rattle.place_rules.specs.Refusal.{IsRefused}
 use Rattle.place_rules.specs.declared.place_error.PlaceError.{PlaceError}
 use Rattle.place_rules.specs.declared.place_error.PlaceError.TheVariants as error
-use Rattle.made_laws.proofs.MadeLabels.{LabelLaws, MadeLabels, both, joined_both, two_declared, any_of_one}
+use Rattle.made_laws.proofs.MadeLabels.{LabelLaws, MadeLabels, both, joined_both, any_of_one}
 use Rattle.made_laws.proofs.MadeHosts.{made_file}
 use Rattle.made_laws.proofs.MadeTrees.{made_tree, alice_field, bob_field, method_tree, block_tree}
 use Rattle.made_laws.proofs.MadeTrees.{field_at}
@@ -62,7 +63,8 @@ program_pcs labels lines numbers =
     ap (λ (statements : List StatementLabels). both ∷ map (λ statement. statement.pc) statements) (append-nil block)
     ∙ ap (λ (rest : List Label). both ∷ rest) (block_pcs labels lines numbers [] 1 34 numbers)
 
-same_everywhere : (numbers : List ℕ) (place : ℕ) → place < length numbers → slice_get (all_both numbers) place ≡ Some both
+same_everywhere : (numbers : List ℕ) (place : ℕ) → place < length numbers →
+    slice_get (all_both numbers) place ≡ Some both
 same_everywhere [] place less = absurd (omega (arith, less))
 same_everywhere (n ∷ numbers) zero less = refl
 same_everywhere (n ∷ numbers) (suc place) less = same_everywhere numbers place (omega (arith, less))
@@ -123,28 +125,32 @@ block_of_labels : LabelLaws → (labels : MadeLabels) (lines : ℕ → ℕ) (who
 block_of_labels laws labels lines whole id at [] within = tt
 block_of_labels laws labels lines whole id at (n ∷ numbers) within =
     let pc = pc_is labels lines whole id (omega (arith, within)) in
-    let even = n % 2 == 0 in
-    (record {
-      label = own_label labels lines whole even;
-      used = used_is laws (own_label labels lines whole even) _ (own_over labels lines whole even) pc;
-      backing = refl;
-      tellings = (pc, tt);
-      host = own_host labels lines whole even;
-    }, block_of_labels laws labels lines whole (id + 1) (at + 3 + 3) numbers (omega (arith, within)))
+    let even = n % 2 == 0 in (
+      record {
+        label = own_label labels lines whole even;
+        used = used_is laws (own_label labels lines whole even) _ (own_over labels lines whole even) pc;
+        backing = refl;
+        tellings = (pc, tt);
+        host = own_host labels lines whole even;
+      },
+      block_of_labels laws labels lines whole (id + 1) (at + 3 + 3) numbers (omega (arith, within)),
+    )
 
 all_of_labels : LabelLaws → (labels : MadeLabels) (lines : ℕ → ℕ) (numbers : List ℕ) →
     AllByRecursion (IsOfLabel labels) (statement_uses alice_and_bob (made_labelled labels lines numbers))
 all_of_labels laws labels lines numbers =
     let block = block_uses (made_labelled labels lines numbers) (own_setting labels lines numbers)
-        (block_tree lines 1 34 numbers) in
-    (record {
-      label = both;
-      used = refl;
-      backing = refl;
-      tellings = tt;
-      host = record { place = 0; host = _; there = refl; own = refl };
-    }, subst (λ uses. AllByRecursion (IsOfLabel labels) uses) (sym (append-nil block))
-    (block_of_labels laws labels lines numbers 1 34 numbers (omega arith)))
+    (block_tree lines 1 34 numbers) in (
+      record {
+        label = both;
+        used = refl;
+        backing = refl;
+        tellings = tt;
+        host = record { place = 0; host = _; there = refl; own = refl };
+      },
+      subst (λ uses. AllByRecursion (IsOfLabel labels) uses) (sym (append-nil block))
+          (block_of_labels laws labels lines numbers 1 34 numbers (omega arith)),
+    )
 
 -- ---- statements have hosts
 
@@ -161,15 +167,18 @@ statement_held : LabelLaws → (labels : MadeLabels) (one : StatementUse) (need 
     IsNeed alice_and_bob one.backing need → IsHeld (MayHoldStatement (one.used, need)) (made_file labels).hosts
 statement_held laws labels one need of is =
     let host = of.host in
-    let flows = laws.reflexive of.label in
-    (host.place, held_on (MayHoldStatement (one.used, need)) _ host.host host.there
-    (subst (λ (label : Label). ConfFlows label host.host.label) (sym of.used)
-    (subst (λ (label : Label). ConfFlows of.label label) (sym host.own) flows.0),
-    λ principal within set.
-        let backed = (is.members principal within).0 set in
-        let by_one = subst (λ backing. Any (Backs alice_and_bob principal) backing) of.backing backed in
-        subst (λ (label : Label). Trusts label principal) (sym host.own)
-        (any_of_one (Backs alice_and_bob principal) (for_label of.label) by_one)))
+    let flows = laws.reflexive of.label in (
+      host.place,
+      held_on (MayHoldStatement (one.used, need)) _ host.host host.there (
+        subst (λ (label : Label). ConfFlows label host.host.label) (sym of.used)
+            (subst (λ (label : Label). ConfFlows of.label label) (sym host.own) flows.0),
+        λ principal within set.
+            let backed = (is.members principal within).0 set in
+            let by_one = subst (λ backing. Any (Backs alice_and_bob principal) backing) of.backing backed in
+            subst (λ (label : Label). Trusts label principal) (sym host.own)
+            (any_of_one (Backs alice_and_bob principal) (for_label of.label) by_one),
+      ),
+    )
 
 statements_held : LabelLaws → (labels : MadeLabels) (uses : List StatementUse) (needs : List ℕ) →
     AllByRecursion (IsOfLabel labels) uses → AllZip (λ one word. IsNeed alice_and_bob one.backing word) uses needs →
@@ -190,8 +199,8 @@ told_both laws test [] all = refl
 told_both laws test (telling ∷ tellings) all = by (told_both laws test tellings all.1) (test telling)
   where
     by : fold join_of both (map (λ one. one.label) (filter test tellings)) ≡ both → (passes : Bool) →
-        fold join_of both (map (λ one. one.label) (if passes then telling ∷ filter test tellings else filter test tellings))
-        ≡ both
+        fold join_of both (map (λ one. one.label)
+        (if passes then telling ∷ filter test tellings else filter test tellings)) ≡ both
     by rest false = rest
     by rest true =
         ap (λ (label : Label). fold join_of (join_of both label) (map (λ one. one.label) (filter test tellings))) all.0
@@ -216,11 +225,14 @@ field_held : LabelLaws → (labels : MadeLabels) (field : FieldTree) (told : Lab
     IsHeld (MayHoldField (field, told)) (made_file labels).hosts
 field_held laws labels field told is over host =
     let flows = laws.reflexive field.label in
-    let joined = ap (join_of field.label) is ∙ joined_both laws field.label over in
-    (host.place, held_on (MayHoldField (field, told)) _ host.host host.there
-    (subst (λ (label : Label). ConfFlows label host.host.label) (sym joined)
-    (subst (λ (label : Label). ConfFlows field.label label) (sym host.own) flows.0),
-    subst (λ (label : Label). IntegFlows label field.label) (sym host.own) flows.1))
+    let joined = ap (join_of field.label) is ∙ joined_both laws field.label over in (
+      host.place,
+      held_on (MayHoldField (field, told)) _ host.host host.there (
+        subst (λ (label : Label). ConfFlows label host.host.label) (sym joined)
+            (subst (λ (label : Label). ConfFlows field.label label) (sym host.own) flows.0),
+        subst (λ (label : Label). IntegFlows label field.label) (sym host.own) flows.1,
+      ),
+    )
 
 -- ---- the whole
 
@@ -232,10 +244,7 @@ has_place laws labels lines numbers needs error.OutOfMemory are some refused = s
 has_place laws labels lines numbers needs (error.NoHostForField field) are some refused =
     refused.unheld (all_at (λ one. IsHeld (MayHoldField one) (made_file labels).hosts) _ field.0 refused.one
     (subst (λ loc. AllByRecursion (λ one. IsHeld (MayHoldField one) (made_file labels).hosts)
-    (zip (made_tree labels lines numbers).fields loc)) (sym are.loc)
-    (field_held laws labels (alice_field labels) _ (told 0) labels.alice_said.over (own_host labels lines numbers true),
-    (field_held laws labels (bob_field labels) _ (told 1) labels.bob_said.over (own_host labels lines numbers false), tt)))
-    refused.place)
+    (zip (made_tree labels lines numbers).fields loc)) (sym are.loc) (first, (second, tt))) refused.place)
   where
     uses : List StatementUse
     uses = statement_uses alice_and_bob (made_labelled labels lines numbers)
@@ -244,6 +253,17 @@ has_place laws labels lines numbers needs (error.NoHostForField field) are some 
     told field =
         told_both laws (λ telling. nat_eq telling.field.0 field) (flat_map (λ one. one.tellings) uses)
         (all_told labels uses (all_of_labels laws labels lines numbers))
+
+    first : IsHeld (MayHoldField (alice_field labels, told_of alice_and_bob (flat_map (λ one. one.tellings) uses) 0))
+        (made_file labels).hosts
+    first =
+        field_held laws labels (alice_field labels) _ (told 0) labels.alice_said.over
+        (own_host labels lines numbers true)
+
+    second : IsHeld (MayHoldField (bob_field labels, told_of alice_and_bob (flat_map (λ one. one.tellings) uses) 1))
+        (made_file labels).hosts
+    second =
+        field_held laws labels (bob_field labels) _ (told 1) labels.bob_said.over (own_host labels lines numbers false)
 has_place laws labels lines numbers needs (error.NoHostForStatement statement) are some refused =
     refused.1.unheld (all_at (λ one. IsHeld (MayHoldStatement one) (made_file labels).hosts) _ statement.0
     refused.1.one

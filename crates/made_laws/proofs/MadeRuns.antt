@@ -1,6 +1,6 @@
 -- The plain run of the program that is made: each statement sets a field, so it takes one step for each.
-use Rattle.std.proofs.Common.{◌≡◌, ℕ, zero, suc, ◌+◌, ◌<◌, ◌≤◌, ℤ, List, [], ◌∷◌, ◌++◌, map, length, refl, sym, subst, ap, ◌∙◌}
-use Rattle.std.proofs.Common.{arith, Some}
+use Rattle.std.proofs.Common.{◌≡◌, ℕ, zero, suc, ◌+◌, ◌<◌, ℤ, List, [], ◌∷◌, map, length, refl, sym, subst, ap, ◌∙◌}
+use Rattle.std.proofs.Common.{arith}
 use Rattle.std.specs.Prelude.{⊤, slice_get}
 use Rattle.js_base.specs.declared.ids.FieldId.{FieldId}
 use Rattle.js_base.specs.declared.ids.MethodId.{MethodId}
@@ -10,10 +10,11 @@ use Rattle.jif_tree.specs.declared.program.Stmt.{Stmt}
 use Rattle.jif_tree.specs.declared.program.StmtKind.{StmtKind}
 use Rattle.jif_tree.specs.declared.program.StmtKind as kind
 use Rattle.jif_tree.specs.declared.program.Expr.{Expr}
-use Rattle.jif_tree.specs.SourceRun.{Configuration, Item, run, step, after_item, after_steps, value_of, operands}
+use Rattle.jif_tree.specs.SourceRun.{Configuration, Item, run, step, after_item, after_steps}
 use Rattle.jif_tree.specs.SourceRun.{configuration_at_start, main_body, body_of, HasLength}
 use Rattle.jif_tree.specs.Trees as trees
-use Rattle.jif_tree.specs.Trees.{Heading, BlockTree, ExprTree, MethodTree, done, set_field, statement_tree, program_tree}
+use Rattle.jif_tree.specs.Trees.{Heading, BlockTree, ExprTree, MethodTree, done, set_field, statement_tree}
+use Rattle.jif_tree.specs.Trees.{program_tree}
 use Rattle.made_laws.proofs.MadeLabels.{MadeLabels}
 use Rattle.made_laws.proofs.MadeTrees as made
 
@@ -58,7 +59,7 @@ sets_run : (program : Program) (statements : List Stmt) (c : Configuration) → 
 sets_run program [] c sets is = record { ends = is; not_before = λ m less. absurd (omega (arith, less)) }
 sets_run program (statement ∷ statements) c sets is =
     let rest = sets_run program statements (step program c) sets.1
-        (stepped program c statement (map (run 0) statements) sets.0 is) in
+    (stepped program c statement (map (run 0) statements) sets.0 is) in
     record {
       ends = ap (λ (now : Configuration). now.pending) (one_more program (length statements) c) ∙ rest.ends;
       not_before = not_before rest;
@@ -111,7 +112,8 @@ block_sets (statement ∷ statements) lines id at (n ∷ numbers) is =
 body_is : (methods : List Method) (method : MethodTree) → map trees.method_tree methods ≡ method ∷ [] →
     trees.block_tree (body_of (slice_get methods 0)) ≡ method.body
 body_is [] method is = absurd (let no = is in cc)
-body_is (one ∷ others) method is = ap (λ (own : MethodTree). own.body) (let first : trees.method_tree one ≡ method = cc in first)
+body_is (one ∷ others) method is =
+    ap (λ (own : MethodTree). own.body) (let first : trees.method_tree one ≡ method = cc in first)
 
 pub made_length : (labels : MadeLabels) (lines : ℕ → ℕ) (numbers : List ℕ) (program : Program)
     (values : List (List ℤ)) → program_tree program ≡ made.made_tree labels lines numbers →
@@ -120,8 +122,8 @@ made_length labels lines numbers program values is =
     let main : program.main ≡ record { 0 = 0 } = ap (λ (tree : trees.ProgramTree). tree.main) is in
     let methods = ap (λ (tree : trees.ProgramTree). tree.methods) is in
     let body : trees.block_tree (main_body program) ≡ made.block_tree lines 1 34 numbers =
-        ap (λ (main : MethodId). trees.block_tree (body_of (slice_get program.methods.items main.0))) main
-        ∙ body_is program.methods.items (made.method_tree lines numbers) methods in
+    ap (λ (main : MethodId). trees.block_tree (body_of (slice_get program.methods.items main.0))) main
+    ∙ body_is program.methods.items (made.method_tree lines numbers) methods in
     let sets = block_sets (main_body program) lines 1 34 numbers body in
     let runs = sets_run program (main_body program) (configuration_at_start program values) sets.0 refl in
     let whole = subst (λ n. EndsAfter program (configuration_at_start program values) n) sets.1 runs in

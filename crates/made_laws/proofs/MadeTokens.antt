@@ -1,24 +1,23 @@
 -- The text of a program that is made, as spellings of tokens, and the tokens that it has.
-use Rattle.std.proofs.Common.{◌≡◌, ℕ, zero, suc, pos, ◌+◌, ◌*◌, ◌^◌, ◌%◌, ◌==◌, ◌<◌, ◌≤◌, ◌≤ℤ◌, Bool, true, false, List, [], ◌∷◌, ◌++◌}
-use Rattle.std.proofs.Common.{length, map, codes, refl, ap, sym, ◌∙◌, arith, append_assoc, length-append, if◌then◌else◌}
-use Rattle.std.specs.Prelude.{⊤}
-use Rattle.std.specs.List.{flat_map, range_with_len, AllByRecursion}
+use Rattle.std.proofs.Common.{◌≡◌, ℕ, zero, suc, pos, ◌+◌, ◌*◌, ◌^◌, ◌%◌, ◌==◌, ◌<◌, ◌≤◌, ◌≤ℤ◌, Bool, true, false}
+use Rattle.std.proofs.Common.{List, [], ◌∷◌, ◌++◌}
+use Rattle.std.proofs.Common.{length, map, codes, refl, ap, ◌∙◌, arith, append_assoc, length-append, if◌then◌else◌}
+use Rattle.std.specs.List.{range_with_len, AllByRecursion}
 use Rattle.std.specs.Fmt.{decimal}
-use Rattle.std.proofs.lemmas.Grind.{flat_map-append}
 use Rattle.std.proofs.lemmas.Fmt.{length-decimal-le}
 use Rattle.std.proofs.lemmas.List.FromFn.{length-range_with_len}
 use Rattle.std.proofs.lemmas.Int.{ints}
 use Rattle.js_base.specs.Name.{IsName}
 use Rattle.js_base.specs.declared.limits.TheConstants.{LARGEST_NUMBER, PROGRAM_BYTES, STATEMENTS}
-use Rattle.jif_lex.specs.declared.token.TokenKind.{TokenKind}
 use Rattle.jif_lex.specs.declared.token.TokenKind.TheVariants.{Name, Number, Word, Symbol}
 use Rattle.jif_lex.specs.declared.token.Word.TheVariants as word
 use Rattle.jif_lex.specs.declared.token.Word as words
 use Rattle.jif_lex.specs.declared.token.Symbol.TheVariants as symbol
 use Rattle.jif_lex.specs.declared.token.Symbol as symbols
-use Rattle.jif_lex.specs.Spelled.{Spelled, token_part, space_part, line_end_part, spelled_text, spelled_kinds}
-use Rattle.jif_lex.specs.Spelled.{AreApart, IsSpellable}
-use Rattle.made_laws.specs.MadePrograms.{text_of, made_field, made_statement, made_statements, made_head, made_program}
+use Rattle.jif_lex.specs.Spelled.{Spelled, token_part, space_part, line_end_part, spelled_text}
+use Rattle.jif_lex.specs.Spelled.{AreApart}
+use Rattle.made_laws.specs.MadePrograms.{text_of, made_field, made_statement, made_statements, made_head}
+use Rattle.made_laws.specs.MadePrograms.{made_program}
 
 -- ---- parts of a text
 
@@ -40,9 +39,47 @@ alice_field_parts rest =
     said symbol.RightBrace ∷ space_part ∷ said_name (codes "a") ∷ said symbol.Semicolon ∷ line_end_part ∷ rest
 
 alice_field_apart : (rest : List Spelled) → AreApart rest → AreApart (alice_field_parts rest)
-alice_field_apart rest is =
-    (tt, refl, (tt, refl, (refl, refl, (tt, refl, (tt, refl, (tt, refl, (tt, refl, (refl, refl, (tt, refl, (refl,
-    refl, (tt, refl, is)))))))))))
+alice_field_apart rest is = (
+  tt,
+  refl,
+  (
+    tt,
+    refl,
+    (
+      refl,
+      refl,
+      (
+        tt,
+        refl,
+        (
+          tt,
+          refl,
+          (
+            tt,
+            refl,
+            (
+              tt,
+              refl,
+              (
+                refl,
+                refl,
+                (
+                  tt,
+                  refl,
+                  (
+                    refl,
+                    refl,
+                    (tt, refl, is),
+                  ),
+                ),
+              ),
+            ),
+          ),
+        ),
+      ),
+    ),
+  ),
+)
 
 abbrev pub bob_field_parts : List Spelled → List Spelled
 bob_field_parts rest =
@@ -51,9 +88,47 @@ bob_field_parts rest =
     said symbol.RightBrace ∷ space_part ∷ said_name (codes "b") ∷ said symbol.Semicolon ∷ line_end_part ∷ rest
 
 bob_field_apart : (rest : List Spelled) → AreApart rest → AreApart (bob_field_parts rest)
-bob_field_apart rest is =
-    (tt, refl, (tt, refl, (refl, refl, (tt, refl, (tt, refl, (tt, refl, (tt, refl, (refl, refl, (tt, refl, (refl,
-    refl, (tt, refl, is)))))))))))
+bob_field_apart rest is = (
+  tt,
+  refl,
+  (
+    tt,
+    refl,
+    (
+      refl,
+      refl,
+      (
+        tt,
+        refl,
+        (
+          tt,
+          refl,
+          (
+            tt,
+            refl,
+            (
+              tt,
+              refl,
+              (
+                refl,
+                refl,
+                (
+                  tt,
+                  refl,
+                  (
+                    refl,
+                    refl,
+                    (tt, refl, is),
+                  ),
+                ),
+              ),
+            ),
+          ),
+        ),
+      ),
+    ),
+  ),
+)
 
 abbrev pub main_parts : List Spelled → List Spelled
 main_parts rest =
@@ -63,9 +138,47 @@ main_parts rest =
     said symbol.LeftBrace ∷ line_end_part ∷ rest
 
 main_apart : (rest : List Spelled) → AreApart rest → AreApart (main_parts rest)
-main_apart rest is =
-    (tt, refl, (refl, refl, (tt, refl, (tt, refl, (tt, refl, (refl, refl, (tt, refl, (refl, refl, (tt, refl, (tt,
-    refl, (tt, refl, (tt, refl, is))))))))))))
+main_apart rest is = (
+  tt,
+  refl,
+  (
+    refl,
+    refl,
+    (
+      tt,
+      refl,
+      (
+        tt,
+        refl,
+        (
+          tt,
+          refl,
+          (
+            refl,
+            refl,
+            (
+              tt,
+              refl,
+              (
+                refl,
+                refl,
+                (
+                  tt,
+                  refl,
+                  (
+                    tt,
+                    refl,
+                    (tt, refl, (tt, refl, is)),
+                  ),
+                ),
+              ),
+            ),
+          ),
+        ),
+      ),
+    ),
+  ),
+)
 
 abbrev pub alice_label_parts : List Spelled
 alice_label_parts =
@@ -128,9 +241,23 @@ AreSmall numbers = AllByRecursion (λ number. pos number ≤ℤ LARGEST_NUMBER) 
 
 pub statements_apart : (numbers : List ℕ) → AreSmall numbers → AreApart (statements_parts numbers)
 statements_apart [] small = (tt, refl, tt)
-statements_apart (number ∷ numbers) small =
-    (is_field_name (number % 2 == 0), refl, (tt, refl, (is_field_name (number % 2 == 0), refl, (tt, refl,
-    ((omega (arith, ints), small.0), refl, (tt, refl, statements_apart numbers small.1))))))
+statements_apart (number ∷ numbers) small = (
+  is_field_name (number % 2 == 0),
+  refl,
+  (
+    tt,
+    refl,
+    (
+      is_field_name (number % 2 == 0),
+      refl,
+      (
+        tt,
+        refl,
+        ((omega (arith, ints), small.0), refl, (tt, refl, statements_apart numbers small.1)),
+      ),
+    ),
+  ),
+)
 
 statement_spelled : (field digits rest : List ℕ) →
     (field ++ codes " = " ++ field ++ codes " + " ++ digits ++ codes ";" ++ codes "\n") ++ rest
@@ -185,8 +312,13 @@ statements_length : (numbers : List ℕ) → AreBelow (10 ^ 4) numbers →
 statements_length [] below = omega arith
 statements_length (number ∷ numbers) below =
     let digits = length-decimal-le 4 number (omega arith) below.0 (omega (arith, below.0)) in
-    omega (arith, digits, field_length (number % 2 == 0), statements_length numbers below.1,
-    statement_length (made_field number) (decimal number) (spelled_text (statements_parts numbers)))
+    omega (
+      arith,
+      digits,
+      field_length (number % 2 == 0),
+      statements_length numbers below.1,
+      statement_length (made_field number) (decimal number) (spelled_text (statements_parts numbers)),
+    )
 
 head_length : (rest : List Spelled) → length (spelled_text (head_parts rest)) ≡ length (spelled_text rest) + 72
 head_length rest = omega arith
@@ -196,8 +328,14 @@ pub program_short : (statements : ℕ) → statements < STATEMENTS → length (m
 program_short statements less =
     let numbers = range_with_len 0 statements in
     let rest = statements_length numbers (range_below 0 statements (10 ^ 4) (omega (arith, less))) in
-    omega (arith, less, rest, ap length (program_spelled statements), head_length (statements_parts numbers),
-    length-range_with_len 0 statements)
+    omega (
+      arith,
+      less,
+      rest,
+      ap length (program_spelled statements),
+      head_length (statements_parts numbers),
+      length-range_with_len 0 statements,
+    )
 
 pub program_apart : (statements : ℕ) → statements < STATEMENTS → AreApart (program_parts statements)
 program_apart statements less =

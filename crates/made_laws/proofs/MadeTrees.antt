@@ -1,6 +1,6 @@
 -- The tree of the program that is made, and that its labels keep the rules. `lines` has the line of each token.
-use Rattle.std.proofs.Common.{◌≡◌, ℕ, zero, suc, pos, ◌+◌, ◌%◌, ◌==◌, Bool, true, false, List, [], ◌∷◌, ◌++◌, length, All}
-use Rattle.std.proofs.Common.{codes, refl, sym, subst, ap, ◌∙◌, arith, None, if◌then◌else◌}
+use Rattle.std.proofs.Common.{ℕ, pos, ◌+◌, ◌%◌, ◌==◌, Bool, true, false, List, [], ◌∷◌, All}
+use Rattle.std.proofs.Common.{codes, sym, subst, ap, ◌∙◌, None, if◌then◌else◌}
 use Rattle.std.proofs.lemmas.List.{append-nil}
 use Rattle.std.proofs.lemmas.List.Elements.{All-nil, All-cons}
 use Rattle.js_base.specs.declared.binary_operator.BinOp.TheVariants as operator
@@ -12,8 +12,8 @@ use Rattle.label_lattice.specs.Over.{IsLabelOver}
 use Rattle.label_lattice.specs.PrintedExamples.{alice_and_bob}
 use Rattle.jif_tree.specs.Trees.{ExprTree, number, scalar, binary, BlockTree, done, set_field, FieldTree, MethodTree}
 use Rattle.jif_tree.specs.Trees.{ProgramTree}
-use Rattle.jif_tree.specs.LabelRules.{VariableLabels, MethodSetting, setting_of, block_labels, flow_of, Holds, Meets}
-use Rattle.jif_tree.specs.LabelRules.{Obligation, obligations_of, IsWellLabelled, field_label}
+use Rattle.jif_tree.specs.LabelRules.{VariableLabels, setting_of, block_labels, Meets}
+use Rattle.jif_tree.specs.LabelRules.{obligations_of, IsWellLabelled, field_label}
 use Rattle.made_laws.proofs.MadeLabels.{LabelLaws, MadeLabels, both, joined_both}
 
 -- ---- the tree

@@ -1,9 +1,9 @@
 -- The program that is made is accepted.
-use Rattle.std.proofs.Common.{◌≡◌, ◌≢◌, ℕ, ◌+◌, ◌<◌, ◌≤◌, ◌^◌, ◌⊎◌, List, [], length, map, refl, sym, subst, ap, ◌∙◌, arith}
+use Rattle.std.proofs.Common.{◌≡◌, ◌≢◌, ℕ, ◌<◌, ◌≤◌, ◌⊎◌, List, [], length, refl, sym, subst, ◌∙◌, arith}
 use Rattle.std.specs.List.{range_with_len}
 use Rattle.std.proofs.lemmas.List.FromFn.{length-range_with_len}
 use Rattle.std.proofs.Common.{⊎_elim}
-use Rattle.js_base.specs.declared.limits.TheConstants.{PROGRAM_BYTES, STATEMENTS, HOSTS}
+use Rattle.js_base.specs.declared.limits.TheConstants.{STATEMENTS, HOSTS}
 use Rattle.principals.specs.ActsFor.{Declared}
 use Rattle.jif_lex.specs.declared.token.Token.{Token}
 use Rattle.jif_lex.specs.Tokens.{ReadsAs, tokens}
@@ -23,7 +23,6 @@ use Rattle.place_rules.specs.Refusal.{IsRefused}
 use Rattle.place_rules.specs.declared.place_error.PlaceError.{PlaceError}
 use Rattle.place_rules.specs.declared.place_error.PlaceError.TheVariants as error
 use Rattle.made_laws.specs.Made.{IsAccepted}
-use Rattle.made_laws.specs.MadePrograms.{made_program}
 use Rattle.made_laws.proofs.MadeDrafts.{made_draft, made_resolved}
 use Rattle.made_laws.proofs.MadeHosts.{SpelledLaw, made_file, reads_hosts}
 use Rattle.made_laws.proofs.MadeLabels.{LabelLaws, made_labels}
@@ -64,8 +63,8 @@ accepted laws statements less =
     let labelled = made_labelled labels lines numbers in
     let needs = laws.places.some_needs alice_and_bob labelled in
     let allowed = ⊎_elim (λ found. found)
-        (λ refused. absurd (has_place laws.labels labels lines numbers needs.0 refused.0 needs.1 refused.1 refused.2))
-        (laws.places.allowed_or_refused labelled needs.0 file (omega arith)) in
+    (λ refused. absurd (has_place laws.labels labels lines numbers needs.0 refused.0 needs.1 refused.1 refused.2))
+    (laws.places.allowed_or_refused labelled needs.0 file (omega arith)) in
     record {
       few = program_short statements less;
       list = list;

@@ -1,5 +1,5 @@
--- What becomes of the program that is made for a number of statements, and of its host file: they are read, each part of
--- the program has a host that may hold it, and the program runs to its end.
+-- What becomes of the program that is made for a number of statements, and of its host file: they are read, each part
+-- of the program has a host that may hold it, and the program runs to its end.
 use Rattle.std.specs.Prelude.{◌≡◌, ℕ, ◌≤◌, ℤ, List, length, map}
 use Rattle.js_base.specs.declared.limits.TheConstants.{PROGRAM_BYTES}
 use Rattle.jif_lex.specs.declared.token.Token.{Token}
