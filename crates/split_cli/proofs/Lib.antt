@@ -15,6 +15,7 @@ pub mod FollowedEvents
 pub mod LabelCounts
 pub mod LoadedFiles
 pub mod MadeCounts
+pub mod MadePlaced
 pub mod MadeTexts
 pub mod MakeDue
 pub mod NextEvents

@@ -5,7 +5,7 @@ use Rattle.std.specs.Fmt.{decimal}
 use Rattle.std.proofs.lemmas.Fmt.{decimal_digit}
 use Rattle.std.proofs.lemmas.List.Concat.{flat_map-append}
 use Rattle.std.proofs.lemmas.List.FromFn.{map-range_with_len_more}
-use Rattle.split_cli.specs.MadePrograms.{made_head, made_program, made_statement, made_statements}
+use Rattle.made_laws.specs.MadePrograms.{made_head, made_program, made_statement, made_statements}
 use Rattle.front_end.specs.Text.{line_text, lines_text}
 use Rattle.split_cli.proofs.ReportLines.{lines_more}
 

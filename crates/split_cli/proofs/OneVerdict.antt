@@ -15,7 +15,7 @@ use Rattle.front_end.specs.PlacedSources.{PlacedSources}
 use Rattle.split_cli.specs.Check.{plan_report}
 use Rattle.front_end.specs.PlacedCode.{cost_of}
 use Rattle.split_cli.specs.Compare.{DueForCompare}
-use Rattle.split_cli.specs.MadePrograms.{made_hosts, made_program}
+use Rattle.made_laws.specs.MadePrograms.{made_hosts, made_program}
 use Rattle.split_cli.specs.Making.{DueForMade, made_text}
 use Rattle.split_cli.specs.PlainRun.{DueForRun}
 use Rattle.split_cli.specs.Replay.{DueForReplay}

@@ -11,7 +11,7 @@ use Rattle.split_cli.specs.Compare.{DueForCompare}
 use Rattle.split_cli.specs.Drive.{DueForDrive, drive_text}
 use Rattle.split_cli.specs.Due.{DueForBytes, DueForCommand, absent, loaded, Due, no_words, for_command}
 use Rattle.front_end.specs.Loads.{Told, IsFirstAbsent}
-use Rattle.split_cli.specs.MadePrograms.{made_hosts, made_program}
+use Rattle.made_laws.specs.MadePrograms.{made_hosts, made_program}
 use Rattle.split_cli.specs.Making.{DueForMade, made_text}
 use Rattle.front_end.specs.PlacedSources.{PlacedSource, PlacedSources}
 use Rattle.split_cli.specs.PlainRun.{DueForRun}

@@ -10,7 +10,6 @@ pub mod Due
 pub mod Headline
 pub mod Followed
 pub mod FollowedRuns
-pub mod MadePrograms
 pub mod Making
 pub mod MessageParts
 pub mod PlaceLines

@@ -11,7 +11,7 @@ use Rattle.net_world.specs.World.{WorldShape, state_at}
 use Rattle.front_end.specs.declared.step_counts.TheConstants.{STEPS}
 use Rattle.front_end.specs.PlacedCode.{cost_of}
 use Rattle.split_cli.specs.Drive.{DueForDriven}
-use Rattle.split_cli.specs.MadePrograms.{made_hosts, made_program}
+use Rattle.made_laws.specs.MadePrograms.{made_hosts, made_program}
 use Rattle.front_end.specs.PlacedSources.{PlacedSource, PlacedSources}
 use Rattle.split_cli.specs.Report.{row_text}
 use Rattle.front_end.specs.Stages.{DueThen}

@@ -18,6 +18,7 @@ ghost use Rattle.jif_tree.specs.Trees.{ProgramTree};
 ghost use Rattle.simulation.specs.Driven.{IsDriven};
 ghost use Rattle.simulation.specs.Ending.{EVENTS};
 ghost use Rattle.source_law.specs.Unendorsed.{EndorsesNothing};
+ghost use Rattle.made_laws.specs.MadePrograms.{made_head, made_hosts, made_program};
 ghost use Rattle.source_words.specs.Words.{LacksWord};
 ghost use Rattle.split_shades.specs.Sites.{ReleasesNothing};
 ghost use Rattle.front_end.specs.PlacedSources.{PlacedSource, PlacedSources};
@@ -25,11 +26,10 @@ ghost use Rattle.front_end.specs.Stages.{given};
 ghost use Rattle.front_end.specs.StepCounts.{IsStepCount};
 ghost use Rattle.front_end.specs.Verdicts.{Print, VerdictShape, usage, no_such_file};
 ghost use Rattle.front_end.specs.Loads.{FilesChange};
-ghost use Rattle.split_cli.specs.Commands.{Compare, Drive, Replay, forms, words_of};
+ghost use Rattle.split_cli.specs.Commands.{Compare, Drive, IsMadeCount, Make, Replay, forms, words_of};
 ghost use Rattle.split_cli.specs.Due.{Due, IsDue};
 ghost use Rattle.split_cli.specs.Headline.{IsFaithful, IsFaithfulDrive, IsPlacedAs, IsPrivate};
 ghost use Rattle.split_cli.specs.Headline.{OfFourFiles, OfThreeFiles};
-ghost use Rattle.split_cli.specs.MadePrograms.{made_head, made_program};
 ghost use Rattle.split_cli.specs.Releases.{program_releases};
 ghost use Rattle.front_end.specs.Text.{lines_text};
 
@@ -40,6 +40,7 @@ use integrity::integrity_laws;
 use jif_lex::{lex_laws, token_laws};
 use jif_parse::{named_laws, number_laws};
 use jif_resolve::{labelling_laws, limit_laws, program_laws, result_laws};
+use made_laws::made_laws;
 use need_labels::need_laws;
 use net_world::laws::{fits_laws, secret_laws, step_laws};
 use placement::placement_laws;
@@ -136,7 +137,14 @@ pub fn headline_laws()
         start_of (map program_form tree.fields.items) s ≡ Ok values → HasLength tree values steps →
         EVENTS * (steps + 1) ≤ events →
         (text : List ℕ) × Due (words_of (Drive program hosts start events)) (Some holds) 3 (Print Status.Done text) }
+    // The program that is made is accepted with its hosts and has places there, so no stage refuses it.
+    ensures made_placed { (statements : ℕ) → IsMadeCount statements →
+        (placed : PlacedSource) × PlacedSources (made_program statements) made_hosts (given placed) }
+    // What is due for it, whatever the files hold, is the report of hosts that came to rest.
+    ensures made_done { (statements : ℕ) (held : Option (List ℕ → Option (List ℕ))) → IsMadeCount statements →
+        (text : List ℕ) × Due (words_of (Make statements)) held 0 (Print Status.Done text) }
 {
+    made_laws();
     host_file_laws();
     token_laws();
     named_laws();

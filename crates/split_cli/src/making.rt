@@ -2,8 +2,8 @@
 
 ghost use Rattle.std.specs.Prelude.{◌≡◌, ◌++◌, IfOk, OnOk};
 ghost use Rattle.std.specs.String.{string_bytes};
-ghost use Rattle.split_cli.specs.MadePrograms.{made_field, made_hosts, made_program, made_statement};
-ghost use Rattle.split_cli.specs.MadePrograms.{made_statements};
+ghost use Rattle.made_laws.specs.MadePrograms.{made_field, made_hosts, made_program, made_statement};
+ghost use Rattle.made_laws.specs.MadePrograms.{made_statements};
 ghost use Rattle.front_end.specs.Text.{line_text, lines_text};
 
 use js_base::OutOfMemory;

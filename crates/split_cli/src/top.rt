@@ -2,6 +2,7 @@
 
 ghost use Rattle.std.specs.Prelude.{◌≡◌, ◌≢◌, ◌≤◌, ◌+◌, ◌*◌, ◌⊎◌, ℕ, ℤ, List, length, map, string_bytes, IfOk};
 ghost use Rattle.std.specs.Prelude.{Ok, Option, Some};
+ghost use Rattle.js_base.specs.Counts.{Rose};
 ghost use Rattle.js_base.specs.declared.limits.TheConstants.{SCRIPT_BYTES};
 ghost use Rattle.js_base.specs.declared.status.Status.{Status};
 ghost use Rattle.jif_lex.specs.declared.token.Token.{Token};
@@ -126,6 +127,12 @@ pub fn jifsplit<F: Files, S: Sink, E: Sink>(
         EVENTS * (steps + 1) ≤ events →
         AnswersReport Status.Done (files_change F.Files files.old files.new) result
         (sink_change S.Sink out.old out.new) (sink_change E.Sink err.old err.new) }
+    // What is made is never refused, and its hosts come to rest: `make` answers `Done`. Otherwise memory ran out, or the
+    // output counted a fault.
+    ensures made { (statements : ℕ) → command.IsMadeCount statements →
+        map string_bytes words.now ≡ command.words_of (command.Make statements) →
+        (result ≡ Status.Done) ⊎ (result ≡ Status.NoMemory)
+        ⊎ ((result ≡ Status.OutFault) × Rose (S.faults out.old) (S.faults out.new)) }
     // Where a report is due for what the files hold, the answer is the status of the report. Otherwise memory ran out,
     // or the files or an output counted a fault.
     ensures complete { (holds : List ℕ → Option (List ℕ)) (number : ℕ) (status : Status) (text : List ℕ) →

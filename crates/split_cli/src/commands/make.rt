@@ -9,7 +9,7 @@ ghost use Rattle.split_cli.specs.Drive.{TellsDrive};
 ghost use Rattle.split_cli.specs.Due.{IsDueForCommand};
 ghost use Rattle.front_end.specs.Loading.{EndsIn, IsLoaded};
 ghost use Rattle.front_end.specs.Loads.{files_change};
-ghost use Rattle.split_cli.specs.MadePrograms as made;
+ghost use Rattle.made_laws.specs.MadePrograms as made;
 ghost use Rattle.split_cli.specs.Making.{DueForMake, made_text};
 ghost use Rattle.front_end.specs.PlacedShapes.{placed_shape};
 ghost use Rattle.front_end.specs.Verdicts.{verdict_shape};

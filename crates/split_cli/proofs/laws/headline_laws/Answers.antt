@@ -1,5 +1,6 @@
 use Rattle.split_cli.proofs.Compared.{PrivateLaws, compare_is_private}
 use Rattle.split_cli.proofs.Faithful.{AllLaws, replay_is_faithful, drive_is_faithful}
+use Rattle.split_cli.proofs.MadePlaced.{MakingLaws, made_placed, made_done}
 use Rattle.split_cli.proofs.RestingDrives.{comes_to_rest}
 use Rattle.split_cli.proofs.SilentComparisons.{never_differs}
 use Rattle.split_cli.proofs.WordsOfTexts.{WordLaws, never_differs_by_text}
@@ -76,3 +77,23 @@ returns-clause-never_differs c = never_differs (all_laws c) (private_laws c) c.s
 
 pub returns-clause-never_differs_by_text : goal.returns-clause-never_differs_by_text
 returns-clause-never_differs_by_text c = never_differs_by_text (all_laws c) (private_laws c) (words c)
+
+making_laws : (c : goal.After-word_laws) → MakingLaws
+making_laws c = record {
+  accepted = c.made_laws.ensures;
+  hosts = c.host_file_laws.ensures.sound;
+  some_plan = c.placement_laws.ensures.some_plan;
+  native = record {
+    small = c.token_laws.ensures;
+    named = c.named_laws.ensures.of_tokens;
+    kept = c.limit_laws.ensures.kept;
+    within = c.limit_laws.ensures.within;
+    numbered = c.program_laws.ensures.well_numbered;
+  };
+}
+
+pub returns-clause-made_placed : goal.returns-clause-made_placed
+returns-clause-made_placed c = made_placed (making_laws c)
+
+pub returns-clause-made_done : goal.returns-clause-made_done
+returns-clause-made_done c = made_done (making_laws c) (all_laws c) c.ending_laws.ensures.halts

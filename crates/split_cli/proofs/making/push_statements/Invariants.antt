@@ -1,6 +1,6 @@
 use Rattle.std.proofs.Common.{◌≡◌, ◌++◌}
 use Rattle.std.specs.String.{string_bytes}
-use Rattle.split_cli.specs.MadePrograms.{made_statements}
+use Rattle.made_laws.specs.MadePrograms.{made_statements}
 use Rattle.front_end.specs.Text.{lines_text}
 use Rattle.split_cli.proofs.making.push_statements.Given as goal
 

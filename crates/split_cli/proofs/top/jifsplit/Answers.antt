@@ -1,4 +1,4 @@
-use Rattle.std.proofs.Common.{◌≡◌, subst, sym, inl, inr, ⊎_elim, codes, ℕ, List, Option, Some}
+use Rattle.std.proofs.Common.{◌≡◌, subst, sym, inl, inr, ⊎_elim, codes, ℕ, List, Option, Some, None}
 use Rattle.js_base.specs.declared.status.Status.{Status}
 use Rattle.js_base.specs.declared.status.Status.TheVariants.{Done, Differ}
 use Rattle.front_end.proofs.Answering.{answers_to}
@@ -8,6 +8,7 @@ use Rattle.split_cli.specs.Due.{Due}
 use Rattle.split_cli.specs.Headline.{IsFaithful, IsFaithfulDrive, IsPrivate, OfThreeFiles, OfFourFiles}
 use Rattle.split_cli.proofs.Completeness.{complete}
 use Rattle.split_cli.proofs.Faithful.{put_due}
+use Rattle.split_cli.proofs.MadePlaced.{made_answers}
 use Rattle.split_cli.proofs.top.jifsplit.Goals as goal
 
 pub returns-clause-answer : goal.returns-clause-answer
@@ -79,3 +80,9 @@ returns-clause-never_differs_by_text g c =
     (subst (λ (words : List (List ℕ)). Due words (g.F.Files.held c.args.files.now) number (Print status text)) asked
     due))))
     (returns-clause-answer g c) (inr (inr differs))).1 differs
+
+pub returns-clause-made : goal.returns-clause-made
+returns-clause-made g c = λ statements count asked.
+    let due = c.headline_laws.ensures.made_done statements (Some (λ name. None)) count in
+    made_answers c.due_laws.ensures.one_verdict statements count _ _ _ _ _ due.0 due.1 asked
+    (returns-clause-answer g c)
