@@ -86,6 +86,7 @@ no_settings fields = refl
 
 pub made_due : MakingLaws → AllLaws → HaltsLaw → (statements : ℕ) → IsMadeCount statements →
     (text : List ℕ) × DueForMake statements (Print Done text)
+unfolding made_placed
 made_due laws all halts statements count =
     let it = laws.accepted statements (omega (arith, count.most)) in
     let here = made_placed laws statements count in
