@@ -80,7 +80,7 @@ returns-clause-never_differs_by_text c = never_differs_by_text (all_laws c) (pri
 
 making_laws : (c : goal.After-word_laws) → MakingLaws
 making_laws c = record {
-  accepted = c.made_laws.ensures;
+  accepted = c.made_laws.ensures.accepted;
   hosts = c.host_file_laws.ensures.sound;
   some_plan = c.placement_laws.ensures.some_plan;
   native = record {
