@@ -1,5 +1,5 @@
 -- The program that is made is accepted and has places on its hosts, and these hosts come to rest.
-use Rattle.std.proofs.Common.{◌≡◌, ◌<◌, ◌≤◌, ◌+◌, ◌*◌, ◌⊎◌, ℕ, ℤ, List, [], ◌∷◌, map, length, Option, None, Some, Ok, refl, sym}
+use Rattle.std.proofs.Common.{◌≡◌, ◌<◌, ◌⊎◌, ℕ, ℤ, List, [], ◌∷◌, map, length, Option, None, Some, Ok, refl, sym}
 use Rattle.std.proofs.Common.{subst, inl, inr, ⊎_elim, arith, codes}
 use Rattle.std.specs.List.{AllZip}
 use Rattle.std.proofs.lemmas.List.{length-map}
@@ -56,7 +56,7 @@ made_placed laws statements count =
     let it = laws.accepted statements (omega (arith, count.most)) in
     let are = laws.hosts made_hosts it.file it.hosts in
     let some : 0 < length it.file.hosts =
-        omega (arith, length-map it.file.hosts (λ host. host.name), are.names.some) in
+    omega (arith, length-map it.file.hosts (λ host. host.name), are.names.some) in
     let plan = laws.some_plan (labelled_with it.file it.tree) it.needs it.file it.allowed some it.allowed_are in (
       record {
         source = record { file = it.file; tree = it.tree };
@@ -93,7 +93,7 @@ made_due laws all halts statements count =
     let placed = here.0 in
     let program = made_program statements in
     let seen = source_seen laws.native program made_hosts placed.source
-        (source_given program made_hosts placed here.1) in
+    (source_given program made_hosts placed here.1) in
     let tree = seen.0 in
     let values = own_values (map program_form tree.fields.items) in
     let set = set_of all program made_hosts placed tree (record { accepted = here.1; tree_is = seen.1 }) in
@@ -155,7 +155,8 @@ due_of_words statements count held _ _ (for_command command number verdict is sa
     (sym (one_command (Make statements) command count is same)) due)
 
 -- no file fails where none is loaded
-never_fails : (statements : ℕ) (files : FilesChange) (verdict : VerdictShape) → ¬ IsFault (Make statements) files verdict
+never_fails : (statements : ℕ) (files : FilesChange) (verdict : VerdictShape) →
+    ¬ IsFault (Make statements) files verdict
 never_fails statements files verdict (inl fault) = let no = fault.0.here in cc
 never_fails statements files verdict (inr fault) = fault
 
@@ -182,6 +183,6 @@ made_answers one statements count words files answer out err text due asked answ
     (λ whole.
     let is_due = subst (λ (said : List (List ℕ)). IsDue said files whole.0) asked whole.1 in
     let answered = subst (λ (verdict : VerdictShape). IsAnswered (codes "jifsplit") verdict answer out err)
-        (only_done one statements count files text whole.0 due is_due) whole.2 in
+    (only_done one statements count files text whole.0 due is_due) whole.2 in
     ⊎_elim (λ put. inl put.0) (λ fault. inr (inr (fault.0, fault.1))) answered.1)
     answers

@@ -127,8 +127,8 @@ pub fn jifsplit<F: Files, S: Sink, E: Sink>(
         EVENTS * (steps + 1) ≤ events →
         AnswersReport Status.Done (files_change F.Files files.old files.new) result
         (sink_change S.Sink out.old out.new) (sink_change E.Sink err.old err.new) }
-    // What is made is never refused, and its hosts come to rest: `make` answers `Done`. Otherwise memory ran out, or the
-    // output counted a fault.
+    // What is made is never refused, and its hosts come to rest: `make` answers `Done`. Otherwise memory ran out, or
+    // the output counted a fault.
     ensures made { (statements : ℕ) → command.IsMadeCount statements →
         map string_bytes words.now ≡ command.words_of (command.Make statements) →
         (result ≡ Status.Done) ⊎ (result ≡ Status.NoMemory)
