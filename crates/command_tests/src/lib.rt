@@ -12,6 +12,8 @@ mod files;
 #[cfg(test)]
 mod frames;
 #[cfg(test)]
+mod launches;
+#[cfg(test)]
 mod limits;
 #[cfg(test)]
 mod node;

@@ -1,0 +1,3 @@
+mod Dues
+mod Reports
+mod Starting

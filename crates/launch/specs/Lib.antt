@@ -1,0 +1,4 @@
+pub mod Starts
+pub mod Launching
+pub mod Report
+pub mod Due
