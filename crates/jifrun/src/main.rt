@@ -6,9 +6,8 @@ use command_words::words;
 use js_base::{RealFiles, RealSink, Status};
 use launch::jifrun;
 use std::alloc::AllocError;
-use std::io;
 use std::process::ExitCode;
-use std::{env, rt};
+use std::{env, io, rt};
 
 /// The program of a node, which stands beside this one.
 const NODE: &str = "jifhost";

@@ -1,3 +1,4 @@
+mod Causes
 mod Dues
 mod Reports
 mod Starting

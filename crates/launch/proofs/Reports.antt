@@ -2,13 +2,13 @@
 use Rattle.std.proofs.Common.{◌≡◌, ◌<◌, ◌+◌, ◌++◌, ◌∙◌, ℕ, List, [], ◌∷◌, length, get_or, map, take, ap, sym, arith}
 use Rattle.std.specs.List.{flat_map, zip}
 use Rattle.std.proofs.lemmas.List.{length-map, length-take-le, take_more}
-use Rattle.host_decl.specs.declared.hosts.HostRow.{HostRow}
 use Rattle.launch.specs.declared.child_end.ChildEnd.{ChildEnd}
 use Rattle.launch.specs.Report.{end_line, report}
 use Rattle.launch.proofs.Starting.{flat_more, mapped_more, zip_front}
 
 -- the lines so far, and that of the next host
-pub report_more : {H : Type 0} (name : H → List ℕ) (hosts : List H) (ends : List ChildEnd) (i : ℕ) (host : H) (d : ChildEnd) →
+pub report_more : {H : Type 0} (name : H → List ℕ) (hosts : List H) (ends : List ChildEnd) (i : ℕ) (host : H) (d :
+    ChildEnd) →
     length hosts ≡ length ends → i < length hosts → host ≡ get_or hosts i host →
     report (map name (take (i + 1) hosts)) (take (i + 1) ends)
     ≡ report (map name (take i hosts)) (take i ends) ++ end_line (name host) (get_or ends i d)

@@ -1,8 +1,9 @@
 -- Starts one after the other, and the waits for their children.
-use Rattle.std.proofs.Common.{◌≡◌, ◌<◌, ◌≤◌, ◌+◌, ◌++◌, ◌∙◌, ◌⊎◌, ℕ, ℤ, zero, suc, List, [], ◌∷◌, length, refl, sym, ap, subst}
-use Rattle.std.proofs.Common.{append_assoc, append-nil, inl, inr, arith, drop, get_or, map, take, Option, Some, None, Result}
+use Rattle.std.proofs.Common.{◌≡◌, ◌<◌, ◌≤◌, ◌+◌, ◌++◌, ◌∙◌, ◌⊎◌, ℕ, ℤ, List, [], ◌∷◌, length, refl, sym, ap, subst}
+use Rattle.std.proofs.Common.{append_assoc, append-nil, inl, inr, arith, drop, get_or, map, take, Option, Some, None}
+use Rattle.std.proofs.Common.{Result}
 use Rattle.std.proofs.Common.{Ok, Err}
-use Rattle.std.specs.Prelude.{⊤, Bool, true, false, Contains, IfOk, IsErrOf, OnErr, filter, not, ◌==◌}
+use Rattle.std.specs.Prelude.{Contains, IfOk, IsErrOf, OnErr}
 use Rattle.std.specs.Option.{option_map}
 use Rattle.std.specs.List.{AllZip, flat_map, sum_by, zip}
 use Rattle.std.proofs.lemmas.Bool.Decides.{eqb_tells}
@@ -11,13 +12,12 @@ use Rattle.std.proofs.lemmas.List.Elements.{Contains-push_cases, Contains-append
 use Rattle.std.proofs.lemmas.List.Elements.{Contains-append_cases}
 use Rattle.std.proofs.lemmas.List.{drop_more, map_push, take_all, take_more}
 use Rattle.std.proofs.lemmas.List.Sums.{sum_by-append}
-use Rattle.js_base.specs.Counts.{Rose, last_count}
+use Rattle.js_base.specs.Counts.{Rose}
 use Rattle.js_base.proofs.Lists.{zip_push}
 use Rattle.child_programs.specs.Children.{without}
 use Rattle.child_programs.specs.declared.spawner.SpawnError.{SpawnError}
 use Rattle.child_programs.specs.declared.spawner.SpawnError.TheVariants as error
 use Rattle.launch.specs.declared.child_end.ChildEnd.{ChildEnd}
-use Rattle.launch.specs.declared.child_end.ChildEnd.TheVariants.{Ended, NotStarted, NotWaited, NoMemory}
 use Rattle.launch.specs.Launching.{AllEnded, AllStarted, AreApart, AreLive, Launched, Spawned, Waited}
 use Rattle.launch.specs.Launching.{children, failures, given, requests, statuses, without_started}
 use Rattle.launch.specs.Starts.{Answers, Grew, MayEnd, RoseBy, SpawnerState, Start, unasked, childless, started}
@@ -43,7 +43,8 @@ grew_by {A = A} xs ys one two same grew = subst (λ (more : List A). Grew more o
 pub rose_none : (count : ℕ) → RoseBy 0 count count
 rose_none count = record { least = inl (omega arith); more = omega arith; calm = λ _. refl }
 
-pub rose_on : (many more one two three : ℕ) → RoseBy many one two → RoseBy more two three → RoseBy (many + more) one three
+pub rose_on : (many more one two three : ℕ) → RoseBy many one two → RoseBy more two three → RoseBy (many + more) one
+    three
 rose_on many more one two three first second = record {
   least = elim first.least [
     | inl rose ↦ elim second.least [
@@ -78,22 +79,23 @@ at_front child others = (0, omega arith, refl)
 apart_push : (others more : List ℕ) (child : ℕ) → AreApart others more → (Contains (others ++ more) child → ⊥) →
     AreApart others (more ++ child ∷ [])
 apart_push others [] child apart fresh = (
-    λ has. fresh (Contains-append_left others [] child has),
-    λ has. omega (arith, has.1),
-    tt,
-  )
+  λ has. fresh (Contains-append_left others [] child has),
+  λ has. omega (arith, has.1),
+  tt,
+)
 apart_push others (one ∷ more) child apart fresh = (
-    apart.0,
-    λ has. elim (Contains-push_cases more child one has) [
-      | inl there ↦ apart.1 there
-      | inr same ↦ fresh (Contains-append_right others (one ∷ more) child
-          (subst (λ (n : ℕ). Contains (one ∷ more) n) (sym same) (at_front one more)))
-    ],
-    apart_push others more child apart.2 (λ has. elim (Contains-append_cases others more child has) [
-      | inl there ↦ fresh (Contains-append_left others (one ∷ more) child there)
-      | inr there ↦ fresh (Contains-append_right others (one ∷ more) child (Contains-append_right (one ∷ []) more child there))
-    ]),
-  )
+  apart.0,
+  λ has. elim (Contains-push_cases more child one has) [
+    | inl there ↦ apart.1 there
+    | inr same ↦ fresh (Contains-append_right others (one ∷ more) child
+        (subst (λ (n : ℕ). Contains (one ∷ more) n) (sym same) (at_front one more)))
+  ],
+  apart_push others more child apart.2 (λ has. elim (Contains-append_cases others more child has) [
+    | inl there ↦ fresh (Contains-append_left others (one ∷ more) child there)
+    | inr there ↦ fresh (Contains-append_right others (one ∷ more) child (Contains-append_right (one ∷ []) more child
+        there))
+  ]),
+)
 
 kept : (child : ℕ) (others : List ℕ) → (Contains others child → ⊥) → without child others ≡ others
 kept child [] none = refl
@@ -113,7 +115,8 @@ without_front [] rest child none behind = elim (eqb_tells child child) [
 without_front (one ∷ others) rest child none behind = elim (eqb_tells one child) [
   | inl same ↦ absurd (none (subst (λ (n : ℕ). Contains (one ∷ others) n) same.1 (at_front one others)))
   | inr apart ↦
-      let left = without_front others rest child (λ has. none (Contains-append_right (one ∷ []) others child has)) behind in
+      let left = without_front others rest child (λ has. none (Contains-append_right (one ∷ []) others child has))
+      behind in
       rw (apart.0) (ap (λ (list : List ℕ). one ∷ list) left)
 ]
 
@@ -124,7 +127,8 @@ pub zip_front : {A B : Type 0} (xs : List A) (ys : List B) (x : A) (y : B) → l
 zip_front {A = A} {B = B} [] [] x y long = refl
 zip_front {A = A} {B = B} [] (b ∷ ys) x y long = absurd (omega (arith, long))
 zip_front {A = A} {B = B} (a ∷ xs) [] x y long = absurd (omega (arith, long))
-zip_front {A = A} {B = B} (a ∷ xs) (b ∷ ys) x y long = ap (λ (more : List (A × B)). (a, b) ∷ more) (zip_front xs ys x y (omega (arith, long)))
+zip_front {A = A} {B = B} (a ∷ xs) (b ∷ ys) x y long = ap (λ (more : List (A × B)). (a, b) ∷ more) (zip_front xs ys x
+    y (omega (arith, long)))
 
 one_of : {X A : Type 0} (f : X → List A) (x : X) → flat_map f (x ∷ []) ≡ f x
 one_of f x = append-nil (f x)
@@ -166,7 +170,10 @@ one_started program words one answers answer old now new so_far last = record {
   asked = grew_by _ _ old.asked new.asked
       (ap (flat_map (λ (w : List (List ℕ) × Start). request_of program w.0 w.1))
       (zip_front words so_far.starts one last.start so_far.many)
-      ∙ flat_more (λ (w : List (List ℕ) × Start). request_of program w.0 w.1) (zip words so_far.starts) (one, last.start))
+      ∙ flat_more (λ (w : List (List ℕ) × Start). request_of program w.0 w.1) (zip words so_far.starts) (
+        one,
+        last.start,
+      ))
       (grew_on (requests program words so_far.starts) (request_of program one last.start) old.asked now.asked new.asked
       so_far.asked last.asked);
   gave = grew_by _ _ old.gave new.gave (flat_more given_by so_far.starts last.start)
@@ -177,7 +184,8 @@ one_started program words one answers answer old now new so_far last = record {
       ∙ ap (λ (list : List ℕ). old.live ++ list) (sym (flat_more child_of answers answer));
   apart = subst (AreApart old.live) (sym (flat_more child_of answers answer))
       (apart_more old.live (children answers) answer so_far.apart
-      (λ child new_one has. last.fresh child new_one (subst (λ (list : List ℕ). Contains list child) (sym so_far.live) has)));
+      (λ child new_one has. last.fresh child new_one (subst (λ (list : List ℕ). Contains list child) (sym so_far.live)
+      has)));
   faults = rose_as _ _ old.faults new.faults
       (sum_by-append failed_start answers (answer ∷ []) ∙ ap (λ (n : ℕ). so_far_count + n) (sum_one answer))
       (rose_on so_far_count (failed_start answer) old.faults now.faults new.faults so_far.faults last.faults);
@@ -185,12 +193,14 @@ one_started program words one answers answer old now new so_far last = record {
   where
     so_far_count : ℕ
     so_far_count = sum_by failed_start answers
+
     sum_one : (one : Result ℕ SpawnError) → sum_by failed_start (one ∷ []) ≡ failed_start one
     sum_one one = omega arith
 
 -- ---- one wait after others
 
-wait_front : (others live rest : List ℕ) (answer : Result ℕ SpawnError) → AreLive others live (child_of answer ++ rest) →
+wait_front : (others live rest : List ℕ) (answer : Result ℕ SpawnError) → AreLive others live (child_of answer ++
+    rest) →
     AreLive others (without_started answer live) rest
 wait_front others live rest (Ok child) old = record {
   live_is = ap (without child) old.live_is ∙ without_front others rest child old.apart.0 old.apart.1;
@@ -243,7 +253,11 @@ one_ended done left answer ends end before old now new so_far last = record {
       (grew_on (statuses done ends) (end_of answer end) old.ended now.ended new.ended so_far.ended last.ended);
   faults = rose_as (failure end + rest) _ before new.faults
       (ap (λ (n : ℕ). sum_by failed_start left + n) (sum_by-append failure ends (end ∷ [])) ∙ omega arith)
-      (last.faults before rest (rose_as _ _ before now.faults (omega (arith, sum_by-append failed_start (answer ∷ []) left))
+      (last.faults before rest (rose_as _ _ before now.faults (omega (
+        arith,
+        sum_by-append failed_start (answer ∷ [])
+            left,
+      ))
       so_far.faults));
 }
   where
@@ -318,52 +332,57 @@ spawned program words (Ok child) old new live fresh err asked gave gave_none mem
   where
     not_err : ◌≡◌ {A = Result ℕ SpawnError} (Ok child) (Err error.OutOfMemory) → ⊥
     not_err is = cc
+
     not_failed : ◌≡◌ {A = Result ℕ SpawnError} (Ok child) (Err error.Failed) → ⊥
     not_failed is = cc
+
     only_one : {number : ℕ} → Contains (child ∷ []) number → number ≡ child
     only_one {number} has = elim (Contains-push_cases [] child number has) [
       | inl none ↦ absurd (omega (arith, none.1))
       | inr same ↦ sym same
     ]
-spawned program words (Err error.Failed) old new live fresh err asked gave gave_none memory ended more no_fault cause = record {
-  start = childless;
-  answered = tt;
-  asked = asked (λ is. absurd (not_memory is));
-  gave = gave_none refl;
-  ended = ended;
-  live = err ∙ sym (append-nil old.live);
-  fresh = λ number new_one has. omega (arith, new_one.1);
-  faults = rose_once old.faults new.faults (cause refl) more;
-}
+spawned program words (Err error.Failed) old new live fresh err asked gave gave_none memory ended more no_fault cause
+    = record {
+      start = childless;
+      answered = tt;
+      asked = asked (λ is. absurd (not_memory is));
+      gave = gave_none refl;
+      ended = ended;
+      live = err ∙ sym (append-nil old.live);
+      fresh = λ number new_one has. omega (arith, new_one.1);
+      faults = rose_once old.faults new.faults (cause refl) more;
+    }
   where
     not_memory : ◌≡◌ {A = Result ℕ SpawnError} (Err error.Failed) (Err error.OutOfMemory) → ⊥
     not_memory is = cc
-spawned program words (Err error.OutOfMemory) old new live fresh err asked gave gave_none memory ended more no_fault cause =
+spawned program words (Err error.OutOfMemory) old new live fresh err asked gave gave_none memory ended more no_fault
+    cause =
     elim (memory refl) [
       | inl none ↦ record {
-          start = unasked;
-          answered = tt;
-          asked = subst (Grew [] old.asked) (sym none.0) (grew_none old.asked);
-          gave = subst (Grew [] old.gave) (sym none.1) (grew_none old.gave);
-          ended = ended;
-          live = err ∙ sym (append-nil old.live);
-          fresh = λ number new_one has. omega (arith, new_one.1);
-          faults = calm;
-        }
+        start = unasked;
+        answered = tt;
+        asked = subst (Grew [] old.asked) (sym none.0) (grew_none old.asked);
+        gave = subst (Grew [] old.gave) (sym none.1) (grew_none old.gave);
+        ended = ended;
+        live = err ∙ sym (append-nil old.live);
+        fresh = λ number new_one has. omega (arith, new_one.1);
+        faults = calm;
+      }
       | inr one ↦ record {
-          start = childless;
-          answered = tt;
-          asked = one.0;
-          gave = one.1;
-          ended = ended;
-          live = err ∙ sym (append-nil old.live);
-          fresh = λ number new_one has. omega (arith, new_one.1);
-          faults = calm;
-        }
+        start = childless;
+        answered = tt;
+        asked = one.0;
+        gave = one.1;
+        ended = ended;
+        live = err ∙ sym (append-nil old.live);
+        fresh = λ number new_one has. omega (arith, new_one.1);
+        faults = calm;
+      }
     ]
   where
     not_failed : ◌≡◌ {A = Result ℕ SpawnError} (Err error.OutOfMemory) (Err error.Failed) → ⊥
     not_failed is = cc
+
     calm : RoseBy 0 old.faults new.faults
     calm = record {
       least = inl (omega (arith, more));

@@ -22,7 +22,8 @@ IsRun words run =
     (words ≡ run.program ∷ run.hosts ∷ run.start ∷ run.turns ∷ [])
     × ((turns : ℕ) × IsStepCount turns × (run.turns ≡ decimal turns))
 
--- The hosts of a host file of this name, which alone is loaded. Otherwise it is absent, could not be read, or is refused.
+-- The hosts of a host file of this name, which alone is loaded. Otherwise it is absent, could not be read, or is
+-- refused.
 abbrev pub HostsOf : List ℕ → FilesChange → Outcome HostsShape → Type 0
 HostsOf name files (given file) =
     (bytes : List ℕ) × Told files.held name (Some bytes) × LoadsWell 1 files × HostsRead bytes (given file)

@@ -27,9 +27,10 @@ statuses answers ends = flat_map (λ one. end_of one.0 one.1) (zip answers ends)
 abbrev pub failures : List ChildEnd → ℕ
 failures ends = sum_by failure ends
 
--- What a launch leaves of a spawner. To each list of words there is what came of its request, the answer of `spawn`, and
--- an end. Requests were made in the order of the lists, and children were waited for in this order too; none is left to
--- be waited for. So the status of an end is the one that `wait` gave for the child that was started for these words.
+-- What a launch leaves of a spawner. To each list of words there is what came of its request, the answer of `spawn`,
+-- and an end. Requests were made in the order of the lists, and children were waited for in this order too; none is
+-- left to be waited for. So the status of an end is the one that `wait` gave for the child that was started for these
+-- words.
 pub record Launched (program : List ℕ) (words : List (List (List ℕ))) (ends : List ChildEnd) (old new : SpawnerState)
     : Type 0 where
   pub starts : List Start

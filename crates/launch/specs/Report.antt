@@ -1,5 +1,5 @@
 -- The words with which the node of a host is started, and what is printed of how nodes ended.
-use Rattle.std.specs.Prelude.{ℕ, pos, ◌++◌, ◌||◌, Bool, true, false, not, if◌then◌else◌, List, [], ◌∷◌, codes, map}
+use Rattle.std.specs.Prelude.{ℕ, pos, ◌++◌, Bool, true, false, not, if◌then◌else◌, List, [], ◌∷◌, codes, map}
 use Rattle.std.specs.List.{flat_map, list_any, zip}
 use Rattle.std.specs.Fmt.{signed_decimal}
 use Rattle.std.specs.Ordering.{int_eq}

@@ -1,6 +1,5 @@
 -- What a spawner says of itself at a moment, what comes of one start, and how the child ends.
 use Rattle.std.specs.Prelude.{◌≡◌, ◌+◌, ◌≤◌, ◌++◌, ◌⊎◌, ℕ, ℤ, ⊤, List, [], ◌∷◌, Option, Some, None, Result, Ok, Err}
-use Rattle.std.specs.Prelude.{Contains}
 use Rattle.std.specs.Option.{option_map}
 use Rattle.js_base.specs.Counts.{last_count}
 use Rattle.child_programs.specs.declared.spawner.SpawnError.{SpawnError}

@@ -1,6 +1,7 @@
 //! What is due for the words: from a host file to a report of how nodes ended, or to a refusal.
 
-ghost use Rattle.std.specs.Prelude.{◌≡◌, ◌≤◌, ◌+◌, map, string_bytes, IfErr, IfNone, IfOk, IfSome};
+ghost use Rattle.std.specs.Prelude.{◌≡◌, ◌≤◌, ◌+◌, map, string_bytes, IfErr, IfNone, IfOk, IfSome, MatchResult};
+ghost use Rattle.front_end.specs.declared.stop.Stop.TheVariants as stops;
 ghost use Rattle.front_end.specs.Loading.{EndsAs};
 ghost use Rattle.front_end.specs.Loads.{AreKept, files_change};
 ghost use Rattle.front_end.specs.Verdicts.{verdict_shape};
@@ -46,8 +47,17 @@ pub fn due<F: Files, P: Spawner>(
     };
     match hosts_of(alloc, run.hosts, files) {
         Ok(hosts) => launched(alloc, &run, &hosts, spawner),
-        Err(Stop::Due(verdict)) => Ok(verdict),
-        Err(Stop::OutOfMemory) => Err(OutOfMemory),
+        Err(stop) => verdict_at(stop),
+    }
+}
+
+/// What is due where a run goes no further.
+fn verdict_at(stop: Stop) -> Result<Verdict, OutOfMemory>
+    ensures { MatchResult result (λ verdict. stop ≡ stops.Due verdict) (λ _. stop ≡ stops.OutOfMemory) }
+{
+    match stop {
+        Stop::Due(verdict) => Ok(verdict),
+        Stop::OutOfMemory => Err(OutOfMemory),
     }
 }
 

@@ -1,12 +1,11 @@
 //! The top call, from words and files to a status and what is put out.
 
 ghost use Rattle.std.specs.Prelude.{◌≡◌, ◌≤◌, ◌+◌, codes, map, string_bytes};
-ghost use Rattle.js_base.specs.Counts.{Rose};
 ghost use Rattle.js_base.specs.declared.status.Status.{Status};
 ghost use Rattle.front_end.specs.Answers.{AnswersTo, sink_change};
 ghost use Rattle.front_end.specs.Loads.{AreKept, files_change};
 ghost use Rattle.launch.specs.Due.{IsDue, IsUndue};
-ghost use Rattle.launch.specs.Starts.{spawner_state};
+ghost use Rattle.launch.specs.Starts.{RoseBy, spawner_state};
 
 use crate::due::due;
 use child_programs::Spawner;
@@ -20,9 +19,9 @@ const PROGRAM: &str = "jifrun";
 /// The line that says that memory ran out.
 const NO_MEMORY: &str = "jifrun: no memory\n";
 
-/// Runs `jifrun` on the words after its name: the names of a program, a host file and a file of starting values, and how
-/// many turns each node may make. It starts `jifhost` for each host of the host file, in order, waits for each, and puts
-/// a line on `out` for each that says how it ended. The host file alone is read here; the nodes read all three.
+/// Runs `jifrun` on the words after its name: the names of a program, a host file and a file of starting values, and
+/// how many turns each node may make. It starts `jifhost` for each host of the host file, in order, waits for each, and
+/// puts a line on `out` for each that says how it ended. The host file alone is read here; the nodes read all three.
 ///
 /// - `Done`: each node ended with 0.
 /// - `ChildEnded`: some node ended with another status.
@@ -43,7 +42,8 @@ pub fn jifrun<F: Files, P: Spawner, S: Sink, E: Sink>(
     out: &mut S,
     err: &mut E,
 ) -> Status
-    // What is answered and put out is what is due. Where memory runs out before, nothing was launched, or all nodes were.
+    // What is answered and put out is what is due. Where memory runs out before, nothing was launched, or all nodes
+    // were.
     ensures answer { AnswersTo (codes "jifrun")
         (IsUndue (map string_bytes words.now)
         (files_change F.Files files.old files.new)
@@ -57,7 +57,7 @@ pub fn jifrun<F: Files, P: Spawner, S: Sink, E: Sink>(
     // Whatever it answers, each child that it started was waited for.
     ensures live { P.live spawner.new ≡ P.live spawner.old }
     // It answers that a child was not started or not waited for only where the spawner counted a fault.
-    ensures child_cause { result ≡ Status.ChildFault → Rose (P.faults spawner.old) (P.faults spawner.new) }
+    ensures child_cause { result ≡ Status.ChildFault → RoseBy 1 (P.faults spawner.old) (P.faults spawner.new) }
     // Whatever it answers, it asks for one load at most, saves nothing, and leaves what is held.
     ensures loads { F.loads files.new ≤ F.loads files.old + 1 }
     ensures kept { AreKept (files_change F.Files files.old files.new) }

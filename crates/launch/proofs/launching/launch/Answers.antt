@@ -1,4 +1,3 @@
-use Rattle.std.proofs.Common.{rules, ◌≡◌, refl, sym, subst}
 use Rattle.launch.specs.Starts.{SpawnerState, spawner_state}
 use Rattle.launch.proofs.Starting.{launched}
 use Rattle.launch.proofs.launching.launch.Goals as goal

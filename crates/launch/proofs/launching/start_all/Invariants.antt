@@ -1,4 +1,4 @@
-use Rattle.std.proofs.Common.{◌≡◌, ◌≤◌, ℕ, length, map, take}
+use Rattle.std.proofs.Common.{◌≡◌, ◌≤◌, length, map, take}
 use Rattle.std.specs.Prelude.{string_bytes}
 use Rattle.std.specs.Vec.{vec_capacity}
 use Rattle.launch.specs.Launching.{AllStarted}

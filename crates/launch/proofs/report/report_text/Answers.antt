@@ -1,5 +1,5 @@
-use Rattle.std.proofs.Common.{rules, ◌≡◌, ◌++◌, ◌∙◌, List, ℕ, get_or, map, take, ap, sym}
-use Rattle.std.specs.Prelude.{pos, string_bytes}
+use Rattle.std.proofs.Common.{◌++◌, ◌∙◌, List, ℕ, get_or, map, take, ap, sym}
+use Rattle.std.specs.Prelude.{pos}
 use Rattle.launch.specs.declared.child_end.ChildEnd.{ChildEnd}
 use Rattle.launch.specs.declared.child_end.ChildEnd.TheVariants.{Ended}
 use Rattle.launch.specs.Report.{end_line, report}
