@@ -22,11 +22,11 @@ fn starts_and_waits(rt: HostRuntime) -> Result<(), Fail> {
     let Ok(yes) = spawner.spawn(alloc, "true", &none) else {
         return Err(Fail::from("not started"));
     };
+    assert!(rt; spawner.wait(yes) == Ok(0));
     let Ok(no) = spawner.spawn(alloc, "false", &none) else {
         return Err(Fail::from("not started"));
     };
     assert!(rt; spawner.wait(no) == Ok(1));
-    assert!(rt; spawner.wait(yes) == Ok(0));
     assert!(rt; spawner.spawn(alloc, "no_such_program", &none) == Err(SpawnError::Failed));
     Ok(())
 }

@@ -10,5 +10,3 @@ pub mod FirstFlights
 pub mod Walks
 pub mod HeldJournals
 pub mod Merged
-pub mod ReadJournals
-pub mod OneMerge
