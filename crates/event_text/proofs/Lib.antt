@@ -1,6 +1,7 @@
 pub mod BadAgain
 pub mod BadBits
 pub mod Fronts
+pub mod JournalLines
 pub mod MarkedParts
 pub mod MadeParts
 pub mod Naming

@@ -83,3 +83,9 @@ bad_word = dark_word (codes "bad") (omega arith) refl
 
 pub set_word : IsWord (codes "set")
 set_word = dark_word (codes "set") (omega arith) refl
+
+pub take_word : IsWord (codes "take")
+take_word = dark_word (codes "take") (omega arith) refl
+
+pub send_word : IsWord (codes "send")
+send_word = dark_word (codes "send") (omega arith) refl

@@ -93,6 +93,12 @@ filled_words (part ∷ parts) all = elim (cases_Bool (is_filled part)) [
 words_are : (line : List ℕ) → AllByRecursion IsWord (words line)
 words_are line = filled_words (slice_split is_blank line) (parts_plain line)
 
+-- a word before a space is the first of the line
+pub word_then : (word : Word) (line : List ℕ) → IsWord word → words (word ++ 32 ∷ line) ≡ word ∷ words line
+word_then word line is =
+    ap (filter is_filled) (slice_split_at is_blank word 32 line is.plain refl)
+    ∙ kept word (slice_split is_blank line) is.some
+
 -- ---- and joined by spaces they are those words
 
 pub joined_words : (said : List Word) → AllByRecursion IsWord said → words (joined 32 said) ≡ said
@@ -100,9 +106,7 @@ joined_words [] all = refl
 joined_words (word ∷ []) all =
     ap (filter is_filled) (slice_split_none is_blank word all.0.plain) ∙ kept word [] all.0.some
 joined_words (word ∷ next ∷ others) all =
-    let rest : List Word = next ∷ others in
-    ap (filter is_filled) (slice_split_at is_blank word 32 (joined 32 rest) all.0.plain refl)
-    ∙ kept word (slice_split is_blank (joined 32 rest)) all.0.some
+    word_then word (joined 32 (next ∷ others)) all.0
     ∙ ap (λ (ws : List Word). word ∷ ws) (joined_words (next ∷ others) all.1)
 
 pub words_again : (line : List ℕ) → words (joined 32 (words line)) ≡ words line

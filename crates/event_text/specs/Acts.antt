@@ -13,6 +13,8 @@ use Rattle.event_text.specs.declared.event.BadMessage.{BadMessage}
 use Rattle.event_text.specs.declared.event.BadMessage.TheVariants as bad
 use Rattle.event_text.specs.declared.event.BadToken.{BadToken}
 use Rattle.event_text.specs.declared.event.BadToken.TheVariants.{Sent, Own}
+use Rattle.event_text.specs.declared.tokens.Tokens.{Tokens}
+use Rattle.event_text.specs.declared.tokens.Tokens.TheVariants.{Presented, Printed}
 use Rattle.event_text.specs.Numbers.{number_of, signed_of}
 use Rattle.event_text.specs.Parts.{host_named, field_of, variable_of, parts, colon, request_of, frame_of, entry_of}
 use Rattle.event_text.specs.Words.{Word, one_word, two_words, three_words, four_words, of_two, of_three, of_four}
@@ -47,7 +49,18 @@ token_of hosts word (byte ∷ bytes) =
     then option_map (λ number. Sent number) (number_of bytes)
     else own_in hosts word (parts colon (byte ∷ bytes))
 
--- ---- messages, by what stands behind their kind
+-- `HOST:FRAME:ENTRY:SERIAL`, a token of any host, as reports and journals print it
+abbrev pub printed_token : List CodeHostShape → Word → Option BadToken
+printed_token hosts word =
+    option_and_then (λ it. of_four own_token (host_named hosts it.0) (frame_of it.1) (entry_of it.2) (number_of it.3))
+    (four_words (parts colon word))
+
+-- the token that a word writes, where tokens are written so
+abbrev pub read_token : List CodeHostShape → Tokens → Word → Option BadToken
+read_token hosts (Presented bad) = token_of hosts bad
+read_token hosts Printed = printed_token hosts
+
+-- ---- messages, by what stands behind their kind, and by what reads their tokens
 
 abbrev pub get_of : CodeShape → List Word → Option BadMessage
 get_of code words =
@@ -64,15 +77,15 @@ forward_of code words =
     option_and_then (λ it. of_four (λ request frame variable value. bad.Forward request frame variable value)
     (request_of it.0) (frame_of it.1) (variable_of code.variables it.2) (signed_of it.3)) (four_words words)
 
-abbrev pub sync_of : CodeShape → ℕ → List Word → Option BadMessage
-sync_of code word words =
+abbrev pub sync_by : CodeShape → (Word → Option BadToken) → List Word → Option BadMessage
+sync_by code reads words =
     option_and_then (λ it. of_four (λ request frame entry token. bad.Sync request frame entry token)
-    (request_of it.0) (frame_of it.1) (entry_of it.2) (token_of code.hosts word it.3)) (four_words words)
+    (request_of it.0) (frame_of it.1) (entry_of it.2) (reads it.3)) (four_words words)
 
-abbrev pub rgoto_of : CodeShape → ℕ → List Word → Option BadMessage
-rgoto_of code word words =
+abbrev pub rgoto_by : CodeShape → (Word → Option BadToken) → List Word → Option BadMessage
+rgoto_by code reads words =
     option_and_then (λ it. of_three (λ frame entry token. bad.Rgoto frame entry token)
-    (frame_of it.0) (entry_of it.1) (token_of code.hosts word it.2)) (three_words words)
+    (frame_of it.0) (entry_of it.1) (reads it.2)) (three_words words)
 
 -- a variable and a value for it
 abbrev pub rider_of : CodeShape → Word → Word → Option Rider
@@ -87,21 +100,21 @@ riders_in code (name ∷ value ∷ words) =
     of_two (λ rider riders. rider ∷ riders) (rider_of code name value) (riders_in code words)
 
 -- an rgoto with which 1 to 8 values ride
-abbrev pub rgoto_with_of : CodeShape → ℕ → List Word → Option BadMessage
-rgoto_with_of code word (frame ∷ entry ∷ token ∷ mark ∷ words) =
+abbrev pub rgoto_with_by : CodeShape → (Word → Option BadToken) → List Word → Option BadMessage
+rgoto_with_by code reads (frame ∷ entry ∷ token ∷ mark ∷ words) =
     if bytes_eq mark (codes "with")
     then of_four (λ frame entry token riders. bad.RgotoWith frame entry token riders) (frame_of frame) (entry_of entry)
-    (token_of code.hosts word token) (option_and_then riders_from (riders_in code words))
+    (reads token) (option_and_then riders_from (riders_in code words))
     else None
-rgoto_with_of code word words = None
+rgoto_with_by code reads words = None
 
 -- an rgoto with riders or without
-abbrev pub any_rgoto_of : CodeShape → ℕ → List Word → Option BadMessage
-any_rgoto_of code word words = or_else (rgoto_of code word words) (rgoto_with_of code word words)
+abbrev pub any_rgoto_by : CodeShape → (Word → Option BadToken) → List Word → Option BadMessage
+any_rgoto_by code reads words = or_else (rgoto_by code reads words) (rgoto_with_by code reads words)
 
-abbrev pub lgoto_of : CodeShape → ℕ → List Word → Option BadMessage
-lgoto_of code word words =
-    option_and_then (λ it. option_map (λ token. bad.Lgoto token) (token_of code.hosts word it)) (one_word words)
+abbrev pub lgoto_by : CodeShape → (Word → Option BadToken) → List Word → Option BadMessage
+lgoto_by code reads words =
+    option_and_then (λ it. option_map (λ token. bad.Lgoto token) (reads it)) (one_word words)
 
 abbrev pub value_of : List Word → Option BadMessage
 value_of words =
@@ -111,24 +124,47 @@ value_of words =
 abbrev pub ack_of : List Word → Option BadMessage
 ack_of words = option_and_then (λ it. option_map (λ request. bad.Ack request) (request_of it)) (one_word words)
 
-abbrev pub answer_of : CodeShape → ℕ → List Word → Option BadMessage
-answer_of code word words =
+abbrev pub answer_by : CodeShape → (Word → Option BadToken) → List Word → Option BadMessage
+answer_by code reads words =
     option_and_then (λ it. of_two (λ request token. bad.Token request token)
-    (request_of it.0) (token_of code.hosts word it.1)) (two_words words)
+    (request_of it.0) (reads it.1)) (two_words words)
 
 -- ---- all of them
 
 -- a message, by its kind
-abbrev pub message_of : CodeShape → ℕ → List Word → Option BadMessage
-message_of code word [] = None
-message_of code word (kind ∷ words) =
+abbrev pub message_by : CodeShape → (Word → Option BadToken) → List Word → Option BadMessage
+message_by code reads [] = None
+message_by code reads (kind ∷ words) =
     if bytes_eq kind (codes "get") then get_of code words
     else (if bytes_eq kind (codes "set") then set_of code words
     else (if bytes_eq kind (codes "forward") then forward_of code words
-    else (if bytes_eq kind (codes "sync") then sync_of code word words
-    else (if bytes_eq kind (codes "rgoto") then any_rgoto_of code word words
-    else (if bytes_eq kind (codes "lgoto") then lgoto_of code word words
+    else (if bytes_eq kind (codes "sync") then sync_by code reads words
+    else (if bytes_eq kind (codes "rgoto") then any_rgoto_by code reads words
+    else (if bytes_eq kind (codes "lgoto") then lgoto_by code reads words
     else (if bytes_eq kind (codes "value") then value_of words
     else (if bytes_eq kind (codes "ack") then ack_of words
-    else (if bytes_eq kind (codes "token") then answer_of code word words
+    else (if bytes_eq kind (codes "token") then answer_by code reads words
     else None))))))))
+
+-- a message of a script, where bit h of the word says that host h misbehaves
+abbrev pub sync_of : CodeShape → ℕ → List Word → Option BadMessage
+sync_of code word words = sync_by code (token_of code.hosts word) words
+
+abbrev pub rgoto_of : CodeShape → ℕ → List Word → Option BadMessage
+rgoto_of code word words = rgoto_by code (token_of code.hosts word) words
+
+abbrev pub rgoto_with_of : CodeShape → ℕ → List Word → Option BadMessage
+rgoto_with_of code word words = rgoto_with_by code (token_of code.hosts word) words
+
+abbrev pub lgoto_of : CodeShape → ℕ → List Word → Option BadMessage
+lgoto_of code word words = lgoto_by code (token_of code.hosts word) words
+
+abbrev pub answer_of : CodeShape → ℕ → List Word → Option BadMessage
+answer_of code word words = answer_by code (token_of code.hosts word) words
+
+abbrev pub message_of : CodeShape → ℕ → List Word → Option BadMessage
+message_of code word words = message_by code (token_of code.hosts word) words
+
+-- a message as reports and journals print it, with a tag of zeros in its token
+abbrev pub printed_message : CodeShape → List Word → Option BadMessage
+printed_message code words = message_by code (printed_token code.hosts) words

@@ -1,6 +1,7 @@
 pub mod Acts
 pub mod EventText
 pub mod Events
+pub mod JournalText
 pub mod Lines
 pub mod Misbehaving
 pub mod Numbers

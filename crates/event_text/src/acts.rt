@@ -1,29 +1,38 @@
 //! What a misbehaving host sends, as scripts say it.
 
-ghost use Rattle.std.specs.Prelude.{◌≡◌, ◌≤◌, ◌<◌, ◌⊎◌, ◌↔◌, ◌∷◌, [], length, Some, None, IfSome, IfNone, IsTrue};
+ghost use Rattle.std.specs.Prelude.{◌≡◌, ◌⊎◌, ◌↔◌, ◌∷◌, [], None, IfSome, IfNone, IsTrue, is_some};
 ghost use Rattle.std.specs.Option.{option_map, option_and_then};
 ghost use Rattle.host_code.specs.Riders.{riders_from};
 ghost use Rattle.event_text.specs.Lines.{words};
-ghost use Rattle.event_text.specs.Parts.{parts, colon};
-ghost use Rattle.event_text.specs.Acts.{among, own_in, token_of, get_of, set_of, forward_of, sync_of, rgoto_of};
-ghost use Rattle.event_text.specs.Acts.{riders_in, rgoto_with_of, any_rgoto_of, lgoto_of, value_of, ack_of};
-ghost use Rattle.event_text.specs.Acts.{answer_of, message_of};
+ghost use Rattle.event_text.specs.Acts.{read_token, get_of, set_of, forward_of, sync_by, rgoto_by, riders_in};
+ghost use Rattle.event_text.specs.Acts.{rgoto_with_by, any_rgoto_by, lgoto_by, value_of, ack_of, answer_by};
+ghost use Rattle.event_text.specs.Acts.{message_by, message_of, printed_message};
 
-use crate::event::{BadMessage, BadToken};
-use crate::numbers::{number, signed};
-use crate::parts::{
-    cut, entry_of, field_of, frame_of, host_named, one_part, request_of, variable_of,
-};
+use crate::event::BadMessage;
+use crate::numbers::signed;
+use crate::parts::{entry_of, field_of, frame_of, request_of, variable_of};
+use crate::tokens::{Tokens, token_read};
 use crate::words::{first_word, four_words, one_word, three_words, two_words};
-use capability::{TAG_BYTES, Token};
-use host_code::{Code, CodeHost, MOST_RIDERS, Riders};
-use js_base::bits::has_bit;
-use js_base::limits::HOSTS;
-use js_base::{HostId, VarId};
+use host_code::{Code, MOST_RIDERS, Riders};
+use js_base::VarId;
 
 /// The message that the words of a line say. Bit h of the word says that host h misbehaves.
 pub fn message_of(code: &Code, bad: u16, line: &[u8]) -> Option<BadMessage>
     ensures { result ≡ message_of code.now bad (words line.now) }
+{
+    message_by(code, Tokens::Presented(bad), line)
+}
+
+/// Whether the words of a line say a message as reports and journals print it.
+pub fn says_message(code: &Code, line: &[u8]) -> bool
+    ensures { result ≡ is_some (printed_message code.now (words line.now)) }
+{
+    message_by(code, Tokens::Printed, line).is_some()
+}
+
+/// The message that the words of a line say, where tokens are written so.
+fn message_by(code: &Code, tokens: Tokens, line: &[u8]) -> Option<BadMessage>
+    ensures { result ≡ message_by code.now (read_token code.now.hosts tokens) (words line.now) }
 {
     let (kind, operands) = first_word(line)?;
     if kind == b"get".as_slice() {
@@ -33,17 +42,17 @@ pub fn message_of(code: &Code, bad: u16, line: &[u8]) -> Option<BadMessage>
     } else if kind == b"forward".as_slice() {
         forward_of(code, operands)
     } else if kind == b"sync".as_slice() {
-        sync_of(code, bad, operands)
+        sync_of(code, tokens, operands)
     } else if kind == b"rgoto".as_slice() {
-        any_rgoto_of(code, bad, operands)
+        any_rgoto_of(code, tokens, operands)
     } else if kind == b"lgoto".as_slice() {
-        lgoto_of(code, bad, operands)
+        lgoto_of(code, tokens, operands)
     } else if kind == b"value".as_slice() {
         value_of(operands)
     } else if kind == b"ack".as_slice() {
         ack_of(operands)
     } else if kind == b"token".as_slice() {
-        answer_of(code, bad, operands)
+        answer_of(code, tokens, operands)
     } else {
         None
     }
@@ -95,14 +104,14 @@ fn forward_of(code: &Code, operands: &[u8]) -> Option<BadMessage>
     })
 }
 
-fn sync_of(code: &Code, bad: u16, operands: &[u8]) -> Option<BadMessage>
-    ensures { result ≡ sync_of code.now bad (words operands.now) }
+fn sync_of(code: &Code, tokens: Tokens, operands: &[u8]) -> Option<BadMessage>
+    ensures { result ≡ sync_by code.now (read_token code.now.hosts tokens) (words operands.now) }
 {
     let (request, frame, entry, token) = four_words(operands)?;
     let request = request_of(request)?;
     let frame = frame_of(frame)?;
     let entry = entry_of(entry)?;
-    let token = token_of(code.hosts(), bad, token)?;
+    let token = token_read(code.hosts(), tokens, token)?;
     Some(BadMessage::Sync {
         request,
         frame,
@@ -111,13 +120,13 @@ fn sync_of(code: &Code, bad: u16, operands: &[u8]) -> Option<BadMessage>
     })
 }
 
-fn rgoto_of(code: &Code, bad: u16, operands: &[u8]) -> Option<BadMessage>
-    ensures { result ≡ rgoto_of code.now bad (words operands.now) }
+fn rgoto_of(code: &Code, tokens: Tokens, operands: &[u8]) -> Option<BadMessage>
+    ensures { result ≡ rgoto_by code.now (read_token code.now.hosts tokens) (words operands.now) }
 {
     let (frame, entry, token) = three_words(operands)?;
     let frame = frame_of(frame)?;
     let entry = entry_of(entry)?;
-    let token = token_of(code.hosts(), bad, token)?;
+    let token = token_read(code.hosts(), tokens, token)?;
     Some(BadMessage::Rgoto {
         frame,
         entry,
@@ -126,18 +135,18 @@ fn rgoto_of(code: &Code, bad: u16, operands: &[u8]) -> Option<BadMessage>
 }
 
 /// An rgoto with riders or without.
-fn any_rgoto_of(code: &Code, bad: u16, operands: &[u8]) -> Option<BadMessage>
-    ensures { result ≡ any_rgoto_of code.now bad (words operands.now) }
+fn any_rgoto_of(code: &Code, tokens: Tokens, operands: &[u8]) -> Option<BadMessage>
+    ensures { result ≡ any_rgoto_by code.now (read_token code.now.hosts tokens) (words operands.now) }
 {
-    match rgoto_of(code, bad, operands) {
+    match rgoto_of(code, tokens, operands) {
         Some(made) => Some(made),
-        None => rgoto_with_of(code, bad, operands),
+        None => rgoto_with_of(code, tokens, operands),
     }
 }
 
 /// An rgoto with which 1 to 8 values ride.
-fn rgoto_with_of(code: &Code, bad: u16, operands: &[u8]) -> Option<BadMessage>
-    ensures { result ≡ rgoto_with_of code.now bad (words operands.now) }
+fn rgoto_with_of(code: &Code, tokens: Tokens, operands: &[u8]) -> Option<BadMessage>
+    ensures { result ≡ rgoto_with_by code.now (read_token code.now.hosts tokens) (words operands.now) }
 {
     let (frame, rest) = first_word(operands)?;
     let (entry, rest) = first_word(rest)?;
@@ -148,7 +157,7 @@ fn rgoto_with_of(code: &Code, bad: u16, operands: &[u8]) -> Option<BadMessage>
     }
     let frame = frame_of(frame)?;
     let entry = entry_of(entry)?;
-    let token = token_of(code.hosts(), bad, token)?;
+    let token = token_read(code.hosts(), tokens, token)?;
     let pairs = riders_of(code, rest)?;
     Some(BadMessage::RgotoWith {
         frame,
@@ -199,11 +208,11 @@ fn is_blank_line(line: &[u8]) -> bool
     first_word(line).is_none()
 }
 
-fn lgoto_of(code: &Code, bad: u16, operands: &[u8]) -> Option<BadMessage>
-    ensures { result ≡ lgoto_of code.now bad (words operands.now) }
+fn lgoto_of(code: &Code, tokens: Tokens, operands: &[u8]) -> Option<BadMessage>
+    ensures { result ≡ lgoto_by code.now (read_token code.now.hosts tokens) (words operands.now) }
 {
     let token = one_word(operands)?;
-    let token = token_of(code.hosts(), bad, token)?;
+    let token = token_read(code.hosts(), tokens, token)?;
     Some(BadMessage::Lgoto { token })
 }
 
@@ -224,61 +233,11 @@ fn ack_of(operands: &[u8]) -> Option<BadMessage>
     Some(BadMessage::Ack { request })
 }
 
-fn answer_of(code: &Code, bad: u16, operands: &[u8]) -> Option<BadMessage>
-    ensures { result ≡ answer_of code.now bad (words operands.now) }
+fn answer_of(code: &Code, tokens: Tokens, operands: &[u8]) -> Option<BadMessage>
+    ensures { result ≡ answer_by code.now (read_token code.now.hosts tokens) (words operands.now) }
 {
     let (request, token) = two_words(operands)?;
     let request = request_of(request)?;
-    let token = token_of(code.hosts(), bad, token)?;
+    let token = token_read(code.hosts(), tokens, token)?;
     Some(BadMessage::Token { request, token })
-}
-
-/// The token that a word writes.
-fn token_of(hosts: &[CodeHost], bad: u16, word: &[u8]) -> Option<BadToken>
-    requires { length hosts.now ≤ HOSTS }
-    ensures { result ≡ token_of hosts.now bad word.now }
-{
-    match word {
-        [] => None,
-        [b'#', digits @ ..] => Some(BadToken::Sent(number(digits)?)),
-        _ => own_token(hosts, bad, word),
-    }
-}
-
-/// The token of a misbehaving host that a word writes.
-fn own_token(hosts: &[CodeHost], bad: u16, word: &[u8]) -> Option<BadToken>
-    requires { length hosts.now ≤ HOSTS }
-    ensures { result ≡ own_in hosts.now bad (parts colon word.now) }
-{
-    let (mark, rest) = cut(word, b':')?;
-    if mark != b"own".as_slice() {
-        return None;
-    }
-    let (host, rest) = cut(rest, b':')?;
-    let (frame, rest) = cut(rest, b':')?;
-    let (entry, rest) = cut(rest, b':')?;
-    let serial = one_part(rest, b':')?;
-    let host = among(bad, host_named(hosts, host)?)?;
-    let frame = frame_of(frame)?;
-    let entry = entry_of(entry)?;
-    let serial = number(serial)?;
-    Some(BadToken::Own(Token {
-        host,
-        frame,
-        entry,
-        serial,
-        tag: [0; TAG_BYTES],
-    }))
-}
-
-/// The host where it misbehaves.
-fn among(bad: u16, host: HostId) -> Option<HostId>
-    requires { host.0 < HOSTS }
-    ensures { result ≡ among bad (Some host) }
-{
-    if has_bit(bad as u64, host.0) {
-        Some(host)
-    } else {
-        None
-    }
 }

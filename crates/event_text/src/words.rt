@@ -1,6 +1,6 @@
 //! The words of a line.
 
-ghost use Rattle.std.specs.Prelude.{◌≡◌, ◌≤◌, [], ◌∷◌, length, Some, None, IfSome, IfNone};
+ghost use Rattle.std.specs.Prelude.{◌≡◌, ◌≤◌, ◌<◌, [], ◌∷◌, length, Some, None, IfSome, IfNone};
 ghost use Rattle.std.specs.List.{prefix_len, position_or_len};
 ghost use Rattle.event_text.specs.Lines.{is_blank, words};
 ghost use Rattle.event_text.specs.Words.{one_word, two_words, three_words, four_words};
@@ -16,6 +16,7 @@ fn is_blank(byte: u8) -> bool
 pub fn first_word(line: &[u8]) -> Option<(&[u8], &[u8])>
     ensures none { IfNone result (words line.now ≡ []) }
     ensures some { IfSome result (λ parts. words line.now ≡ parts.0.now ∷ words parts.1.now) }
+    ensures shorter { IfSome result (λ parts. length parts.1.now < length line.now) }
 {
     let rest = &line[blanks_before(line)..];
     if rest.is_empty() {
