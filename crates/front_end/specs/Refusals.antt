@@ -54,6 +54,7 @@ pub data RefusalShape : Type 0 where
   NoHost : (name : List ℕ) → RefusalShape
   OtherHosts : (code hosts : List ℕ) → RefusalShape
   NoKey : (file host : List ℕ) → RefusalShape
+  WrongJournals : RefusalShape
 
 -- what a refusal of the program says
 abbrev pub refusal_shape : native.Refusal → RefusalShape
@@ -74,6 +75,7 @@ refusal_shape (variants.BadCode file why) = BadCode (string_bytes file) why
 refusal_shape (variants.NoHost name) = NoHost (string_bytes name)
 refusal_shape (variants.OtherHosts code hosts) = OtherHosts (string_bytes code) (string_bytes hosts)
 refusal_shape (variants.NoKey file host) = NoKey (string_bytes file) (string_bytes host)
+refusal_shape variants.WrongJournals = WrongJournals
 
 -- the status with which a refused program ends
 abbrev pub refusal_status : RefusalShape → Status
@@ -94,6 +96,7 @@ refusal_status (BadCode file why) = status.InputRefused
 refusal_status (NoHost name) = status.InputRefused
 refusal_status (OtherHosts code hosts) = status.InputRefused
 refusal_status (NoKey file host) = status.InputRefused
+refusal_status WrongJournals = status.InputRefused
 
 -- ---- programs
 
@@ -194,6 +197,7 @@ why_not_line line_cause.HostBusy = codes "host busy"
 why_not_line line_cause.NotMisbehaving = codes "not misbehaving"
 why_not_line line_cause.EventsDiffer = codes "events differ"
 why_not_line line_cause.NotPrompt = codes "not prompt"
+why_not_line line_cause.NoMatch = codes "no list meets this"
 why_not_line (line_cause.NoSuchToken number count) =
     codes "no such token " ++ (decimal number ++ (codes ", " ++ (decimal count ++ codes " sent")))
 
@@ -229,6 +233,7 @@ refusal_text (BadCode file why) = file ++ (codes ": " ++ why_no_code why)
 refusal_text (NoHost name) = codes "no host " ++ name
 refusal_text (OtherHosts code hosts) = codes "the hosts of " ++ (code ++ (codes " are not those of " ++ hosts))
 refusal_text (NoKey file host) = file ++ (codes ": no key for host " ++ host)
+refusal_text WrongJournals = codes "wrong number of journals"
 
 -- a line of a program of this name on the error output
 abbrev pub error_line : (program text : List ℕ) → List ℕ

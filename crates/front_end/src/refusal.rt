@@ -35,6 +35,8 @@ pub enum LineCause {
     EventsDiffer,
     /// Something secret goes on while its event may be seen.
     NotPrompt,
+    /// No list of events meets the journal behind this line.
+    NoMatch,
 }
 
 /// Why words or files are refused: the cause, with its place. It says nothing of the program that refuses them, which
@@ -107,6 +109,8 @@ pub enum Refusal {
         file: String,
         host: String,
     },
+    /// There is not one journal for each host.
+    WrongJournals,
 }
 
 impl Refusal {
@@ -131,7 +135,8 @@ impl Refusal {
             | Refusal::BadCode { .. }
             | Refusal::NoHost { .. }
             | Refusal::OtherHosts { .. }
-            | Refusal::NoKey { .. } => Status::InputRefused,
+            | Refusal::NoKey { .. }
+            | Refusal::WrongJournals => Status::InputRefused,
         }
     }
 
@@ -161,6 +166,7 @@ impl Refusal {
                 format!(in alloc; "the hosts of {code} are not those of {hosts}")
             }
             Refusal::NoKey { file, host } => no_key_text(alloc, file, host),
+            Refusal::WrongJournals => String::from_str(alloc, "wrong number of journals"),
         }
     }
 }

@@ -49,6 +49,7 @@ refused_calmly (refusal.BadCode file why) there = (refl, refl)
 refused_calmly (refusal.NoHost name) there = (refl, refl)
 refused_calmly (refusal.OtherHosts code hosts) there = (refl, refl)
 refused_calmly (refusal.NoKey file host) there = (refl, refl)
+refused_calmly refusal.WrongJournals there = (refl, refl)
 
 due_calmly : (verdict : VerdictShape) (there : Outside) → Faults (end_of verdict).status there there
 due_calmly (Refuse why) there = refused_calmly why there

@@ -349,6 +349,7 @@ refusal_fails (refusals.BadCode file why) = input_fails
 refusal_fails (refusals.NoHost name) = input_fails
 refusal_fails (refusals.OtherHosts code hosts) = input_fails
 refusal_fails (refusals.NoKey file host) = input_fails
+refusal_fails refusals.WrongJournals = input_fails
 
 -- a report is such a text with its status; nothing is said of a refusal
 unfoldable pub Says : (Status → List ℕ → Type 0) → VerdictShape → Type 0
