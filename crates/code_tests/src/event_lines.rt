@@ -64,9 +64,6 @@ fn add_settings(
 ) -> Result<(), Fail> {
     for (index, value) in elements.iter().enumerate() {
         if *value != field.first() {
-            let Ok(index) = u32::try_from(index) else {
-                return Err(Fail::from("a long row"));
-            };
             let line = setting_line(alloc, field, index, *value)?;
             lines.push_str(line.as_str())?;
             lines.push_str("\n")?;

@@ -118,7 +118,7 @@ pub fn take_settings<'a, F: ScriptField>(
 pub fn setting_line<F: ScriptField>(
     alloc: Global,
     field: &F,
-    index: u32,
+    index: usize,
     value: i64,
 ) -> Result<String, OutOfMemory>
     ensures { IfOk result (λ line. string_bytes line ≡ setting_text (F.form field.now) index value) }
