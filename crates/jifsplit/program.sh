@@ -3,6 +3,7 @@ program=$top/crates/jifsplit/out/jifsplit
 node=$top/crates/jifhost/out/jifhost
 tokens=$top/crates/jiftokens/out/jiftokens
 picture=$top/crates/jifpicture/out/jifpicture
+merged=$top/crates/jifmerge/out/jifmerge
 
 is_built() {
   [ -x "$1" ] && [ -z "$(find "$top/crates" "$top/crates.txt" -name out -prune -o -type f \

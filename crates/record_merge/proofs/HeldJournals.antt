@@ -8,19 +8,19 @@ use Rattle.js_base.specs.declared.ids.HostId.{HostId}
 use Rattle.event_text.specs.declared.event.Event.{Event}
 use Rattle.host_code.specs.Code.{CodeShape}
 use Rattle.net_world.specs.World.{WorldShape, IsStep, mover}
-use Rattle.record_merge.specs.declared.journal.JournalLine.{JournalLine}
-use Rattle.record_merge.specs.JournalLines.{IsFitting, IsPassed, HasMerged, HasPassed, journal_of, all_of}
+use Rattle.event_text.specs.declared.lines.Line.{Line}
+use Rattle.record_merge.specs.JournalLines.{IsFitting, IsPassed, HasMerged, HasPassed, journal_of, all_of, lines_in, met}
 use Rattle.record_merge.specs.Meeting.{Journal, journal_at}
 use Rattle.record_merge.specs.NextLines.{step_words, sent_next}
 use Rattle.record_merge.specs.Single.{IsSingle}
-use Rattle.record_merge.proofs.Walks.{merged_none, merged_more, event_line, journal_there, met, lines_of, met_within}
+use Rattle.record_merge.proofs.Walks.{merged_none, merged_more, event_line, journal_there, met_within}
 use Rattle.record_merge.proofs.Walks.{met_set, passed_higher}
 
-pub journal_found : (journals : List (Vec JournalLine Global)) (n : ℕ) (one : Vec JournalLine Global) →
+pub journal_found : (journals : List (Vec Line Global)) (n : ℕ) (one : Vec Line Global) →
     n < length journals → one ≡ get_or journals n one →
     journal_of one.items ≡ unwrap_or (slice_get (all_of journals) n) []
 journal_found [] n one within is = absurd (omega (arith, within))
-journal_found (journal ∷ journals) zero one within is = ap (λ (v : Vec JournalLine Global). journal_of v.items) is
+journal_found (journal ∷ journals) zero one within is = ap (λ (v : Vec Line Global). journal_of v.items) is
 journal_found (journal ∷ journals) (suc n) one within is =
     journal_found journals n one (omega (arith, within)) is
 
@@ -29,8 +29,8 @@ get_or_any [] n d e within = absurd (omega (arith, within))
 get_or_any (x ∷ xs) zero d e within = refl
 get_or_any (x ∷ xs) (suc n) d e within = get_or_any xs n d e (omega (arith, within))
 
-pub passed_at : (journals : List (Vec JournalLine Global)) (number host : HostId) (one : Vec JournalLine Global)
-    (lines : List JournalLine) (places : List ℕ) (place : ℕ) (sent : Journal) (passed : ℕ × Bool) → number ≡ host →
+pub passed_at : (journals : List (Vec Line Global)) (number host : HostId) (one : Vec Line Global)
+    (lines : List Line) (places : List ℕ) (place : ℕ) (sent : Journal) (passed : ℕ × Bool) → number ≡ host →
     host.0 < length journals →
     one ≡ get_or journals number.0 one → lines ≡ one.items → place ≡ get_or places number.0 place →
     host.0 < length places →
@@ -45,19 +45,19 @@ passed_at journals number host one lines places place sent passed same within fo
     (subst (λ n. IsPassed (journal_of one.items) n sent passed) here
     (subst (λ ls. IsPassed (journal_of ls) place sent passed) held pass))
 
-pub merged_start : (code : CodeShape) (world : WorldShape) (journals : List (Vec JournalLine Global))
+pub merged_start : (code : CodeShape) (world : WorldShape) (journals : List (Vec Line Global))
     (events : List Event) (places : List ℕ) (left : List Bool) → IsSingle world → events ≡ [] →
     places ≡ replicate (length journals) 0 → left ≡ replicate (length journals) false →
     HasMerged code world (all_of journals) events world places left
 merged_start code world journals events places left single none at open_flags =
-    let count = length-map journals (λ (journal : Vec JournalLine Global). journal_of journal.items) in
+    let count = length-map journals (λ (journal : Vec Line Global). journal_of journal.items) in
     subst (λ es. HasMerged code world (all_of journals) es world places left) (sym none)
     (subst (λ ps. HasMerged code world (all_of journals) [] world ps left)
     (ap (λ n. replicate n 0) count ∙ sym at)
     (subst (λ fs. HasMerged code world (all_of journals) [] world (replicate (length (all_of journals)) 0) fs)
     (ap (λ n. replicate n false) count ∙ sym open_flags) (merged_none code world (all_of journals) single)))
 
-pub fits_host : (code : CodeShape) (world last : WorldShape) (journals : List (Vec JournalLine Global))
+pub fits_host : (code : CodeShape) (world last : WorldShape) (journals : List (Vec Line Global))
     (events : List Event) (event : Event) (places : List ℕ) (left : List Bool) →
     HasMerged code world (all_of journals) events last places left →
     IsFitting code last (all_of journals) places left (Some event) → (mover event).0 < length journals
@@ -65,10 +65,10 @@ fits_host code world last journals events event places left merged fits =
     let here = event_line code world last (all_of journals) events event places left merged fits.1 in
     let there = journal_there (all_of journals) (mover event).0 (slice_index places (mover event).0)
     (step_words code last event) here.there in
-    let count = length-map journals (λ (journal : Vec JournalLine Global). journal_of journal.items) in
+    let count = length-map journals (λ (journal : Vec Line Global). journal_of journal.items) in
     omega (arith, there, count)
 
-pub fits_place : (code : CodeShape) (world last : WorldShape) (journals : List (Vec JournalLine Global))
+pub fits_place : (code : CodeShape) (world last : WorldShape) (journals : List (Vec Line Global))
     (events : List Event) (event : Event) (places : List ℕ) (left : List Bool) →
     HasMerged code world (all_of journals) events last places left →
     IsFitting code last (all_of journals) places left (Some event) →
@@ -97,7 +97,7 @@ pub fewer_left : (code : CodeShape) (world last after : WorldShape) (journals : 
     HasMerged code world journals events last places left →
     IsFitting code last journals places left (Some event) → IsStep code last event after →
     HasPassed code after journals (mover event) places left later gone →
-    lines_of journals - met later < lines_of journals - met places
+    lines_in journals - met later < lines_in journals - met places
 fewer_left code world last after journals events event places left later gone merged fits step passed =
     let me = (mover event).0 in
     let on = merged_on code world last after journals events event places left later gone merged fits step passed in

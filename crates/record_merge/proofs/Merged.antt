@@ -8,7 +8,7 @@ use Rattle.event_text.specs.declared.event.Event.{Event}
 use Rattle.event_text.specs.Lines.{LineShape, words}
 use Rattle.host_code.specs.Code.{CodeShape}
 use Rattle.net_world.specs.World.{WorldShape}
-use Rattle.record_merge.specs.declared.journal.JournalLine.{JournalLine}
+use Rattle.event_text.specs.declared.lines.Line.{Line}
 use Rattle.record_merge.specs.JournalLines.{said_line, journal_of, all_of, said_of, number_at}
 use Rattle.record_merge.specs.Meeting.{Journal, journal_at, MeetsAt, Meets, IsAtEnd, IsFirstLeft, IsLeftAt}
 use Rattle.record_merge.specs.Meeting.{words_in}
@@ -17,11 +17,11 @@ use Rattle.record_merge.specs.Single.{IsSingle}
 use Rattle.record_merge.proofs.Furthest.{end_meets, furthest}
 use Rattle.record_merge.proofs.OneMeeting.{whole_place}
 
-line_words : (lines : List JournalLine) → map (λ line. line.words) (map said_line lines) ≡ journal_of lines
+line_words : (lines : List Line) → map (λ line. line.words) (map said_line lines) ≡ journal_of lines
 line_words [] = refl
 line_words (line ∷ lines) = ap (λ (ws : Journal). words line.bytes.now ∷ ws) (line_words lines)
 
-said_words : (journals : List (Vec JournalLine Global)) → words_in (said_of journals) ≡ all_of journals
+said_words : (journals : List (Vec Line Global)) → words_in (said_of journals) ≡ all_of journals
 said_words [] = refl
 said_words (journal ∷ journals) =
     ap (λ (j : Journal). j ∷ words_in (said_of journals)) (line_words journal.items)
@@ -32,7 +32,7 @@ number_there : (found : Option LineShape) (number : ℕ) →
 number_there None number is = absurd (cc)
 number_there (Some line) number is = let same : line.number ≡ number = cc in same
 
-pub not_merged : (code : CodeShape) (world : WorldShape) (journals : List (Vec JournalLine Global)) (places : List ℕ)
+pub not_merged : (code : CodeShape) (world : WorldShape) (journals : List (Vec Line Global)) (places : List ℕ)
     (events : List Event) (host : HostId) (number : ℕ) → IsSingle world →
     IsAtEnd code world (all_of journals) places events → IsFirstLeft (all_of journals) places host →
     number_at journals host (slice_index places host.0) ≡ Some number →

@@ -2,7 +2,7 @@ use Rattle.std.proofs.Common.{◌≡◌, ◌∙◌, None, rules, subst, sym, Vec
 use Rattle.std.proofs.lemmas.List.{length-map}
 use Rattle.net_world.specs.Fits.{world_of}
 use Rattle.record_merge.specs.JournalLines.{HasMerged, all_of, journal_of}
-use Rattle.record_merge.specs.declared.journal.JournalLine.{JournalLine}
+use Rattle.event_text.specs.declared.lines.Line.{Line}
 use Rattle.record_merge.proofs.HeldJournals.{merged_start, fits_host, fits_place, merged_on, fewer_left}
 use Rattle.record_merge.proofs.Walks.{merged_end}
 use Rattle.record_merge.proofs.merging.walk.Goals as goal
@@ -61,5 +61,5 @@ returns c =
           c.loop-events.left.items c.loop-events.invariant.merged
           (rw (none, c.deref.ensures.value, c.deref-in-loop-events.ensures.value) at c.in_ok-event.ensures);
       count = c.loop-events.invariant.merged.places_count
-          ∙ length-map c.args.journals.now (λ (journal : Vec JournalLine Global). journal_of journal.items);
+          ∙ length-map c.args.journals.now (λ (journal : Vec Line Global). journal_of journal.items);
     }
