@@ -4,11 +4,11 @@
 mod forms;
 mod journal;
 mod laws;
-mod merge;
 mod merging;
+mod one_list;
 mod reading;
 mod step_lines;
 
 pub use journal::MergeError;
 pub use laws::{merge_laws, single_laws};
-pub use merge::merge;
+pub use one_list::merge;

@@ -3,7 +3,7 @@ use Rattle.net_world.specs.World.{world_at_start}
 use Rattle.record_merge.specs.JournalLines.{all_of}
 use Rattle.record_merge.specs.Meeting.{IsAtEnd}
 use Rattle.record_merge.proofs.Merged.{not_merged, all_met}
-use Rattle.record_merge.proofs.merge.merge_lines.Goals as goal
+use Rattle.record_merge.proofs.one_list.merge_lines.Goals as goal
 
 pub first_left-requires-clause-count : goal.first_left-requires-clause-count
 first_left-requires-clause-count c = ap length c.deref.ensures.value ∙ c.in_ok-events.ensures.count

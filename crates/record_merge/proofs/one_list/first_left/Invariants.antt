@@ -3,7 +3,7 @@ use Rattle.std.specs.Prelude.{slice_index}
 use Rattle.js_base.specs.declared.ids.HostId.{HostId}
 use Rattle.record_merge.specs.JournalLines.{all_of}
 use Rattle.record_merge.specs.Meeting.{journal_at}
-use Rattle.record_merge.proofs.merge.first_left.Given as goal
+use Rattle.record_merge.proofs.one_list.first_left.Given as goal
 
 -- the journals of the hosts so far have ended
 abbrev pub invariant-loop-number : goal.invariant-loop-number
