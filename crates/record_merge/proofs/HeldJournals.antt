@@ -1,5 +1,6 @@
 -- Journals in the program, at the number of a host.
-use Rattle.std.proofs.Common.{◌≡◌, ◌∙◌, ℕ, zero, suc, ◌-◌, ◌<◌, Bool, false, List, [], ◌∷◌, ◌++◌, length, Some}
+use Rattle.std.proofs.Common.{◌≡◌, ◌∙◌, ℕ, zero, suc, ◌+◌, ◌-◌, ◌<◌, ◌≤◌, Bool, false, List, [], ◌∷◌, ◌++◌, length}
+use Rattle.std.proofs.Common.{Option, Some, None, IfSome}
 use Rattle.std.proofs.Common.{refl, ap, sym, subst, arith, get_or, Vec, Global}
 use Rattle.std.specs.Prelude.{replicate, slice_get, slice_set, slice_index, unwrap_or}
 use Rattle.std.proofs.lemmas.List.{length-map}
@@ -7,7 +8,9 @@ use Rattle.std.proofs.lemmas.Option.{slice_get_within}
 use Rattle.js_base.specs.declared.ids.HostId.{HostId}
 use Rattle.event_text.specs.declared.event.Event.{Event}
 use Rattle.host_code.specs.Code.{CodeShape}
-use Rattle.net_world.specs.World.{WorldShape, IsStep, mover}
+use Rattle.host_core.specs.Host.{HostModel}
+use Rattle.net_world.specs.Steps.{HasMade, HaveMade}
+use Rattle.net_world.specs.World.{WorldShape, IsStep, mover, present}
 use Rattle.event_text.specs.declared.lines.Line.{Line}
 use Rattle.record_merge.specs.JournalLines.{IsFitting, IsPassed, HasMerged, HasPassed, journal_of, all_of, lines_in, met}
 use Rattle.record_merge.specs.Meeting.{Journal, journal_at}
@@ -111,3 +114,34 @@ fewer_left code world last after journals events event places left later gone me
     (met_set places me passed.passed.0 (omega (arith, there, count)) up) in
     let most = met_within later journals on.places_count (λ n. on.within (record { 0 = n })) in
     omega (arith, more, most)
+
+-- ---- how many steps hosts have made
+
+met_none : (count : ℕ) → met (replicate count 0) ≡ 0
+met_none zero = refl
+met_none (suc count) = met_none count
+
+-- a host that has made no more steps than so many has made no more than a higher number
+pub have_more : (hosts : List (Option HostModel)) (few many : ℕ) → few ≤ many → HaveMade few hosts → HaveMade many hosts
+have_more hosts few many up have number = by (present hosts number) (have number)
+  where
+    by : (host : Option HostModel) → IfSome host (HasMade few) → IfSome host (HasMade many)
+    by None has = tt
+    by (Some host) has = let steps = has.steps in record { answers = has.answers; steps = omega (arith, steps, up) }
+
+pub fresh_made : (hosts : List (Option HostModel)) (count : ℕ) (places : List ℕ) → places ≡ replicate count 0 →
+    HaveMade 0 hosts → HaveMade (met places) hosts
+fresh_made hosts count places at fresh =
+    subst (λ (n : ℕ). HaveMade n hosts) (sym (ap met at ∙ met_none count)) fresh
+
+pub few_met : (code : CodeShape) (world last : WorldShape) (journals : List Journal) (events : List Event)
+    (places : List ℕ) (left : List Bool) (most : ℕ) → HasMerged code world journals events last places left →
+    lines_in journals < most → met places < most
+few_met code world last journals events places left most merged few =
+    let within = met_within places journals merged.places_count (λ n. merged.within (record { 0 = n })) in
+    omega (arith, within, few)
+
+-- each event raises how many lines are met
+pub made_more : (hosts : List (Option HostModel)) (before after lines : ℕ) → lines - after < lines - before →
+    HaveMade (before + 1) hosts → HaveMade after hosts
+made_more hosts before after lines fewer have = have_more hosts (before + 1) after (omega (arith, fewer)) have

@@ -105,6 +105,8 @@ said_of journals = map (λ journal. map said_line journal.items) journals
 -- why journals are not merged
 abbrev pub IsNotMerged : CodeShape → WorldShape → List (Vec Line Global) → MergeError → Type 0
 IsNotMerged code world journals error.OutOfMemory = ⊤
+IsNotMerged code world journals (error.TooLong host) = ⊥
+IsNotMerged code world journals (error.BadLine host number) = ⊥
 IsNotMerged code world journals (error.NoMatch host number) = IsLeftAt code world (said_of journals) host number
 
 -- the number of the line at a place of a host's journal
