@@ -53,7 +53,7 @@ pub element_more : (field : FieldForm) (values : List ℤ) (index : ℕ) (value 
 element_more field values index value whole before after within is was put =
     let rest = drop (index + 1) values in
     let cut : text_of_lines (row_lines field index (drop index values))
-        ≡ text_of_lines (row_lines field index (value ∷ [])) ++ text_of_lines (row_lines field (index + 1) rest) =
+    ≡ text_of_lines (row_lines field index (value ∷ [])) ++ text_of_lines (row_lines field (index + 1) rest) =
     ap (λ (left : List ℤ). text_of_lines (row_lines field index left)) (left_cut values index value within is)
     ∙ ap text_of_lines (row_cons field index value rest)
     ∙ lines_both (row_lines field index (value ∷ [])) (row_lines field (index + 1) rest) in
@@ -76,7 +76,7 @@ row_more fields rows place field row whole before after within is there row_is w
     let others = forms_of (drop (place + 1) fields) in
     let rest = drop (place + 1) rows in
     let cut : text_of_lines (setting_lines (forms_of (drop place fields)) (drop place rows))
-        ≡ text_of_lines (row_lines (form_of field) 0 row) ++ text_of_lines (setting_lines others rest) =
+    ≡ text_of_lines (row_lines (form_of field) 0 row) ++ text_of_lines (setting_lines others rest) =
     ap (λ (left : List CodeFieldShape). text_of_lines (setting_lines (forms_of left) (drop place rows)))
     (left_cut fields place field within is)
     ∙ ap (λ (left : List (List ℤ)). text_of_lines (setting_lines (form_of field ∷ others) left))
@@ -126,7 +126,7 @@ pub event_more : (code : CodeShape) (events : List Event) (place : ℕ) (event :
 event_more code events place event whole before after within is was put =
     let rest = map (event_text code) (drop (place + 1) events) in
     let cut : text_of_lines (map (event_text code) (drop place events))
-        ≡ text_of_lines (event_text code event ∷ []) ++ text_of_lines rest =
+    ≡ text_of_lines (event_text code event ∷ []) ++ text_of_lines rest =
     ap (λ (left : List Event). text_of_lines (map (event_text code) left)) (left_cut events place event within is)
     ∙ lines_both (event_text code event ∷ []) rest in
     piece_more whole before (text_of_lines (event_text code event ∷ []))

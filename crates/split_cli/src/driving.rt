@@ -10,8 +10,8 @@ ghost use Rattle.split_cli.specs.Driven.{HasDriven, LeavesWith};
 use front_end::STEPS;
 use host_code::Code;
 use js_base::{OutOfMemory, Status};
-use net_world::laws::step_laws;
 use net_world::World;
+use net_world::laws::step_laws;
 
 /// How a drive ended.
 #[derive(Clone, Copy)]
