@@ -1,5 +1,5 @@
 -- What is due for the words, by what the files hold and did. A word, a line and a file are lists of bytes.
-use Rattle.std.specs.Prelude.{◌≡◌, ◌≢◌, ◌×◌, ◌<◌, ◌≤◌, ℕ, zero, suc, ◌+◌, ◌⊎◌, ⊤, List, [], ◌∷◌, codes, length, Option}
+use Rattle.std.specs.Prelude.{◌≡◌, ◌≢◌, ◌<◌, ◌≤◌, ℕ, zero, suc, ◌+◌, ◌⊎◌, ⊤, List, [], ◌∷◌, codes, length, Option}
 use Rattle.std.specs.Prelude.{Some}
 use Rattle.std.specs.List.{AllZip}
 use Rattle.js_base.specs.declared.limits.TheConstants.{HOSTS_BYTES, PROGRAM_BYTES, SCRIPT_BYTES}

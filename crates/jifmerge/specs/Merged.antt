@@ -1,6 +1,6 @@
 -- What is due for an accepted program in its places, for starting values and for the journals of its hosts. No host
 -- misbehaves. A file and its name are lists of bytes.
-use Rattle.std.specs.Prelude.{◌≡◌, ◌≢◌, ◌×◌, ◌<◌, ℕ, ℤ, List, [], length, map, slice_get, unwrap_or}
+use Rattle.std.specs.Prelude.{◌≡◌, ◌≢◌, ◌<◌, ℕ, ℤ, List, [], length, map, slice_get, unwrap_or}
 use Rattle.js_base.specs.declared.ids.HostId.{HostId}
 use Rattle.js_base.specs.declared.limits.TheConstants.{SCRIPT_BYTES}
 use Rattle.js_base.specs.declared.status.Status.TheVariants.{Done}

@@ -1,6 +1,6 @@
 -- The list of events that the bytes of journals are merged into, and why there is none. There is one journal for each
 -- host, in order.
-use Rattle.std.specs.Prelude.{◌≡◌, ◌×◌, ⊤, ℕ, List, map, Some, None}
+use Rattle.std.specs.Prelude.{◌≡◌, ⊤, ℕ, List, map, Some, None}
 use Rattle.event_text.specs.declared.event.Event.{Event}
 use Rattle.host_code.specs.Code.{CodeShape}
 use Rattle.net_world.specs.World.{WorldShape}

@@ -119,7 +119,7 @@ fn read_lines<'a>(
 /// Puts a line behind the others, where it is merged.
 fn keep_line<'a>(list: &mut Vec<Line<'a>>, line: Line<'a>) -> Result<(), OutOfMemory>
     ensures kept { OnOk result (map said_line list.new.items
-        ≡ map said_line list.old.items ++ step_lines (said_line line ∷ [])) }
+        ≡ map said_line list.old.items ++ step_lines (said_line line.entry ∷ [])) }
     ensures few { OnOk result (length list.new.items ≤ length list.old.items + 1) }
 {
     if is_aside(line.bytes) {
