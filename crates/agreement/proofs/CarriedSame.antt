@@ -26,13 +26,12 @@ use Rattle.host_core.specs.Host.{HostShape, value_in_thread, next_request}
 use Rattle.host_core.specs.Values.{temporary_at}
 use Rattle.msg_cost.proofs.Bounds.{all_left, all_right}
 use Rattle.need_labels.specs.Needs.{label_of}
-use Rattle.split_rules.specs.Expressions.{reads_in, nodes_of}
+use Rattle.split_rules.specs.Expressions.{reads_in, nodes_of, released_by}
 use Rattle.split_rules.specs.Positions.{FieldRead, field_reads}
 use Rattle.split_rules.proofs.SeenLabels.{flows_both, flows_first, flows_second}
 use Rattle.split_rules.proofs.WalkedMoves.{at_last}
 use Rattle.split_shades.specs.Basis.{value_label, read_label}
 use Rattle.split_shades.specs.ShadedCode.{IsShadedOp}
-use Rattle.split_shades.specs.Shades.{released_by}
 use Rattle.split_shades.specs.Shading.{reads_tell, Keeps, Divides}
 use Rattle.split_shades.proofs.BasisLabels.{flows_self, bottom_flows}
 use Rattle.split_shades.proofs.ShadedValues.{told_many}

@@ -32,6 +32,20 @@ nodes_of first (binary operator left right) =
 nodes_of first (declassified operand label) = nodes_of first operand
 nodes_of first (endorsed operand label) = nodes_of first operand
 
+-- The operands that are released where an expression is evaluated whose first read left the temporary of this number,
+-- inner before outer and from the left. What is released in an index is released where the element is read.
+abbrev pub released_by : ℕ → ExprTree → List (List Node)
+released_by first (number value) = []
+released_by first (local x) = []
+released_by first (scalar field) = []
+released_by first (element field index) = []
+released_by first (inverted operand) = released_by first operand
+released_by first (negated operand) = released_by first operand
+released_by first (binary operator left right) =
+    released_by first left ++ released_by (first + reads_in left) right
+released_by first (declassified operand label) = released_by first operand ++ nodes_of first operand ∷ []
+released_by first (endorsed operand label) = released_by first operand
+
 -- the index of a plain field
 abbrev pub first_element : List Node
 first_element = node.Number (pos 0) ∷ []

@@ -10,6 +10,7 @@ pub mod TypedCode
 pub mod Allowed
 pub mod Held
 pub mod SplitCode
+pub mod Releases
 pub mod Flow
 pub mod WalkStart
 pub mod Splittable

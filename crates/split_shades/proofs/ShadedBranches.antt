@@ -10,7 +10,7 @@ use Rattle.jif_tree.specs.Trees.{ExprTree, Heading, MethodTree}
 use Rattle.host_code.specs.declared.instruction.Op.TheVariants as op
 use Rattle.msg_cost.specs.declared.spot.Spot.{Spot}
 use Rattle.split_rules.specs.Emissions.{Emission, stands, lands, Counts, counts_after}
-use Rattle.split_rules.specs.Expressions.{nodes_of}
+use Rattle.split_rules.specs.Expressions.{nodes_of, released_by}
 use Rattle.split_rules.specs.Positions.{Level, under}
 use Rattle.split_rules.specs.Walk.{Around, entry_id, emitted}
 use Rattle.split_rules.proofs.WalkedBlocks.{inside_of, branch_front, branch_own, loop_front, loop_own}
@@ -18,7 +18,7 @@ use Rattle.split_rules.proofs.WalkedCalls.{still_there}
 use Rattle.split_rules.proofs.WalkedMoves.{at_last}
 use Rattle.split_rules.proofs.WalkedStates.{counts_more}
 use Rattle.split_shades.specs.Flows.{IsSeenOn, ValueFlows}
-use Rattle.split_shades.specs.Shades.{EntryShade, Begun, Ahead, calm_ahead, released_by, ahead_of}
+use Rattle.split_shades.specs.Shades.{EntryShade, Begun, Ahead, calm_ahead, ahead_of}
 use Rattle.split_shades.specs.Shading.{Scene, reads_tell, IsLevelOf, Names, Place, nowhere, here, Known, known_at}
 use Rattle.split_shades.specs.Shading.{AreShaded}
 use Rattle.split_shades.proofs.BasisLabels.{flows_self}

@@ -15,7 +15,7 @@ use Rattle.host_code.specs.declared.code_expr.Node.TheVariants as node
 use Rattle.host_code.specs.declared.instruction.Op.TheVariants as op
 use Rattle.need_labels.specs.Needs.{label_of}
 use Rattle.msg_cost.specs.Moves.{called_home}
-use Rattle.split_rules.specs.Expressions.{nodes_of}
+use Rattle.split_rules.specs.Expressions.{nodes_of, released_by}
 use Rattle.split_rules.specs.Positions.{Level, body}
 use Rattle.split_rules.specs.Walk.{entry_id, emitted, expr_emissions, told_readers, pass_emissions, riding_params}
 use Rattle.split_rules.specs.Walk.{call_with, argument_emissions, kept_emissions, call_emissions}
@@ -24,7 +24,7 @@ use Rattle.split_rules.proofs.ToldWalks.{told_see}
 use Rattle.split_rules.proofs.WalkedCalls.{still_there}
 use Rattle.split_rules.proofs.WalkedMoves.{at_last}
 use Rattle.split_shades.specs.Flows.{IsSeenOn, ArgumentsFlow, ResultFlows, AllFlow}
-use Rattle.split_shades.specs.Shades.{EntryShade, Ahead, calm_ahead, released_by}
+use Rattle.split_shades.specs.Shades.{EntryShade, Ahead, calm_ahead}
 use Rattle.split_shades.specs.Shading.{Scene, reads_tell, IsBelow, IsLevelOf, Known, nowhere, here, known_at, AreShaded}
 use Rattle.split_shades.specs.Shading.{method_shade}
 use Rattle.split_shades.proofs.BasisLabels.{flows_self}

@@ -13,14 +13,14 @@ use Rattle.host_code.specs.declared.instruction.Op.TheVariants as op
 use Rattle.need_labels.specs.Needs.{label_of}
 use Rattle.need_labels.specs.Plan.{field_host}
 use Rattle.split_rules.specs.Emissions.{Emission}
-use Rattle.split_rules.specs.Expressions.{reads_in, nodes_of, first_element}
+use Rattle.split_rules.specs.Expressions.{reads_in, nodes_of, first_element, released_by}
 use Rattle.split_rules.specs.Positions.{Level}
 use Rattle.split_rules.specs.Walk.{Walked, walked_in, emitted, expr_emissions, told_readers, send_emissions}
 use Rattle.split_rules.specs.Walk.{result_emissions}
 use Rattle.split_rules.proofs.ToldEmissions.{Sees, Affects, PutsWell}
 use Rattle.split_rules.proofs.ToldWalks.{AreReaders}
 use Rattle.split_shades.specs.Flows.{IsSeenOn, ValueFlows, AnswerFlows}
-use Rattle.split_shades.specs.Shades.{EntryShade, Begun, Ahead, calm_ahead, released_by}
+use Rattle.split_shades.specs.Shades.{EntryShade, Begun, Ahead, calm_ahead}
 use Rattle.split_shades.specs.Shading.{Scene, reads_tell, IsBelow, Keeps, Known, here, known_at, AreShaded}
 use Rattle.split_shades.proofs.BasisLabels.{bottom_flows}
 use Rattle.split_shades.proofs.ShadedStates.{shaded_on}

@@ -18,7 +18,7 @@ use Rattle.host_code.specs.declared.instruction.Op.TheVariants as op
 use Rattle.need_labels.specs.Needs.{releases, label_of}
 use Rattle.need_labels.specs.Plan.{field_host}
 use Rattle.split_rules.specs.Emissions.{Emission}
-use Rattle.split_rules.specs.Expressions.{Reading, reads_in, nodes_of, readings_of, first_element}
+use Rattle.split_rules.specs.Expressions.{Reading, reads_in, nodes_of, readings_of, first_element, released_by}
 use Rattle.split_rules.specs.Positions.{Level, FieldRead, field_reads}
 use Rattle.split_rules.specs.Walk.{emitted, read_emissions, expr_emissions}
 use Rattle.split_rules.proofs.BackedLabels.{all_first, all_second}
@@ -28,7 +28,7 @@ use Rattle.split_rules.proofs.ToldWalks.{AreReaders}
 use Rattle.split_rules.proofs.TypedValues.{reads_many}
 use Rattle.split_shades.specs.Basis.{value_label, read_label}
 use Rattle.split_shades.specs.Flows.{IsSeenOn, IsIndexSeen, AreIndexesSeen}
-use Rattle.split_shades.specs.Shades.{Shade, EntryShade, Begun, Ahead, released_by}
+use Rattle.split_shades.specs.Shades.{Shade, EntryShade, Begun, Ahead}
 use Rattle.split_shades.specs.Shading.{Scene, reads_tell, IsBelow, IsUnderBlock, here, Known}
 use Rattle.split_shades.specs.Shading.{known_at, ShadedOp, IsShaded, AreShaded}
 use Rattle.split_shades.proofs.ShadedStates.{shaded_on}

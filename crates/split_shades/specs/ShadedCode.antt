@@ -15,6 +15,7 @@ use Rattle.entry_check.specs.Checks.{MaySee, label_at, label_of_host}
 use Rattle.need_labels.specs.Needs.{label_of}
 use Rattle.need_labels.specs.Plan.{field_host}
 use Rattle.msg_cost.specs.Moves.{PlannedShape}
+use Rattle.split_rules.specs.Releases.{ReleasesShape, operands_at}
 use Rattle.split_shades.specs.Basis.{Basis}
 use Rattle.split_shades.specs.Flows.{IsSeenOn}
 use Rattle.split_shades.specs.Shades.{Shade, EntryShade, Ahead, Meets, ahead_of}
@@ -81,6 +82,11 @@ pub record IsShadedCode (scene : Scene) (code : CodeShape) (shades : Shades) : T
 abbrev pub ReleaseNothing : CodeShape → Shades → Type 0
 ReleaseNothing code shades = (host : HostId) (place : ℕ) (there : Instr) →
     instruction_at code host place ≡ Some there → (shades.at host place).released ≡ []
+
+-- what each instruction of the code releases, by its shade, is its row of a table
+abbrev pub IsTabled : CodeShape → Shades → ReleasesShape → Type 0
+IsTabled code shades table = (host : HostId) (place : ℕ) (there : Instr) →
+    instruction_at code host place ≡ Some there → (shades.at host place).released ≡ operands_at table host place
 
 -- ---- what else the code has
 

@@ -1,28 +1,9 @@
 -- What may be seen at a place of split code: under which program label its instruction runs, what its temporaries tell,
 -- and whose token is held there.
-use Rattle.std.specs.Prelude.{◌≡◌, ℕ, ◌+◌, suc, Bool, false, List, [], ◌∷◌, ◌++◌, Option, None, IfSome}
+use Rattle.std.specs.Prelude.{◌≡◌, ℕ, suc, Bool, false, List, [], Option, None, IfSome}
 use Rattle.label_lattice.specs.declared.label.Label.{Label}
-use Rattle.jif_tree.specs.Trees.{ExprTree, number, local, scalar, element, inverted, negated, binary, declassified}
-use Rattle.jif_tree.specs.Trees.{endorsed}
 use Rattle.host_code.specs.declared.code_expr.Node.{Node}
-use Rattle.split_rules.specs.Expressions.{reads_in, nodes_of}
 use Rattle.split_rules.specs.Positions.{Level, body, under}
-
--- ---- releases
-
--- The operands that are released where an expression is evaluated whose first read left the temporary of this number,
--- inner before outer and from the left. What is released in an index is released where the element is read.
-abbrev pub released_by : ℕ → ExprTree → List (List Node)
-released_by first (number value) = []
-released_by first (local x) = []
-released_by first (scalar field) = []
-released_by first (element field index) = []
-released_by first (inverted operand) = released_by first operand
-released_by first (negated operand) = released_by first operand
-released_by first (binary operator left right) =
-    released_by first left ++ released_by (first + reads_in left) right
-released_by first (declassified operand label) = released_by first operand ++ nodes_of first operand ∷ []
-released_by first (endorsed operand label) = released_by first operand
 
 -- ---- places
 

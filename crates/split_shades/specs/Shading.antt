@@ -18,11 +18,11 @@ use Rattle.need_labels.specs.Needs.{label_of}
 use Rattle.need_labels.specs.Plan.{field_host}
 use Rattle.msg_cost.specs.Moves.{PlannedShape}
 use Rattle.split_rules.specs.Emissions.{Emission, Emitted, instruction, entry, stands, lands}
-use Rattle.split_rules.specs.Expressions.{reads_in, nodes_of}
+use Rattle.split_rules.specs.Expressions.{reads_in, nodes_of, released_by}
 use Rattle.split_rules.specs.Positions.{Level, body, under, field_reads}
 use Rattle.split_shades.specs.Basis.{Basis, value_label, read_label}
 use Rattle.split_shades.specs.Flows.{IsSeenOn, ValueFlows}
-use Rattle.split_shades.specs.Shades.{Shade, EntryShade, Ahead, calm_ahead, Meets, ahead_of, released_by}
+use Rattle.split_shades.specs.Shades.{Shade, EntryShade, Ahead, calm_ahead, Meets, ahead_of}
 use Rattle.split_shades.specs.Shades.{level_entry}
 use Rattle.split_shades.specs.Steps.{AreSteps}
 
