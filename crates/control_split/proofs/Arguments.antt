@@ -9,8 +9,8 @@ use Rattle.label_lattice.specs.declared.label.Label.{Label}
 use Rattle.jif_tree.specs.declared.program.Expr.{Expr}
 use Rattle.jif_tree.specs.Trees.{ExprTree, expr_tree}
 use Rattle.host_code.specs.declared.instruction.Op.TheVariants as op
-use Rattle.split_rules.specs.Expressions.{nodes_of}
-use Rattle.split_rules.specs.Walk.{Walked, emitted, expr_emissions, pass_emissions, argument_emissions}
+use Rattle.split_rules.specs.Expressions.{nodes_of, released_by}
+use Rattle.split_rules.specs.Walk.{Walked, expr_emissions, pass_emissions, argument_emissions, releasing}
 use Rattle.control_split.specs.Trace.{TraceShape, traced}
 use Rattle.control_split.proofs.Traces.{traced_append}
 use Rattle.control_split.proofs.Operands.{no_parameters}
@@ -36,7 +36,7 @@ pub one_argument : (walked : Walked) (host home : HostId) (label : Label) (state
     (start before after : TraceShape) (left more : List VarId) (param : VarId) (args : List Expr) (index : ℕ)
     (arg : Expr) → left ≡ param ∷ more → index < length args → arg ≡ get_or args index arg →
     after ≡ traced before (expr_emissions host label statement 0 (expr_tree arg)
-    ++ emitted host label statement (op.Arg param (nodes_of 0 (expr_tree arg)))
+    ++ releasing host label statement (op.Arg param (nodes_of 0 (expr_tree arg))) (released_by 0 (expr_tree arg))
     ∷ pass_emissions walked.planned host label statement param (Some home)) →
     traced before (argument_emissions walked host home label statement left (map expr_tree (drop index args))) ≡ start →
     traced after (argument_emissions walked host home label statement more (map expr_tree (drop (index + 1) args))) ≡
@@ -44,7 +44,7 @@ pub one_argument : (walked : Walked) (host home : HostId) (label : Label) (state
 one_argument walked host home label statement start before after left more param args index arg first within arg_is is
     so =
     let own = expr_emissions host label statement 0 (expr_tree arg)
-    ++ emitted host label statement (op.Arg param (nodes_of 0 (expr_tree arg)))
+    ++ releasing host label statement (op.Arg param (nodes_of 0 (expr_tree arg))) (released_by 0 (expr_tree arg))
     ∷ pass_emissions walked.planned host label statement param (Some home) in
     let rest = argument_emissions walked host home label statement more (map expr_tree (drop (index + 1) args)) in
     let here : drop index args ≡ arg ∷ drop (index + 1) args =

@@ -6,9 +6,9 @@ use Rattle.label_lattice.specs.declared.label.Label.{Label}
 use Rattle.jif_tree.specs.Trees.{Heading, ExprTree, BlockTree, done, branch, loop}
 use Rattle.host_code.specs.declared.instruction.Op.TheVariants as op
 use Rattle.split_rules.specs.Emissions.{Emission, Counts, entry, stands, lands, counts_after}
-use Rattle.split_rules.specs.Expressions.{Reading, nodes_of, readings_of}
+use Rattle.split_rules.specs.Expressions.{Reading, nodes_of, readings_of, released_by}
 use Rattle.split_rules.specs.Walk.{Walked, Around, lane_on, entry_id, need_of, emitted, read_emissions, expr_emissions}
-use Rattle.split_rules.specs.Walk.{block_emissions}
+use Rattle.split_rules.specs.Walk.{block_emissions, releasing}
 use Rattle.control_split.specs.Own.{inside_of, branch_front, loop_front, own_emissions}
 use Rattle.control_split.specs.Trace.{TraceShape, traced}
 use Rattle.control_split.proofs.Traces.{traced_append, traced_counts}
@@ -37,7 +37,7 @@ pub branch_front_traced : (walked : Walked) (around : Around) (host : HostId) (l
     pushed ≡ traced named (emitted host around.pc id (op.Push (entry_id start.counts.entries)) ∷ []) →
     reading ≡ traced pushed (expr_emissions host around.pc id 0 guard) →
     branched ≡ traced reading
-    (emitted host around.pc id (op.Branch (nodes_of 0 guard) reading.counts.branches) ∷ []) →
+    (releasing host around.pc id (op.Branch (nodes_of 0 guard) reading.counts.branches) (released_by 0 guard) ∷ []) →
     (branched ≡ traced start (branch_front walked around start.counts host left id guard))
     × (reading.counts.branches ≡ start.counts.branches)
 branch_front_traced walked around host left id guard start named pushed reading branched named_is pushed_is reading_is
@@ -50,7 +50,8 @@ branch_front_traced walked around host left id guard start named pushed reading 
     let second = emitted host around.pc id (op.Push (entry_id start.counts.entries)) in
     let reads = expr_emissions host around.pc id 0 guard in
     let there = traced start (first ∷ second ∷ []) in
-    let last : ℕ → Emission = λ number. emitted host around.pc id (op.Branch (nodes_of 0 guard) number) in
+    let last : ℕ → Emission = λ number. releasing host around.pc id (op.Branch (nodes_of 0 guard) number)
+    (released_by 0 guard) in
     let pushed_there : pushed ≡ there =
     pushed_is ∙ ap (λ (trace : TraceShape). traced trace (second ∷ [])) named_is in
     let reading_there : reading ≡ traced there reads =
@@ -115,7 +116,7 @@ pub loop_front_traced : (walked : Walked) (around : Around) (host : HostId) (lef
     stood ≡ traced named (stands host start.counts.entries ∷ []) →
     reading ≡ traced stood (expr_emissions host inside.pc id 0 guard) →
     branched ≡ traced reading
-    (emitted host inside.pc id (op.Branch (nodes_of 0 guard) reading.counts.branches) ∷ []) →
+    (releasing host inside.pc id (op.Branch (nodes_of 0 guard) reading.counts.branches) (released_by 0 guard) ∷ []) →
     pushed ≡ traced branched (emitted host inside.pc id (op.Push (entry_id start.counts.entries)) ∷ []) →
     (pushed ≡ traced start (loop_front walked around start.counts host left id guard))
     × (reading.counts.branches ≡ start.counts.branches)
@@ -130,7 +131,8 @@ loop_front_traced walked around host left id guard start named stood reading bra
     let second = stands host start.counts.entries in
     let reads = expr_emissions host inside.pc id 0 guard in
     let there = traced start (first ∷ second ∷ []) in
-    let branches : ℕ → Emission = λ number. emitted host inside.pc id (op.Branch (nodes_of 0 guard) number) in
+    let branches : ℕ → Emission = λ number. releasing host inside.pc id (op.Branch (nodes_of 0 guard) number)
+    (released_by 0 guard) in
     let last = emitted host inside.pc id (op.Push (entry_id start.counts.entries)) in
     let stood_there : stood ≡ there =
     stood_is ∙ ap (λ (trace : TraceShape). traced trace (second ∷ [])) named_is in

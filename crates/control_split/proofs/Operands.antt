@@ -9,8 +9,8 @@ use Rattle.jif_tree.specs.Trees.{ExprTree}
 use Rattle.jif_tree.specs.Sizes.{expr_nodes}
 use Rattle.host_code.specs.declared.instruction.Op.TheVariants as op
 use Rattle.split_rules.specs.Emissions.{Emission}
-use Rattle.split_rules.specs.Expressions.{Reading, reads_in, nodes_of}
-use Rattle.split_rules.specs.Walk.{Walked, emitted, read_emissions, result_emissions, argument_emissions}
+use Rattle.split_rules.specs.Expressions.{Reading, reads_in, nodes_of, released_by}
+use Rattle.split_rules.specs.Walk.{Walked, read_emissions, result_emissions, argument_emissions, releasing}
 use Rattle.control_split.specs.Trace.{TraceShape, traced, traced_one}
 use Rattle.control_split.proofs.Reading.{reads_few}
 use Rattle.control_split.proofs.Traces.{traced_append}
@@ -25,7 +25,8 @@ pub reads_both : (start between behind : TraceShape) (host : HostId) (label : La
     behind ≡ traced between (read_emissions host label statement two) →
     behind ≡ traced start (read_emissions host label statement (one ++ two))
 reads_both start between behind host label statement one two first second =
-    let give : Reading → Emission = λ reading. emitted host label statement (op.Read reading.field reading.index) in
+    let give : Reading → Emission =
+    λ reading. releasing host label statement (op.Read reading.field reading.index) reading.released in
     second
     ∙ ap (λ (trace : TraceShape). traced trace (read_emissions host label statement two)) first
     ∙ sym (traced_append start (map give one) (map give two))
@@ -40,7 +41,7 @@ traced_then start between behind first second one two =
 pub result_kept : (walked : Walked) (host : HostId) (label : Label) (statement : StmtId) (value : ExprTree)
     (kept : VarId) → walked.setting.result ≡ Some kept →
     result_emissions walked host label statement value
-    ≡ emitted host label statement (op.Ret kept (nodes_of 0 value)) ∷ []
+    ≡ releasing host label statement (op.Ret kept (nodes_of 0 value)) (released_by 0 value) ∷ []
 result_kept walked host label statement value kept is = rw is refl
 
 pub no_parameters : (walked : Walked) (host home : HostId) (label : Label) (statement : StmtId)

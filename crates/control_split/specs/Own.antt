@@ -8,9 +8,9 @@ use Rattle.jif_tree.specs.LabelRules.{guarded}
 use Rattle.host_code.specs.declared.instruction.Op.TheVariants as op
 use Rattle.need_labels.specs.Labelled.{all_labels}
 use Rattle.split_rules.specs.Emissions.{Emission, entry, stands, lands, Counts, counts_after}
-use Rattle.split_rules.specs.Expressions.{reads_in, nodes_of, first_element}
+use Rattle.split_rules.specs.Expressions.{reads_in, nodes_of, first_element, released_by}
 use Rattle.split_rules.specs.Walk.{Walked, Around, lane_on, entry_id, need_of, emitted, expr_emissions, send_emissions}
-use Rattle.split_rules.specs.Walk.{call_emissions, result_emissions, block_emissions}
+use Rattle.split_rules.specs.Walk.{call_emissions, result_emissions, block_emissions, releasing}
 
 -- inside a branch or a loop
 abbrev pub inside_of : Walked → Around → StmtId → ExprTree → Around
@@ -28,7 +28,7 @@ branch_front walked around here host left id guard =
     })
     ∷ emitted host around.pc id (op.Push (entry_id here.entries))
     ∷ expr_emissions host around.pc id 0 guard
-    ++ emitted host around.pc id (op.Branch (nodes_of 0 guard) here.branches) ∷ []
+    ++ releasing host around.pc id (op.Branch (nodes_of 0 guard) here.branches) (released_by 0 guard) ∷ []
 
 abbrev pub loop_front : Walked → Around → Counts → HostId → List StmtId → StmtId → ExprTree → List Emission
 loop_front walked around here host left id guard =
@@ -40,7 +40,7 @@ loop_front walked around here host left id guard =
     })
     ∷ stands host here.entries
     ∷ expr_emissions host inside.pc id 0 guard
-    ++ emitted host inside.pc id (op.Branch (nodes_of 0 guard) here.branches)
+    ++ releasing host inside.pc id (op.Branch (nodes_of 0 guard) here.branches) (released_by 0 guard)
     ∷ emitted host inside.pc id (op.Push (entry_id here.entries)) ∷ []
 
 -- The statements behind it that run under the same token are given by their numbers, and what it gives is carried to a
@@ -49,15 +49,16 @@ abbrev pub own_emissions : Walked → Around → Counts → HostId → List Stmt
 own_emissions walked around here host left carried done = []
 own_emissions walked around here host left carried (set_local heading x value rest) =
     expr_emissions host around.pc heading.id 0 value
-    ++ emitted host around.pc heading.id (op.Let x (nodes_of 0 value))
+    ++ releasing host around.pc heading.id (op.Let x (nodes_of 0 value)) (released_by 0 value)
     ∷ send_emissions walked.planned host around.pc heading.id x carried
 own_emissions walked around here host left carried (set_field heading field value rest) =
     expr_emissions host around.pc heading.id 0 value
-    ++ emitted host around.pc heading.id (op.Put field first_element (nodes_of 0 value)) ∷ []
+    ++ releasing host around.pc heading.id (op.Put field first_element (nodes_of 0 value)) (released_by 0 value) ∷ []
 own_emissions walked around here host left carried (set_element heading field index value rest) =
     expr_emissions host around.pc heading.id 0 index
     ++ expr_emissions host around.pc heading.id (reads_in index) value
-    ++ emitted host around.pc heading.id (op.Put field (nodes_of 0 index) (nodes_of (reads_in index) value)) ∷ []
+    ++ releasing host around.pc heading.id (op.Put field (nodes_of 0 index) (nodes_of (reads_in index) value))
+    (released_by 0 index ++ released_by (reads_in index) value) ∷ []
 own_emissions walked around here host left carried (branch heading guard first second rest) =
     let inside = inside_of walked around heading.id guard in
     let front = branch_front walked around here host left heading.id guard in

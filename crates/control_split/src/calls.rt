@@ -5,9 +5,9 @@ ghost use Rattle.js_base.specs.declared.ids.StmtId.{StmtId};
 ghost use Rattle.host_code.specs.declared.code_expr.Node.TheVariants as node;
 ghost use Rattle.host_code.specs.declared.instruction.Op.TheVariants as op;
 ghost use Rattle.jif_tree.specs.Trees.{expr_tree};
-ghost use Rattle.split_rules.specs.Expressions.{nodes_of};
-ghost use Rattle.split_rules.specs.Walk.{emitted, entry_id, expr_emissions, argument_emissions, pass_emissions};
-ghost use Rattle.split_rules.specs.Walk.{kept_emissions, call_emissions, result_emissions, need_of};
+ghost use Rattle.split_rules.specs.Expressions.{nodes_of, released_by};
+ghost use Rattle.split_rules.specs.Walk.{entry_id, expr_emissions, argument_emissions, pass_emissions};
+ghost use Rattle.split_rules.specs.Walk.{kept_emissions, call_emissions, result_emissions, need_of, releasing};
 ghost use Rattle.control_split.specs.Trace.{traced};
 ghost use Rattle.control_split.specs.Views.{walked_of, planned_in, IsSizedExpr};
 
@@ -43,8 +43,8 @@ fn argument(
     requires { IsSizedExpr (expr_tree argument.now) }
     ensures { OnOk result (trace.new ≡ traced trace.old
         (expr_emissions place.now.host place.now.label.now place.now.statement 0 (expr_tree argument.now)
-        ++ emitted place.now.host place.now.label.now place.now.statement
-        (op.Arg param (nodes_of 0 (expr_tree argument.now)))
+        ++ releasing place.now.host place.now.label.now place.now.statement
+        (op.Arg param (nodes_of 0 (expr_tree argument.now))) (released_by 0 (expr_tree argument.now))
         ∷ pass_emissions (planned_in walk.now.split) place.now.host place.now.label.now place.now.statement param
         (Some home))) }
 {

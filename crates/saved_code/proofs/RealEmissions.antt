@@ -34,7 +34,7 @@ use Rattle.split_rules.specs.Emissions.{Emission, instruction, entry, stands, la
 use Rattle.split_rules.specs.Expressions.{Reading, reads_in, readings_of}
 use Rattle.split_rules.specs.Walk.{Walked, Around, Lane, lane_on, under_token, emitted, need_of, entry_id}
 use Rattle.split_rules.specs.Walk.{push_or_ask, expr_emissions, told_readers, leave_emissions, enter_emissions}
-use Rattle.split_rules.specs.Walk.{send_emissions, pass_emissions, go_with, call_with}
+use Rattle.split_rules.specs.Walk.{read_emissions, send_emissions, pass_emissions, go_with, call_with}
 use Rattle.split_rules.specs.Walk.{move_emissions, end_emissions, argument_emissions, kept_emissions, call_emissions}
 use Rattle.split_rules.specs.Walk.{result_emissions, block_emissions, walked_in, method_emissions, methods_emissions}
 use Rattle.split_rules.proofs.WalkedMoves.{one_of_two}
@@ -76,7 +76,7 @@ mapped_real make real (x ∷ xs) = more_real (real x) (mapped_real make real xs)
 
 reads_real : (host : HostId) (pc : Label) (statement : StmtId) → IsLabel pc → statement.0 < 2 ^ 32 →
     (readings : List Reading) → AreRealReadings readings →
-    AreReal (map (λ reading. emitted host pc statement (op.Read reading.field reading.index)) readings)
+    AreReal (read_emissions host pc statement readings)
 reads_real host pc statement under small [] real = none_real
 reads_real host pc statement under small (reading ∷ readings) real =
     more_real (under, small, real.0) (reads_real host pc statement under small readings real.1)

@@ -33,7 +33,7 @@ use Rattle.msg_cost.specs.Terms.{is_told}
 use Rattle.msg_cost.proofs.Bounds.{all_left, all_right}
 use Rattle.split_rules.specs.Emissions.{Emission, instruction, entry, stands, lands, Emitted, Named, Counts}
 use Rattle.split_rules.specs.Emissions.{counts_after}
-use Rattle.split_rules.specs.Expressions.{Reading, reads_in, nodes_of, readings_of}
+use Rattle.split_rules.specs.Expressions.{Reading, reads_in, nodes_of, readings_of, released_by}
 use Rattle.split_rules.specs.Walk.{Walked, Around, Lane, lane_on, entry_id, emitted}
 use Rattle.split_rules.specs.Walk.{expr_emissions, read_emissions, told_readers, send_emissions, go_with, call_with}
 use Rattle.split_rules.specs.Walk.{leave_emissions, enter_emissions, move_emissions, end_emissions}
@@ -116,7 +116,8 @@ few_reads first (local x) = omega arith
 few_reads first (scalar field) = omega arith
 few_reads first (element field index) =
     let so = few_reads first index in
-    let many = length-append (readings_of first index) (record { field = field; index = nodes_of first index } ∷ []) in
+    let many = length-append (readings_of first index)
+    (record { field = field; index = nodes_of first index; released = released_by first index } ∷ []) in
     omega arith
 few_reads first (inverted operand) = let so = few_reads first operand in omega arith
 few_reads first (negated operand) = let so = few_reads first operand in omega arith

@@ -22,12 +22,13 @@ use Rattle.msg_cost.specs.declared.spot.Spot.{Spot}
 use Rattle.msg_cost.specs.Moves.{PlannedShape, on, next_spot, carried_to, is_to, own_statements, home_of, called_home}
 use Rattle.msg_cost.specs.Terms.{reads_on, is_other_reader, is_told}
 use Rattle.split_rules.specs.Emissions.{Emission, stands, lands, Named, Counts, counts_after}
-use Rattle.split_rules.specs.Expressions.{Reading, reads_in, nodes_of, readings_of, first_element}
+use Rattle.split_rules.specs.Expressions.{Reading, reads_in, nodes_of, readings_of, first_element, released_by}
 use Rattle.split_rules.specs.SplitCode.{entries_in}
 use Rattle.split_rules.specs.Walk.{Walked, Around, Lane, lane_on, lane_at, entry_id, need_of, under_token, emitted}
 use Rattle.split_rules.specs.Walk.{expr_emissions, read_emissions, told_readers, send_emissions, pass_emissions}
 use Rattle.split_rules.specs.Walk.{move_emissions, argument_emissions, riding_params, kept_emissions, call_emissions}
 use Rattle.split_rules.specs.Walk.{result_emissions, block_emissions, walked_in, method_emissions, methods_emissions}
+use Rattle.split_rules.specs.Walk.{releasing}
 use Rattle.split_rules.proofs.BackedLabels.{all_both}
 use Rattle.split_rules.proofs.Places.{entries_append}
 use Rattle.split_rules.proofs.WalkedStates.{counts_more}
@@ -151,10 +152,10 @@ passed_quiet labelled planned named host pc statement x carried well =
 
 -- an instruction that asks nothing, before others
 silent_first : (labelled : Labelled) (planned : PlannedShape) (named : List Named) (host : HostId) (pc : Label)
-    (statement : StmtId) (x : VarId) (value : List Node) (more : List Emission) →
+    (statement : StmtId) (x : VarId) (value : List Node) (released : List (List Node)) (more : List Emission) →
     IsQuiet labelled planned named more →
-    IsQuiet labelled planned named (emitted host pc statement (op.Let x value) ∷ more)
-silent_first labelled planned named host pc statement x value more quiet =
+    IsQuiet labelled planned named (releasing host pc statement (op.Let x value) released ∷ more)
+silent_first labelled planned named host pc statement x value released more quiet =
     record { told = (tt, quiet.told); none = quiet.none }
 
 -- ---- calls
@@ -180,7 +181,7 @@ kept_quiet : (walked : Walked) (named : List Named) (host : HostId) (pc : Label)
     into →
     IsQuiet walked.labelled walked.planned named (kept_emissions walked host pc statement result into carried)
 kept_quiet walked named host pc statement (Some result) (Some into) carried well =
-    silent_first walked.labelled walked.planned named host pc statement into _ _
+    silent_first walked.labelled walked.planned named host pc statement into _ [] _
     (given_quiet walked.labelled walked.planned named host pc statement into carried well)
 kept_quiet walked named host pc statement (Some result) None carried well = record { told = tt; none = refl }
 kept_quiet walked named host pc statement None (Some into) carried well = record { told = tt; none = refl }
@@ -407,7 +408,8 @@ block_told walked around (set_local heading x value rest) well counts lane named
     let pc = around.pc in
     let next = next_spot planned lane.spot heading.id (own_statements rest) in
     let own : HostId → List Emission = λ host. expr_emissions host pc heading.id 0 value
-    ++ emitted host pc heading.id (op.Let x (nodes_of 0 value)) ∷ send_emissions planned host pc heading.id x
+    ++ releasing host pc heading.id (op.Let x (nodes_of 0 value))
+    (released_by 0 value) ∷ send_emissions planned host pc heading.id x
     (carried_to planned next (own_statements rest)) in
     statement_then walked around counts lane heading.id (own_statements rest) named counted begun sees
     (statements_see labelled planned walked.setting pc (set_local heading x value rest) well) (own next.host) _
@@ -427,7 +429,7 @@ block_told walked around (set_field heading field value rest) well counts lane n
     let planned = walked.planned in
     let pc = around.pc in
     let own : HostId → List Emission = λ host. expr_emissions host pc heading.id 0 value
-    ++ emitted host pc heading.id (op.Put field first_element (nodes_of 0 value)) ∷ [] in
+    ++ releasing host pc heading.id (op.Put field first_element (nodes_of 0 value)) (released_by 0 value) ∷ [] in
     let next = next_spot planned lane.spot heading.id (own_statements rest) in
     statement_then walked around counts lane heading.id (own_statements rest) named counted begun sees
     (statements_see labelled planned walked.setting pc (set_field heading field value rest) well) (own next.host) _
@@ -447,7 +449,8 @@ block_told walked around (set_element heading field index value rest) well count
     let pc = around.pc in
     let own : HostId → List Emission = λ host. expr_emissions host pc heading.id 0 index
     ++ expr_emissions host pc heading.id (reads_in index) value
-    ++ emitted host pc heading.id (op.Put field (nodes_of 0 index) (nodes_of (reads_in index) value)) ∷ [] in
+    ++ releasing host pc heading.id (op.Put field (nodes_of 0 index) (nodes_of (reads_in index) value))
+    (released_by 0 index ++ released_by (reads_in index) value) ∷ [] in
     let next = next_spot planned lane.spot heading.id (own_statements rest) in
     statement_then walked around counts lane heading.id (own_statements rest) named counted begun sees
     (statements_see labelled planned walked.setting pc (set_element heading field index value rest) well)

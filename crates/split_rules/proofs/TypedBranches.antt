@@ -8,8 +8,8 @@ use Rattle.host_code.specs.declared.instruction.Op.TheVariants as op
 use Rattle.msg_cost.specs.declared.spot.Spot.{Spot}
 use Rattle.msg_cost.specs.Moves.{PlannedShape}
 use Rattle.split_rules.specs.Emissions.{Emission, stands, lands, Counts, counts_after}
-use Rattle.split_rules.specs.Expressions.{nodes_of}
-use Rattle.split_rules.specs.Walk.{Walked, Around, entry_id, emitted, need_of, under_token}
+use Rattle.split_rules.specs.Expressions.{nodes_of, released_by}
+use Rattle.split_rules.specs.Walk.{Walked, Around, entry_id, emitted, need_of, under_token, releasing}
 use Rattle.split_rules.specs.Positions.{is_on, Due, run, all_due, Level, under, field_reads, Position, calm, with_reads}
 use Rattle.split_rules.specs.Positions.{due_numbers, Entrance}
 use Rattle.split_rules.specs.Typing.{EntryIs, Cuts, Place, nowhere, here, Known, AreTyped, AreDueOn, Covers, need_due}
@@ -208,7 +208,8 @@ branch_typed walked around level heading guard first second next own others trus
         (calm level due, refl, (trusted, tt), (calm (under number) (run statement ∷ []), cuts, refl)),
         reads_then planned site (under number) (run statement ∷ [])
             (due_on planned site (under number) statement [] own (trusted.0, tt)) joined branches guard refl
-            (emitted host around.pc heading.id (op.Branch (nodes_of 0 guard) (length branches)) ∷ []) start (
+            (releasing host around.pc heading.id (op.Branch (nodes_of 0 guard) (length branches))
+            (released_by 0 guard) ∷ []) start (
               start,
               (
                 with_reads (calm (under number) (run statement ∷ [])) (field_reads guard),
@@ -362,7 +363,7 @@ loop_typed walked around level heading guard inner next own others trusted inner
         (head.position, head.need, at_last entries head [], inr refl, refl),
         reads_then planned site level due (due_on planned site level statement others own trusted) headed branches guard
             refl
-            (emitted host site.label heading.id (op.Branch (nodes_of 0 guard) (length branches))
+            (releasing host site.label heading.id (op.Branch (nodes_of 0 guard) (length branches)) (released_by 0 guard)
             ∷ emitted host site.label heading.id (op.Push (entry_id number)) ∷ []) start (
               known_at (here host again) headed opened,
               (

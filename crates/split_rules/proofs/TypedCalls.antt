@@ -15,10 +15,10 @@ use Rattle.jif_tree.specs.LabelRules.{method_at, result_of, params_of}
 use Rattle.jif_tree.specs.WellNumbered.{is_some}
 use Rattle.host_code.specs.declared.instruction.Op.TheVariants as op
 use Rattle.msg_cost.specs.Moves.{PlannedShape, is_trusted_for, is_to, home_of}
-use Rattle.split_rules.specs.Expressions.{nodes_of}
-use Rattle.split_rules.specs.Walk.{Walked, emitted, expr_emissions, pass_emissions, argument_emissions, kept_emissions}
+use Rattle.split_rules.specs.Expressions.{nodes_of, released_by}
+use Rattle.split_rules.specs.Walk.{Walked, expr_emissions, pass_emissions, argument_emissions, kept_emissions}
 use Rattle.split_rules.specs.Walk.{called_emissions, call_emissions, need_of, riders_to, riding_params, call_with}
-use Rattle.split_rules.specs.Walk.{entry_id}
+use Rattle.split_rules.specs.Walk.{entry_id, releasing}
 use Rattle.split_rules.specs.Positions.{is_on, Due, run, keep, all_due, kept_due, Level, body, field_reads, Argument}
 use Rattle.split_rules.specs.Positions.{arguments_of, arguing, entering, Forward, Position, calm, with_reads}
 use Rattle.split_rules.specs.Positions.{with_forwards}
@@ -133,7 +133,8 @@ arguments_typed walked site level due statement set on_due own trusted is_of hom
     let middle = known_at (here site.me second) entries branches in
     let reads = expr_emissions site.me site.label site.id 0 argument in
     let passes = pass_emissions planned site.me site.label site.id param (Some home) in
-    let handed = emitted site.me site.label site.id (op.Arg param (nodes_of 0 argument)) ∷ passes in
+    let handed = releasing site.me site.label site.id (op.Arg param (nodes_of 0 argument))
+    (released_by 0 argument) ∷ passes in
     let sent = with_forwards second (out ++ forwards_of planned site.me statement param) in
     let given : IsGivenOn planned site.me statement param =
     record { on_host = own; trusted = trusted; is_of = is_of; gives = among param (inl refl) } in

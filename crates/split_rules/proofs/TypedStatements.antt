@@ -10,8 +10,8 @@ use Rattle.jif_tree.specs.LabelRules.{method_at, result_of}
 use Rattle.host_code.specs.declared.instruction.Op.TheVariants as op
 use Rattle.msg_cost.specs.Moves.{PlannedShape}
 use Rattle.split_rules.specs.Emissions.{Emission}
-use Rattle.split_rules.specs.Expressions.{reads_in, nodes_of, first_element}
-use Rattle.split_rules.specs.Walk.{emitted, expr_emissions, send_emissions}
+use Rattle.split_rules.specs.Expressions.{reads_in, nodes_of, first_element, released_by}
+use Rattle.split_rules.specs.Walk.{expr_emissions, send_emissions, releasing}
 use Rattle.split_rules.specs.Positions.{IsIn, Due, run, statement_due, is_on, Level, body, FieldRead, field_reads}
 use Rattle.split_rules.specs.Positions.{own_reads, Forward, Position, calm, with_reads, with_forwards, forwards_of}
 use Rattle.split_rules.specs.Positions.{Entrance}
@@ -67,7 +67,7 @@ pub set_local_typed : (planned : PlannedShape) (site : Site) (level : Level) (he
     (entries : List Entrance) (branches : List Position) →
     AreTyped planned (calm_at site level (run (set_local heading x value done) ∷ others) entries branches)
     (expr_emissions site.me site.label site.id 0 value
-    ++ emitted site.me site.label site.id (op.Let x (nodes_of 0 value))
+    ++ releasing site.me site.label site.id (op.Let x (nodes_of 0 value)) (released_by 0 value)
     ∷ send_emissions planned site.me site.label site.id x carried)
     (riding_at site level others (out_behind planned site.me (set_local heading x value done) x carried) entries
     branches)
@@ -106,7 +106,7 @@ pub set_field_typed : (planned : PlannedShape) (site : Site) (level : Level) (he
     (entries : List Entrance) (branches : List Position) →
     AreTyped planned (calm_at site level (run (set_field heading field value done) ∷ others) entries branches)
     (expr_emissions site.me site.label site.id 0 value
-    ++ emitted site.me site.label site.id (op.Put field first_element (nodes_of 0 value)) ∷ [])
+    ++ releasing site.me site.label site.id (op.Put field first_element (nodes_of 0 value)) (released_by 0 value) ∷ [])
     (calm_at site level others entries branches)
 set_field_typed planned site level heading field value others on_host trusted entries branches =
     let statement = set_field heading field value done in
@@ -143,7 +143,8 @@ pub set_element_typed : (planned : PlannedShape) (site : Site) (level : Level) (
     AreTyped planned (calm_at site level (run (set_element heading field index value done) ∷ others) entries branches)
     (expr_emissions site.me site.label site.id 0 index
     ++ expr_emissions site.me site.label site.id (reads_in index) value
-    ++ emitted site.me site.label site.id (op.Put field (nodes_of 0 index) (nodes_of (reads_in index) value)) ∷ [])
+    ++ releasing site.me site.label site.id (op.Put field (nodes_of 0 index) (nodes_of (reads_in index) value))
+    (released_by 0 index ++ released_by (reads_in index) value) ∷ [])
     (calm_at site level others entries branches)
 set_element_typed planned site level heading field index value others on_host trusted entries branches =
     let statement = set_element heading field index value done in
@@ -154,7 +155,8 @@ set_element_typed planned site level heading field index value others on_host tr
     let one = expr_emissions site.me site.label site.id 0 index in
     let two = expr_emissions site.me site.label site.id (reads_in index) value in
     let all = with_reads (calm level due) (field_reads index ++ field_reads value) in
-    let put = emitted site.me site.label site.id (op.Put field (nodes_of 0 index) (nodes_of (reads_in index) value)) in
+    let put = releasing site.me site.label site.id (op.Put field (nodes_of 0 index) (nodes_of (reads_in index) value))
+    (released_by 0 index ++ released_by (reads_in index) value) in
     let P : ℕ → Type 0 = λ many. AreTyped planned middle (expr_emissions site.me site.label site.id many value)
     (known_at (here site.me all) entries branches) in
     typed_on planned first (one ++ two) (put ∷ []) (known_at (here site.me all) entries branches) _
@@ -193,7 +195,7 @@ pub give_back_typed : (planned : PlannedShape) (site : Site) (method : MethodId)
     (entries : List Entrance) (branches : List Position) →
     AreTyped planned (calm_at site (body method) (run (give_back heading value done) ∷ []) entries branches)
     (expr_emissions site.me site.label site.id 0 value
-    ++ emitted site.me site.label site.id (op.Ret result (nodes_of 0 value)) ∷ [])
+    ++ releasing site.me site.label site.id (op.Ret result (nodes_of 0 value)) (released_by 0 value) ∷ [])
     (calm_at site (body method) [] entries branches)
 give_back_typed planned site method heading value result is in_it on_host trusted entries branches =
     let statement = give_back heading value done in

@@ -13,8 +13,8 @@ use Rattle.host_code.specs.declared.code_expr.Node.{Node}
 use Rattle.host_code.specs.declared.instruction.Op.TheVariants as op
 use Rattle.msg_cost.specs.Moves.{PlannedShape}
 use Rattle.split_rules.specs.Emissions.{Emission}
-use Rattle.split_rules.specs.Expressions.{Reading, reads_in, nodes_of, readings_of, first_element}
-use Rattle.split_rules.specs.Walk.{emitted, read_emissions, expr_emissions}
+use Rattle.split_rules.specs.Expressions.{Reading, reads_in, nodes_of, readings_of, first_element, released_by}
+use Rattle.split_rules.specs.Walk.{read_emissions, expr_emissions, releasing}
 use Rattle.split_rules.specs.Positions.{Due, statement_due, is_on, FieldRead, field_reads, reads_due}
 use Rattle.split_rules.specs.Positions.{Position, with_reads, Entrance}
 use Rattle.split_rules.specs.Typing.{IsTrustedAt, here, AreTyped}
@@ -58,12 +58,13 @@ ReadsFrom planned site base entries branches before emissions behind =
 -- one read, of the element that is due next
 one_read : (planned : PlannedShape) (site : Site) (base : Position) → (on_due : IsDueOn planned site.me base) →
     (entries : List Entrance) (branches : List Position) (inner : List FieldRead) (field : FieldId) (index : ExprTree)
-    (nodes : List Node) (before : List FieldRead) → inner ≡ before ++ field_reads index →
+    (nodes : List Node) (released : List (List Node)) (before : List FieldRead) → inner ≡ before ++ field_reads index →
     nodes ≡ nodes_of (length before) index → (after : List FieldRead) →
     reads_due base.calling (statement_due on_due.first) ≡ inner ++ record { field = field; index = index } ∷ after →
-    ReadsFrom planned site base entries branches inner (reads_at site (record { field = field; index = nodes } ∷ []))
+    ReadsFrom planned site base entries branches inner
+    (reads_at site (record { field = field; index = nodes; released = released } ∷ []))
     (inner ++ record { field = field; index = index } ∷ [])
-one_read planned site base on_due entries branches inner field index nodes before inner_is are after is =
+one_read planned site base on_due entries branches inner field index nodes released before inner_is are after is =
     let behind = with_reads base (inner ++ record { field = field; index = index } ∷ []) in (
       known_at (here site.me behind) entries branches,
       (
@@ -103,23 +104,25 @@ expr_typed planned site base on_due entries branches before (number value) after
 expr_typed planned site base on_due entries branches before (local x) after is =
     ap (λ reads. known_at (here site.me (with_reads base reads)) entries branches) (sym (append-nil before))
 expr_typed planned site base on_due entries branches before (scalar field) after is =
-    one_read planned site base on_due entries branches before field (number (pos 0)) first_element before
+    one_read planned site base on_due entries branches before field (number (pos 0)) first_element [] before
     (sym (append-nil before)) refl after is
 expr_typed planned site base on_due entries branches before (element field index) after is =
     let first = length before in
     let inner = before ++ field_reads index in
     let last : FieldRead = record { field = field; index = index } in
     let middle = known_at (here site.me (with_reads base inner)) entries branches in
-    let read : Reading = record { field = field; index = nodes_of first index } in
+    let read : Reading =
+    record { field = field; index = nodes_of first index; released = released_by first index } in
     let P : List Emission → Type 0 = λ emissions. ReadsFrom planned site base entries branches before emissions
     (before ++ (field_reads index ++ last ∷ [])) in
     let Q : List FieldRead → Type 0 = λ reads. AreTyped planned middle (reads_at site (read ∷ []))
     (known_at (here site.me (with_reads base reads)) entries branches) in
     let inner_is = is ∙ ap (λ reads. before ++ reads) (append_assoc (field_reads index) (last ∷ []) after) in
     let step : Q (inner ++ last ∷ []) = one_read planned site base on_due entries branches inner field index
-    (nodes_of first index) before refl refl after
+    (nodes_of first index) (released_by first index) before refl refl after
     (inner_is ∙ sym (append_assoc before (field_reads index) (last ∷ after))) in
-    subst P (sym (map-append (λ reading. emitted site.me site.label site.id (op.Read reading.field reading.index))
+    subst P (sym (map-append (λ reading. releasing site.me site.label site.id (op.Read reading.field reading.index)
+    reading.released)
     (readings_of first index) (read ∷ [])))
     (typed_on planned (known_at (here site.me (with_reads base before)) entries branches)
     (expr_emissions site.me site.label site.id first index) (reads_at site (read ∷ [])) middle _
@@ -142,7 +145,8 @@ expr_typed planned site base on_due entries branches before (binary operator lef
     (known_at (here site.me (with_reads base (inner ++ field_reads right))) entries branches) in
     let many : length inner ≡ first + reads_in left = rw (length-append, reads_many left) refl in
     let left_is = is ∙ ap (λ reads. before ++ reads) (append_assoc (field_reads left) (field_reads right) after) in
-    subst P (sym (map-append (λ reading. emitted site.me site.label site.id (op.Read reading.field reading.index))
+    subst P (sym (map-append (λ reading. releasing site.me site.label site.id (op.Read reading.field reading.index)
+    reading.released)
     (readings_of first left) (readings_of (first + reads_in left) right)))
     (typed_on planned (known_at (here site.me (with_reads base before)) entries branches)
     (expr_emissions site.me site.label site.id first left)

@@ -20,10 +20,10 @@ use Rattle.need_labels.specs.Plan.{PlanShape, statement_host}
 use Rattle.msg_cost.specs.declared.spot.Spot.{Spot}
 use Rattle.msg_cost.specs.Moves.{end_of, next_spot, carried_to, own_statements}
 use Rattle.split_rules.specs.Emissions.{Emission, entry, stands, lands, Counts, counts_after}
-use Rattle.split_rules.specs.Expressions.{reads_in, nodes_of}
+use Rattle.split_rules.specs.Expressions.{reads_in, nodes_of, released_by}
 use Rattle.split_rules.specs.Flow.{Scope, stopped, at, Pending, State}
 use Rattle.split_rules.specs.Walk.{Walked, Around, Lane, lane_on, lane_behind, entry_id, need_of, under_token, emitted}
-use Rattle.split_rules.specs.Walk.{expr_emissions, leave_emissions, move_emissions, end_emissions}
+use Rattle.split_rules.specs.Walk.{expr_emissions, leave_emissions, move_emissions, end_emissions, releasing}
 use Rattle.split_rules.specs.Walk.{call_emissions, block_emissions}
 use Rattle.split_rules.proofs.WalkedStates.{state_of, goes_on, counts_more, Reaches, reaches_flow, reaches_on}
 use Rattle.split_rules.proofs.WalkedStates.{goes_then}
@@ -184,7 +184,7 @@ branch_front walked around here heading guard next others =
     })
     ∷ emitted next.host around.pc heading.id (op.Push (entry_id here.entries))
     ∷ expr_emissions next.host around.pc heading.id 0 guard
-    ++ emitted next.host around.pc heading.id (op.Branch (nodes_of 0 guard) here.branches) ∷ []
+    ++ releasing next.host around.pc heading.id (op.Branch (nodes_of 0 guard) here.branches) (released_by 0 guard) ∷ []
 
 abbrev pub branch_own : List Emission → Counts → HostId → (Counts → List Emission) → (Counts → List Emission) →
     List Emission
@@ -263,7 +263,8 @@ branch_goes scope walked walkable method around heading guard there next within 
           (refl, entry_there named next.host [] (length named) refl are.some),
           goes_on scope (state_of (at next.host 0) (named ++ next.host ∷ []) branches owed_there opened)
               (expr_emissions next.host around.pc heading.id 0 guard)
-              (emitted next.host around.pc heading.id (op.Branch (nodes_of 0 guard) branches) ∷ [])
+              (releasing next.host around.pc heading.id (op.Branch (nodes_of 0 guard) branches)
+              (released_by 0 guard) ∷ [])
               (state_of (at next.host (0 + reads_in guard)) (named ++ next.host ∷ []) branches owed_there opened) _
               (expr_goes scope walked.labelled.program walked.planned walkable.scoped method guard there next.host
               around.pc
@@ -291,8 +292,8 @@ loop_front walked around here heading guard next others =
     })
     ∷ stands next.host here.entries
     ∷ expr_emissions next.host (inside_of walked around heading guard).pc heading.id 0 guard
-    ++ emitted next.host (inside_of walked around heading guard).pc heading.id
-    (op.Branch (nodes_of 0 guard) here.branches)
+    ++ releasing next.host (inside_of walked around heading guard).pc heading.id
+    (op.Branch (nodes_of 0 guard) here.branches) (released_by 0 guard)
     ∷ emitted next.host (inside_of walked around heading guard).pc heading.id (op.Push (entry_id here.entries)) ∷ []
 
 abbrev pub loop_own : List Emission → Counts → HostId → (Counts → List Emission) → List Emission
@@ -346,7 +347,7 @@ loop_goes scope walked walkable method around heading guard there next within ot
           (refl, refl),
           goes_on scope (state_of (at next.host 0) (named ++ next.host ∷ []) branches owed opened)
               (expr_emissions next.host label heading.id 0 guard)
-              (emitted next.host label heading.id (op.Branch (nodes_of 0 guard) branches)
+              (releasing next.host label heading.id (op.Branch (nodes_of 0 guard) branches) (released_by 0 guard)
               ∷ emitted next.host label heading.id (op.Push (entry_id (length named))) ∷ [])
               (state_of (at next.host (0 + reads_in guard)) (named ++ next.host ∷ []) branches owed opened) _
               (expr_goes scope walked.labelled.program walked.planned walkable.scoped method guard there next.host label

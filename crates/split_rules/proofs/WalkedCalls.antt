@@ -21,11 +21,11 @@ use Rattle.host_code.specs.declared.riders.TheConstants.{MOST_RIDERS}
 use Rattle.host_code.specs.Code.{host_of_site}
 use Rattle.msg_cost.specs.Moves.{PlannedShape, home_of}
 use Rattle.split_rules.specs.Emissions.{Emission, stands}
-use Rattle.split_rules.specs.Expressions.{reads_in, nodes_of, first_element}
+use Rattle.split_rules.specs.Expressions.{reads_in, nodes_of, first_element, released_by}
 use Rattle.split_rules.specs.Flow.{Scope, at, Pending, State, NodeFits, IsVariable, Goes}
-use Rattle.split_rules.specs.Walk.{Walked, emitted, expr_emissions, send_emissions, pass_emissions, argument_emissions}
+use Rattle.split_rules.specs.Walk.{Walked, expr_emissions, send_emissions, pass_emissions, argument_emissions}
 use Rattle.split_rules.specs.Walk.{kept_emissions, called_emissions, call_emissions, riding_params, result_emissions}
-use Rattle.split_rules.specs.Walk.{entry_id}
+use Rattle.split_rules.specs.Walk.{entry_id, releasing}
 use Rattle.split_rules.proofs.WalkedStates.{state_of, goes_on, Reaches}
 use Rattle.split_rules.proofs.WalkedExpressions.{IsScopeOf, field_there, variable_there, nodes_fit, own_nodes_fit}
 use Rattle.split_rules.proofs.WalkedExpressions.{first_fits, expr_goes, send_goes, pass_goes}
@@ -80,12 +80,14 @@ pub set_local_goes : (scope : Scope) (program : ProgramTree) (planned : PlannedS
     HasVariable program method x → IsExprIn program method value → (host : HostId) (label : Label) (id : StmtId)
     (carried : Option HostId) (named : List HostId) (branches : ℕ) (owed opened : List Pending) →
     GoesOnAt scope host named branches owed opened (expr_emissions host label id 0 value
-    ++ emitted host label id (op.Let x (nodes_of 0 value)) ∷ send_emissions planned host label id x carried)
+    ++ releasing host label id (op.Let x (nodes_of 0 value))
+    (released_by 0 value) ∷ send_emissions planned host label id x carried)
 set_local_goes scope program planned scoped method x value there value_there host label id carried named branches owed
     opened =
     let variable = variable_there scope program planned scoped method x there in
     goes_on scope (state_of (at host 0) named branches owed opened) (expr_emissions host label id 0 value)
-    (emitted host label id (op.Let x (nodes_of 0 value)) ∷ send_emissions planned host label id x carried)
+    (releasing host label id (op.Let x (nodes_of 0 value))
+    (released_by 0 value) ∷ send_emissions planned host label id x carried)
     (state_of (at host (0 + reads_in value)) named branches owed opened) _
     (expr_goes scope program planned scoped method value value_there host label id named branches owed opened 0) (
       (refl, (variable, own_nodes_fit scope program planned scoped method value value_there 0)),
@@ -97,11 +99,11 @@ pub set_field_goes : (scope : Scope) (program : ProgramTree) (planned : PlannedS
     HasField program false field → IsExprIn program method value → (host : HostId) (label : Label) (id : StmtId)
     (named : List HostId) (branches : ℕ) (owed opened : List Pending) →
     GoesOnAt scope host named branches owed opened (expr_emissions host label id 0 value
-    ++ emitted host label id (op.Put field first_element (nodes_of 0 value)) ∷ [])
+    ++ releasing host label id (op.Put field first_element (nodes_of 0 value)) (released_by 0 value) ∷ [])
 set_field_goes scope program planned scoped method field value there value_there host label id named branches owed
     opened =
     goes_on scope (state_of (at host 0) named branches owed opened) (expr_emissions host label id 0 value)
-    (emitted host label id (op.Put field first_element (nodes_of 0 value)) ∷ [])
+    (releasing host label id (op.Put field first_element (nodes_of 0 value)) (released_by 0 value) ∷ [])
     (state_of (at host (0 + reads_in value)) named branches owed opened) _
     (expr_goes scope program planned scoped method value value_there host label id named branches owed opened 0) (
       (
@@ -121,7 +123,8 @@ pub set_element_goes : (scope : Scope) (program : ProgramTree) (planned : Planne
     (label : Label) (id : StmtId) (named : List HostId) (branches : ℕ) (owed opened : List Pending) →
     GoesOnAt scope host named branches owed opened (expr_emissions host label id 0 index
     ++ expr_emissions host label id (reads_in index) value
-    ++ emitted host label id (op.Put field (nodes_of 0 index) (nodes_of (reads_in index) value)) ∷ [])
+    ++ releasing host label id (op.Put field (nodes_of 0 index) (nodes_of (reads_in index) value))
+    (released_by 0 index ++ released_by (reads_in index) value) ∷ [])
 set_element_goes scope program planned scoped method field index value there index_there value_there host label id
     named branches owed opened =
     let first = state_of (at host 0) named branches owed opened in
@@ -130,7 +133,8 @@ set_element_goes scope program planned scoped method field index value there ind
     let P : ℕ → Type 0 = λ count. Goes scope first reads (state_of (at host count) named branches owed opened) in
     let none : 0 + reads_in index ≡ reads_in index = omega arith in
     goes_on scope first (reads ++ more)
-    (emitted host label id (op.Put field (nodes_of 0 index) (nodes_of (reads_in index) value)) ∷ [])
+    (releasing host label id (op.Put field (nodes_of 0 index) (nodes_of (reads_in index) value))
+    (released_by 0 index ++ released_by (reads_in index) value) ∷ [])
     (state_of (at host (reads_in index + reads_in value)) named branches owed opened) _
     (goes_on scope first reads more (state_of (at host (reads_in index)) named branches owed opened) _
     (subst P none
@@ -175,7 +179,7 @@ give_back_goes scope walked scoped method value value_there there gives host lab
         not_so same = cc
     by (Some result) is variable some =
         rw is (goes_on scope (state_of (at host 0) named branches owed opened) (expr_emissions host label id 0 value)
-        (emitted host label id (op.Ret result (nodes_of 0 value)) ∷ [])
+        (releasing host label id (op.Ret result (nodes_of 0 value)) (released_by 0 value) ∷ [])
         (state_of (at host (0 + reads_in value)) named branches owed opened) _
         (expr_goes scope program walked.planned scoped method value value_there host label id named branches owed
         opened 0) (
@@ -217,7 +221,7 @@ arguments_go scope walked scoped caller called (param ∷ params) (argument ∷ 
     let planned = walked.planned in
     let here = state_of (at host 0) named branches owed opened in
     let reads = expr_emissions host label id 0 argument in
-    let handed = emitted host label id (op.Arg param (nodes_of 0 argument))
+    let handed = releasing host label id (op.Arg param (nodes_of 0 argument)) (released_by 0 argument)
     ∷ pass_emissions planned host label id param (Some home) in
     let variable = variable_there scope program planned scoped called param variables.0 in
     goes_on scope here (reads ++ handed) (argument_emissions walked host home label id params others) here here

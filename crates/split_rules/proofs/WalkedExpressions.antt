@@ -21,7 +21,7 @@ use Rattle.host_code.specs.declared.instruction.Op.TheVariants as op
 use Rattle.need_labels.specs.Plan.{statement_host}
 use Rattle.msg_cost.specs.Moves.{PlannedShape, is_to}
 use Rattle.msg_cost.specs.Terms.{reads_on, is_told}
-use Rattle.split_rules.specs.Expressions.{Reading, reads_in, nodes_of, readings_of, first_element}
+use Rattle.split_rules.specs.Expressions.{Reading, reads_in, nodes_of, readings_of, first_element, released_by}
 use Rattle.split_rules.specs.Flow.{Scope, at, Pending, NodeFits, ExpressionFits, IsField, IsVariable, IsOther, Goes}
 use Rattle.split_rules.specs.Walk.{emitted, read_emissions, expr_emissions, told_readers, send_emissions}
 use Rattle.split_rules.specs.Walk.{pass_emissions}
@@ -120,7 +120,8 @@ reads_fit scope program planned scoped method (local x) there first = omega arit
 reads_fit scope program planned scoped method (scalar field) there first =
     (field_there scope program planned scoped false field there, first_fits scope first, omega arith)
 reads_fit scope program planned scoped method (element field index) there first =
-    reads_on_then scope first (readings_of first index) (record { field = field; index = nodes_of first index } ∷ [])
+    reads_on_then scope first (readings_of first index)
+    (record { field = field; index = nodes_of first index; released = released_by first index } ∷ [])
     (first + reads_in index) (first + (reads_in index + 1))
     (reads_fit scope program planned scoped method index there.1 first) (
       field_there scope program planned scoped true field there.0,

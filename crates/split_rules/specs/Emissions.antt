@@ -5,15 +5,18 @@ use Rattle.std.specs.Prelude.{ℕ, suc, List, [], ◌∷◌}
 use Rattle.js_base.specs.declared.ids.HostId.{HostId}
 use Rattle.js_base.specs.declared.ids.StmtId.{StmtId}
 use Rattle.label_lattice.specs.declared.label.Label.{Label}
+use Rattle.host_code.specs.declared.code_expr.Node.{Node}
 use Rattle.host_code.specs.declared.instruction.Op.{Op}
 use Rattle.host_code.specs.declared.instruction.Op.TheVariants as op
 
--- an instruction, with its program label and the statement that it is made for; a branch has its number as its target
+-- An instruction, with its program label and the statement that it is made for. A branch has its number as its target.
+-- Besides stand the operands whose values it releases, by their nodes, of which code has nothing.
 pub record Emitted : Type 0 where
   pub host : HostId
   pub label : Label
   pub statement : StmtId
   pub op : Op
+  pub released : List (List Node)
 
 -- an entry on a host, with its program label and a word of those who have to trust whoever enters
 pub record Named : Type 0 where

@@ -50,18 +50,20 @@ released_by first (endorsed operand label) = released_by first operand
 abbrev pub first_element : List Node
 first_element = node.Number (pos 0) ∷ []
 
--- a read of an element, by the nodes of its index
+-- a read of an element, by the nodes of its index, with the operands that are released in the index
 pub record Reading : Type 0 where
   pub field : FieldId
   pub index : List Node
+  pub released : List (List Node)
 
 -- its reads in order
 abbrev pub readings_of : ℕ → ExprTree → List Reading
 readings_of first (number value) = []
 readings_of first (local x) = []
-readings_of first (scalar field) = record { field = field; index = first_element } ∷ []
+readings_of first (scalar field) = record { field = field; index = first_element; released = [] } ∷ []
 readings_of first (element field index) =
-    readings_of first index ++ record { field = field; index = nodes_of first index } ∷ []
+    readings_of first index
+    ++ record { field = field; index = nodes_of first index; released = released_by first index } ∷ []
 readings_of first (inverted operand) = readings_of first operand
 readings_of first (negated operand) = readings_of first operand
 readings_of first (binary operator left right) =

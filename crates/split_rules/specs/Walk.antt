@@ -25,6 +25,7 @@ use Rattle.jif_tree.specs.Trees.{give_back, MethodTree}
 use Rattle.jif_tree.specs.LabelRules.{MethodSetting, setting_of, guarded, method_at, params_of, result_of}
 use Rattle.host_code.specs.declared.instruction.Op.{Op}
 use Rattle.host_code.specs.declared.instruction.Op.TheVariants as op
+use Rattle.host_code.specs.declared.code_expr.Node.{Node}
 use Rattle.host_code.specs.declared.code_expr.Node.TheVariants as node
 use Rattle.need_labels.specs.Labelled.{Labelled, all_labels}
 use Rattle.need_labels.specs.Plan.{statement_host}
@@ -33,7 +34,7 @@ use Rattle.msg_cost.specs.Moves.{PlannedShape, is_same, on, end_of, next_spot, c
 use Rattle.msg_cost.specs.Moves.{called_home}
 use Rattle.msg_cost.specs.Terms.{is_other_reader, is_told}
 use Rattle.split_rules.specs.Emissions.{Emission, instruction, entry, stands, lands, Counts, counts_after}
-use Rattle.split_rules.specs.Expressions.{Reading, reads_in, nodes_of, readings_of, first_element}
+use Rattle.split_rules.specs.Expressions.{Reading, reads_in, nodes_of, readings_of, first_element, released_by}
 use Rattle.split_rules.specs.Placed.{PlacedProgram, planned_from}
 
 -- ---- what a walk knows
@@ -96,13 +97,18 @@ under_token planned spot others = chosen spot.back
 
 -- ---- values
 
+-- an instruction that evaluates expressions in which these operands are released
+abbrev pub releasing : HostId → Label → StmtId → Op → List (List Node) → Emission
+releasing host label statement what released =
+    instruction (record { host = host; label = label; statement = statement; op = what; released = released })
+
+-- one that releases nothing
 abbrev pub emitted : HostId → Label → StmtId → Op → Emission
-emitted host label statement what =
-    instruction (record { host = host; label = label; statement = statement; op = what })
+emitted host label statement what = releasing host label statement what []
 
 abbrev pub read_emissions : HostId → Label → StmtId → List Reading → List Emission
 read_emissions host label statement readings =
-    map (λ reading. emitted host label statement (op.Read reading.field reading.index)) readings
+    map (λ reading. releasing host label statement (op.Read reading.field reading.index) reading.released) readings
 
 abbrev pub expr_emissions : HostId → Label → StmtId → ℕ → ExprTree → List Emission
 expr_emissions host label statement first expr = read_emissions host label statement (readings_of first expr)
@@ -226,7 +232,7 @@ argument_emissions walked host home label statement params [] = []
 argument_emissions walked host home label statement [] (argument ∷ others) = []
 argument_emissions walked host home label statement (param ∷ params) (argument ∷ others) =
     expr_emissions host label statement 0 argument
-    ++ emitted host label statement (op.Arg param (nodes_of 0 argument))
+    ++ releasing host label statement (op.Arg param (nodes_of 0 argument)) (released_by 0 argument)
     ∷ pass_emissions walked.planned host label statement param (Some home)
     ++ argument_emissions walked host home label statement params others
 
@@ -272,7 +278,7 @@ result_emissions walked host label statement value = given walked.setting.result
   where
     given : Option VarId → List Emission
     given None = []
-    given (Some result) = emitted host label statement (op.Ret result (nodes_of 0 value)) ∷ []
+    given (Some result) = releasing host label statement (op.Ret result (nodes_of 0 value)) (released_by 0 value) ∷ []
 
 -- ---- blocks
 
@@ -285,7 +291,7 @@ block_emissions walked around counts lane (set_local heading x value rest) =
     let next = next_spot walked.planned lane.spot heading.id others in
     let moved = move_emissions walked around counts lane next (heading.id ∷ others) in
     let own = expr_emissions next.host around.pc heading.id 0 value
-    ++ emitted next.host around.pc heading.id (op.Let x (nodes_of 0 value))
+    ++ releasing next.host around.pc heading.id (op.Let x (nodes_of 0 value)) (released_by 0 value)
     ∷ send_emissions walked.planned next.host around.pc heading.id x (carried_to walked.planned next others) in
     moved ++ own
     ++ block_emissions walked around (counts_after counts (moved ++ own))
@@ -295,7 +301,8 @@ block_emissions walked around counts lane (set_field heading field value rest) =
     let next = next_spot walked.planned lane.spot heading.id others in
     let moved = move_emissions walked around counts lane next (heading.id ∷ others) in
     let own = expr_emissions next.host around.pc heading.id 0 value
-    ++ emitted next.host around.pc heading.id (op.Put field first_element (nodes_of 0 value)) ∷ [] in
+    ++ releasing next.host around.pc heading.id (op.Put field first_element (nodes_of 0 value))
+    (released_by 0 value) ∷ [] in
     moved ++ own
     ++ block_emissions walked around (counts_after counts (moved ++ own))
     (lane_behind walked counts lane next None others) rest
@@ -305,8 +312,9 @@ block_emissions walked around counts lane (set_element heading field index value
     let moved = move_emissions walked around counts lane next (heading.id ∷ others) in
     let own = expr_emissions next.host around.pc heading.id 0 index
     ++ expr_emissions next.host around.pc heading.id (reads_in index) value
-    ++ emitted next.host around.pc heading.id
-    (op.Put field (nodes_of 0 index) (nodes_of (reads_in index) value)) ∷ [] in
+    ++ releasing next.host around.pc heading.id
+    (op.Put field (nodes_of 0 index) (nodes_of (reads_in index) value))
+    (released_by 0 index ++ released_by (reads_in index) value) ∷ [] in
     moved ++ own
     ++ block_emissions walked around (counts_after counts (moved ++ own))
     (lane_behind walked counts lane next None others) rest
@@ -327,7 +335,7 @@ block_emissions walked around counts lane (branch heading guard first second res
     })
     ∷ emitted host around.pc heading.id (op.Push (entry_id here.entries))
     ∷ expr_emissions host around.pc heading.id 0 guard
-    ++ emitted host around.pc heading.id (op.Branch (nodes_of 0 guard) here.branches) ∷ [] in
+    ++ releasing host around.pc heading.id (op.Branch (nodes_of 0 guard) here.branches) (released_by 0 guard) ∷ [] in
     let one = block_emissions walked inside (counts_after here front) (lane_on host) first in
     let between = lands host here.branches ∷ [] in
     let two = block_emissions walked inside (counts_after here (front ++ one ++ between)) (lane_on host) second in
@@ -351,7 +359,7 @@ block_emissions walked around counts lane (loop heading guard body rest) =
     })
     ∷ stands host here.entries
     ∷ expr_emissions host inside.pc heading.id 0 guard
-    ++ emitted host inside.pc heading.id (op.Branch (nodes_of 0 guard) here.branches)
+    ++ releasing host inside.pc heading.id (op.Branch (nodes_of 0 guard) here.branches) (released_by 0 guard)
     ∷ emitted host inside.pc heading.id (op.Push (entry_id here.entries)) ∷ [] in
     let own = front ++ block_emissions walked inside (counts_after here front) (lane_on host) body
     ++ lands host here.branches ∷ [] in

@@ -19,11 +19,11 @@ use Rattle.need_labels.specs.Plan.{statement_host}
 use Rattle.msg_cost.specs.declared.spot.Spot.{Spot}
 use Rattle.msg_cost.specs.Moves.{on, next_spot, carried_to, own_statements}
 use Rattle.split_rules.specs.Emissions.{Emission, Counts, counts_after}
-use Rattle.split_rules.specs.Expressions.{reads_in, nodes_of, first_element}
+use Rattle.split_rules.specs.Expressions.{reads_in, nodes_of, first_element, released_by}
 use Rattle.split_rules.specs.Positions.{Level, under}
-use Rattle.split_rules.specs.Walk.{Around, Lane, lane_on, with_riding, lane_at, lane_behind, under_token, emitted}
+use Rattle.split_rules.specs.Walk.{Around, Lane, lane_on, with_riding, lane_at, lane_behind, under_token}
 use Rattle.split_rules.specs.Walk.{expr_emissions, send_emissions, move_emissions, result_emissions, call_emissions}
-use Rattle.split_rules.specs.Walk.{block_emissions}
+use Rattle.split_rules.specs.Walk.{block_emissions, releasing}
 use Rattle.split_rules.proofs.Places.{same_host}
 use Rattle.split_rules.proofs.ToldMoves.{SpotSees, AllSee, MovesWell, next_well, lane_sees}
 use Rattle.split_rules.proofs.ToldStatements.{ArgumentsWell, BlockTellsWell}
@@ -229,7 +229,7 @@ block_shaded scene tree all around (set_local heading x value rest) well flows s
     let label = label_of scene.basis.labelled x in
     let carried = carried_to scene.planned next others in
     let own : HostId → List Emission = λ host. expr_emissions host pc heading.id 0 value
-    ++ emitted host pc heading.id (op.Let x (nodes_of 0 value))
+    ++ releasing host pc heading.id (op.Let x (nodes_of 0 value)) (released_by 0 value)
     ∷ send_emissions scene.planned host pc heading.id x carried in
     statement_then scene tree all around level lane heading.id others entries branches methods is known sees rides
     (statements_see scene.basis.labelled scene.planned (walked_of scene tree).setting pc (set_local heading x value
@@ -253,7 +253,7 @@ block_shaded scene tree all around (set_field heading field value rest) well flo
     let others = own_statements rest in
     let next = next_spot scene.planned lane.spot heading.id others in
     let own : HostId → List Emission = λ host. expr_emissions host pc heading.id 0 value
-    ++ emitted host pc heading.id (op.Put field first_element (nodes_of 0 value)) ∷ [] in
+    ++ releasing host pc heading.id (op.Put field first_element (nodes_of 0 value)) (released_by 0 value) ∷ [] in
     statement_then scene tree all around level lane heading.id others entries branches methods is known sees rides
     (statements_see scene.basis.labelled scene.planned (walked_of scene tree).setting pc
     (set_field heading field value rest) well)
@@ -277,7 +277,8 @@ block_shaded scene tree all around (set_element heading field index value rest) 
     let next = next_spot scene.planned lane.spot heading.id others in
     let own : HostId → List Emission = λ host. expr_emissions host pc heading.id 0 index
     ++ expr_emissions host pc heading.id (reads_in index) value
-    ++ emitted host pc heading.id (op.Put field (nodes_of 0 index) (nodes_of (reads_in index) value)) ∷ [] in
+    ++ releasing host pc heading.id (op.Put field (nodes_of 0 index) (nodes_of (reads_in index) value))
+    (released_by 0 index ++ released_by (reads_in index) value) ∷ [] in
     statement_then scene tree all around level lane heading.id others entries branches methods is known sees rides
     (statements_see scene.basis.labelled scene.planned (walked_of scene tree).setting pc
     (set_element heading field index value rest) well)

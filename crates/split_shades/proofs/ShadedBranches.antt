@@ -12,7 +12,7 @@ use Rattle.msg_cost.specs.declared.spot.Spot.{Spot}
 use Rattle.split_rules.specs.Emissions.{Emission, stands, lands, Counts, counts_after}
 use Rattle.split_rules.specs.Expressions.{nodes_of, released_by}
 use Rattle.split_rules.specs.Positions.{Level, under}
-use Rattle.split_rules.specs.Walk.{Around, entry_id, emitted}
+use Rattle.split_rules.specs.Walk.{Around, entry_id, emitted, releasing}
 use Rattle.split_rules.proofs.WalkedBlocks.{inside_of, branch_front, branch_own, loop_front, loop_own}
 use Rattle.split_rules.proofs.WalkedCalls.{still_there}
 use Rattle.split_rules.proofs.WalkedMoves.{at_last}
@@ -185,7 +185,8 @@ branch_shaded scene tree around level heading guard next left one two entries br
             (calm_ahead (under number) pc, ((refl, refl), (names, refl)), refl),
         reads_then scene site joined branches
             (site_is scene joined host pc heading.id (under number) (inside, inner_level, flows.program)) None tt guard
-            read (emitted host pc heading.id (op.Branch (nodes_of 0 guard) (length branches)) ∷ []) start (λ last may. (
+            read (releasing host pc heading.id (op.Branch (nodes_of 0 guard) (length branches))
+            (released_by 0 guard) ∷ []) start (λ last may. (
               start,
               one_shaded scene site joined branches
                   (site_is scene joined host pc heading.id (under number) (inside, inner_level, flows.program))
@@ -346,7 +347,7 @@ loop_shaded scene tree around level heading guard next left one entries branches
         site_known site [] (Some own) headed branches,
         (head, at_last entries head [], inr (refl, refl), refl),
         reads_then scene site headed branches site_there (Some own) refl guard read
-            (emitted host inside heading.id (op.Branch (nodes_of 0 guard) (length branches))
+            (releasing host inside heading.id (op.Branch (nodes_of 0 guard) (length branches)) (released_by 0 guard)
             ∷ emitted host inside heading.id (op.Push (entry_id number)) ∷ []) start (λ last may. (
               again,
               one_shaded scene site headed branches site_there (reads_tell scene inside guard) (released_by 0 guard)

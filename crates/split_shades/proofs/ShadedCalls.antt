@@ -17,8 +17,8 @@ use Rattle.need_labels.specs.Needs.{label_of}
 use Rattle.msg_cost.specs.Moves.{called_home}
 use Rattle.split_rules.specs.Expressions.{nodes_of, released_by}
 use Rattle.split_rules.specs.Positions.{Level, body}
-use Rattle.split_rules.specs.Walk.{entry_id, emitted, expr_emissions, told_readers, pass_emissions, riding_params}
-use Rattle.split_rules.specs.Walk.{call_with, argument_emissions, kept_emissions, call_emissions}
+use Rattle.split_rules.specs.Walk.{entry_id, expr_emissions, told_readers, pass_emissions, riding_params}
+use Rattle.split_rules.specs.Walk.{call_with, argument_emissions, kept_emissions, call_emissions, releasing}
 use Rattle.split_rules.proofs.ToldStatements.{EntersWell}
 use Rattle.split_rules.proofs.ToldWalks.{told_see}
 use Rattle.split_rules.proofs.WalkedCalls.{still_there}
@@ -90,7 +90,8 @@ arguments_shaded scene tree all me pc id level entries branches below home (para
     let next = calling_known me pc id level entries branches in
     let label = label_of scene.basis.labelled param in
     let passes = pass_emissions scene.planned me pc id param (Some home) in
-    let own = expr_emissions me pc id 0 argument ++ emitted me pc id (op.Arg param (nodes_of 0 argument)) ∷ passes in
+    let own = expr_emissions me pc id 0 argument ++ releasing me pc id (op.Arg param (nodes_of 0 argument))
+    (released_by 0 argument) ∷ passes in
     shaded_on scene next own (argument_emissions (walked_of scene tree) me home pc id params others) next next
     (reads_then scene site entries branches is None tt argument read.0 _ next (λ last may. (
       next,

@@ -106,13 +106,14 @@ pub plain_shaded : (scene : Scene) (host : HostId) (pc : Label) (statement : Stm
     (entries : List EntryShade) (branches : List Ahead) (after : Known) → IsLevelOf entries level pc →
     let known = known_at (here host (calm_ahead level pc)) entries branches in
     ShadedOp scene known host (plain_shade level pc) what after →
-    IsShaded scene known (record { host = host; label = pc; statement = statement; op = what }) after
+    IsShaded scene known (record { host = host; label = pc; statement = statement; op = what; released = [] }) after
 plain_shaded scene host pc statement what level entries branches after is law = record {
   shade = plain_shade level pc;
   ahead = calm_ahead level pc;
   is_here = refl;
   meets = plain_meets level pc;
   label_is = refl;
+  released_is = refl;
   is_shade = plain_is_shade scene entries level pc is;
   guarded = tt;
   law = law;
@@ -244,7 +245,13 @@ push_shaded : (scene : Scene) (me back : HostId) (level : Level) (pc : Label) (s
     (entries : List EntryShade) (branches : List Ahead) → IsLevelOf entries level pc →
     slice_get entries number ≡ Some (block_entry level pc (Some pc)) → IsSeenOn scene.planned back pc →
     IsShaded scene (known_at (here me (calm_ahead level pc)) entries branches)
-    (record { host = me; label = pc; statement = statement; op = push_or_ask me back number })
+    (record {
+      host = me;
+      label = pc;
+      statement = statement;
+      op = push_or_ask me back number;
+      released = [];
+    })
     (known_at (here me (calm_ahead (under number) pc)) entries branches)
 push_shaded scene me back level pc statement number entries branches is there seen =
     let next = calm_ahead (under number) pc in

@@ -1,6 +1,9 @@
 -- The code of a split program has a table of shades, which is read off the shaded walk.
 use Rattle.std.proofs.Common.{◌≡◌, ◌∙◌, ℕ, zero, suc, inl, inr, ◌+◌, ◌<◌, Bool, false, List, [], ◌∷◌, ◌++◌, map}
 use Rattle.std.proofs.Common.{length, refl, ap, sym, subst, arith, length-append, append_assoc}
+use Rattle.std.proofs.Common.{option_map}
+use Rattle.std.proofs.lemmas.Option.{slice_get-map}
+use Rattle.std.specs.List.{range_with_len}
 use Rattle.std.specs.Prelude.{Option, Some, None, IfSome, slice_get, unwrap_or}
 use Rattle.js_base.specs.declared.ids.HostId.{HostId}
 use Rattle.label_lattice.specs.declared.label.Label.{Label}
@@ -9,6 +12,7 @@ use Rattle.host_decl.specs.Hosts.{HostsShape}
 use Rattle.jif_tree.specs.Trees.{MethodTree}
 use Rattle.jif_tree.specs.LabelRules.{method_at, begin_label}
 use Rattle.host_code.specs.declared.code.Entry.{Entry}
+use Rattle.host_code.specs.declared.code_expr.Node.{Node}
 use Rattle.host_code.specs.declared.instruction.Instr.{Instr}
 use Rattle.host_code.specs.declared.instruction.Op.{Op}
 use Rattle.host_code.specs.declared.instruction.Op.TheVariants as op
@@ -22,12 +26,13 @@ use Rattle.split_rules.specs.Held.{IsHeld}
 use Rattle.split_rules.specs.Positions.{body}
 use Rattle.split_rules.specs.SplitCode.{emitted_on, entries_in, before_entry, before_landing, landed, code_labels}
 use Rattle.split_rules.specs.SplitCode.{placed_instruction, code_of_emissions, split_code}
+use Rattle.split_rules.specs.Releases.{operands_at, released_on, releases_by, releases_of}
 use Rattle.split_rules.specs.Splittable.{IsSplittable}
 use Rattle.split_rules.specs.Walk.{methods_emissions, method_entry}
 use Rattle.split_rules.specs.WalkStart.{front_emissions}
 use Rattle.split_rules.proofs.CodeItems.{code_entry, entries_numbered}
 use Rattle.split_rules.proofs.Fronts.{front_of, IsWalk, front_is, walk_there, others_stand, get_append}
-use Rattle.split_rules.proofs.NumberedLists.{length-numbered}
+use Rattle.split_rules.proofs.NumberedLists.{length-numbered, number_there}
 use Rattle.split_rules.proofs.Places.{found, found_entry, entries_append}
 use Rattle.split_rules.proofs.SeenPrograms.{program_tells_well, all_there}
 use Rattle.split_rules.proofs.SoundParts.{given, code_given, given_emitted, entry_made}
@@ -40,7 +45,7 @@ use Rattle.split_rules.proofs.WalkedMoves.{at_last}
 use Rattle.split_rules.proofs.WalkedPrograms.{program_goes}
 use Rattle.split_shades.specs.Flows.{IsSeenOn, AreResultsLabelled}
 use Rattle.split_shades.specs.ShadedCode.{Shades, IsShadedOp, IsShadedAt, IsShadedEntry, IsShadedCode}
-use Rattle.split_shades.specs.ShadedCode.{ReleaseNothing}
+use Rattle.split_shades.specs.ShadedCode.{ReleaseNothing, IsTabled}
 use Rattle.split_shades.specs.Shades.{Shade, EntryShade, Ahead, Meets, ahead_of}
 use Rattle.split_shades.specs.Shading.{Scene, IsShade, IsEntryShade, Follows, Divides, Ends, nowhere, here}
 use Rattle.split_shades.specs.Shading.{Known, ShadedOp, Shaded, AreShaded, method_shade, method_shades}
@@ -289,6 +294,51 @@ instructions_shaded scene hosts main emissions walk me place there is =
     front : List Emission
     front = front_of scene.planned main scene.basis.labelled.program.methods
 
+-- ---- releases
+
+-- an instruction that the walk has releases what its shade says
+released_there : (scene : Scene) (hosts : HostsShape) (main : MethodTree) (emissions : List Emission)
+    (walk : Walk scene hosts main emissions) (me : HostId) (place : ℕ) (one : Emitted) →
+    slice_get (emitted_on me emissions) place ≡ Some one → ((table_in walk).at me place).released ≡ one.released
+unfolding table_of
+released_there scene hosts main emissions walk me place one is =
+    let first = shades_start scene.basis.labelled.program in
+    let so = found me emissions place one is in
+    let read = instruction_read (Shaded scene) (shade_of scene) Goes Meet (shades_go_on scene) me first emissions
+    so.before one so.behind walk.last so.is so.own (nobody_goes me walk.last walk.ends) walk.shaded in
+    let at_is = read_off scene first emissions walk.last walk.shaded me (length (emitted_on me so.before))
+    read.step.shade read.stands_at in
+    let P : ℕ → Type 0 = λ at. ((table_in walk).at me at).released ≡ one.released in
+    subst P so.place (ap (λ shade. shade.released) at_is ∙ read.step.released_is)
+
+-- and that is its row in the table of releases
+row_there : (hosts : HostsShape) (emissions : List Emission) (me : HostId) (place : ℕ) (one : Emitted) →
+    me.0 < length hosts.hosts → slice_get (emitted_on me emissions) place ≡ Some one →
+    operands_at (releases_by hosts emissions) me place ≡ one.released
+row_there hosts emissions me place one within is =
+    let make : ℕ → List (List (List Node)) = λ number. released_on emissions (record { 0 = number }) in
+    let released : Emitted → List (List Node) = λ it. it.released in
+    let numbers = range_with_len 0 (length hosts.hosts) in
+    let row : slice_get (releases_by hosts emissions) me.0 ≡ Some (released_on emissions me) =
+    slice_get-map make numbers me.0 ∙ ap (option_map make) (number_there (length hosts.hosts) me.0 within) in
+    ap (λ own. unwrap_or (slice_get (unwrap_or own []) place) []) row
+    ∙ ap (λ operands. unwrap_or operands [])
+    (slice_get-map released (emitted_on me emissions) place ∙ ap (option_map released) is)
+
+code_tabled : (scene : Scene) (hosts : HostsShape) (main : MethodTree) (emissions : List Emission)
+    (walk : Walk scene hosts main emissions) →
+    IsTabled (code_given scene.basis.labelled hosts scene.planned main emissions) (table_in walk)
+    (releases_by hosts (given scene.basis.labelled scene.planned main emissions))
+code_tabled scene hosts main emissions walk me place there is =
+    let labelled = scene.basis.labelled in
+    let all = given labelled scene.planned main emissions in
+    let made = instruction_made labelled hosts scene.planned all me place there is in
+    let one = made.1.0 in
+    let own = ap (λ list. slice_get list place) (sym (given_emitted me labelled scene.planned main emissions))
+    ∙ made.1.1 in
+    released_there scene hosts main emissions walk me place one own
+    ∙ sym (row_there hosts all me place one made.0 made.1.1)
+
 -- ---- entries
 
 -- what is known of an entry where it is named
@@ -512,15 +562,19 @@ code_shaded scene hosts main emissions walk homes = record {
   instructions = instructions_shaded scene hosts main emissions walk;
 }
 
--- The code of a split program has a table of shades.
-pub split_is_shaded : (placed : PlacedProgram) (may_release : Bool) → IsSplittable placed → IsAllowed placed →
+-- The code of a split program has a table of shades, and each instruction releases by its shade what it does by its row
+-- of the table of releases.
+pub split_is_tabled : (placed : PlacedProgram) (may_release : Bool) → IsSplittable placed → IsAllowed placed →
     IsHeld placed → AreResultsLabelled placed.labelled.program →
     (may_release ≡ false → ReleasesNothing placed.labelled.program) →
-    (shades : Shades) × IsShadedCode (scene_of placed may_release)
-    (split_code placed) shades
-split_is_shaded placed may_release splittable allowed held results silent =
-    subst P (sym (front_is placed.labelled planned main splittable.numbered.main.1))
-    (table_in walk, code_shaded scene placed.hosts main emissions walk homes)
+    (shades : Shades) × IsShadedCode (scene_of placed may_release) (split_code placed) shades
+    × IsTabled (split_code placed) shades (releases_of placed)
+split_is_tabled placed may_release splittable allowed held results silent =
+    subst P (sym (front_is placed.labelled planned main splittable.numbered.main.1)) (
+      table_in walk,
+      code_shaded scene placed.hosts main emissions walk homes,
+      code_tabled scene placed.hosts main emissions walk,
+    )
   where
     planned : PlannedShape
     planned = planned_from placed
@@ -557,9 +611,20 @@ split_is_shaded placed may_release splittable allowed held results silent =
     }
 
     P : List Emission → Type 0
-    P front = (shades : Shades) × IsShadedCode scene (code_of_emissions placed.labelled placed.hosts planned (front
-        ++ emissions))
-        shades
+    P front = (shades : Shades)
+        × IsShadedCode scene (code_of_emissions placed.labelled placed.hosts planned (front ++ emissions)) shades
+        × IsTabled (code_of_emissions placed.labelled placed.hosts planned (front ++ emissions)) shades
+        (releases_by placed.hosts (front ++ emissions))
+
+-- The code of a split program has a table of shades.
+pub split_is_shaded : (placed : PlacedProgram) (may_release : Bool) → IsSplittable placed → IsAllowed placed →
+    IsHeld placed → AreResultsLabelled placed.labelled.program →
+    (may_release ≡ false → ReleasesNothing placed.labelled.program) →
+    (shades : Shades) × IsShadedCode (scene_of placed may_release)
+    (split_code placed) shades
+split_is_shaded placed may_release splittable allowed held results silent =
+    let so = split_is_tabled placed may_release splittable allowed held results silent in
+    (so.0, so.1)
 
 -- Where the program releases nothing, no instruction does.
 pub split_is_silent : (placed : PlacedProgram) → IsSplittable placed → IsAllowed placed → IsHeld placed →

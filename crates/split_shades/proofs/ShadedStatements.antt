@@ -15,7 +15,7 @@ use Rattle.need_labels.specs.Plan.{field_host}
 use Rattle.split_rules.specs.Emissions.{Emission}
 use Rattle.split_rules.specs.Expressions.{reads_in, nodes_of, first_element, released_by}
 use Rattle.split_rules.specs.Positions.{Level}
-use Rattle.split_rules.specs.Walk.{Walked, walked_in, emitted, expr_emissions, told_readers, send_emissions}
+use Rattle.split_rules.specs.Walk.{Walked, walked_in, expr_emissions, told_readers, send_emissions, releasing}
 use Rattle.split_rules.specs.Walk.{result_emissions}
 use Rattle.split_rules.proofs.ToldEmissions.{Sees, Affects, PutsWell}
 use Rattle.split_rules.proofs.ToldWalks.{AreReaders}
@@ -83,7 +83,7 @@ pub set_local_shaded : (scene : Scene) (me : HostId) (pc : Label) (id : StmtId) 
     ValueFlows scene.basis scene.planned pc value (label_of scene.basis.labelled x) →
     AreReaders scene.planned (label_of scene.basis.labelled x) (told_readers scene.planned me x carried) →
     AreShaded scene (block_known me pc level entries branches)
-    (expr_emissions me pc id 0 value ++ emitted me pc id (op.Let x (nodes_of 0 value))
+    (expr_emissions me pc id 0 value ++ releasing me pc id (op.Let x (nodes_of 0 value)) (released_by 0 value)
     ∷ send_emissions scene.planned me pc id x carried) (block_known me pc level entries branches)
 set_local_shaded scene me pc id level entries branches below x value carried read flows see =
     let site = site_in me pc id level in
@@ -119,7 +119,8 @@ pub set_field_shaded : (scene : Scene) (me : HostId) (pc : Label) (id : StmtId) 
     ValueFlows scene.basis scene.planned pc value (field_label scene.basis.labelled.program field) →
     PutsWell scene.basis.labelled scene.planned me pc field →
     AreShaded scene (block_known me pc level entries branches)
-    (expr_emissions me pc id 0 value ++ emitted me pc id (op.Put field first_element (nodes_of 0 value)) ∷ [])
+    (expr_emissions me pc id 0 value ++ releasing me pc id (op.Put field first_element (nodes_of 0 value))
+    (released_by 0 value) ∷ [])
     (block_known me pc level entries branches)
 set_field_shaded scene me pc id level entries branches below field value read flows well =
     let site = site_in me pc id level in
@@ -167,7 +168,8 @@ pub set_element_shaded : (scene : Scene) (me : HostId) (pc : Label) (id : StmtId
     PutsWell scene.basis.labelled scene.planned me pc field →
     AreShaded scene (block_known me pc level entries branches)
     (expr_emissions me pc id 0 index ++ expr_emissions me pc id (reads_in index) value
-    ++ emitted me pc id (op.Put field (nodes_of 0 index) (nodes_of (reads_in index) value)) ∷ [])
+    ++ releasing me pc id (op.Put field (nodes_of 0 index) (nodes_of (reads_in index) value))
+    (released_by 0 index ++ released_by (reads_in index) value) ∷ [])
     (block_known me pc level entries branches)
 set_element_shaded scene me pc id level entries branches below field index value read read_value index_flows flows
     well =
@@ -185,7 +187,7 @@ set_element_shaded scene me pc id level entries branches below field index value
     let more = subst P (told_many scene pc index)
     (expr_shaded scene site entries branches is first reads.last reads.may value read_value) in
     let released = released_by 0 index ++ released_by (reads_in index) value in
-    shaded_on scene (block_known me pc level entries branches) (one ++ two) (emitted me pc id put ∷ [])
+    shaded_on scene (block_known me pc level entries branches) (one ++ two) (releasing me pc id put released ∷ [])
     (site_known site all more.last entries branches) next
     (shaded_on scene (block_known me pc level entries branches) one two
     (site_known site first reads.last entries branches) (site_known site all more.last entries branches) reads.shaded

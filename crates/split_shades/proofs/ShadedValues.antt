@@ -20,7 +20,7 @@ use Rattle.need_labels.specs.Plan.{field_host}
 use Rattle.split_rules.specs.Emissions.{Emission}
 use Rattle.split_rules.specs.Expressions.{Reading, reads_in, nodes_of, readings_of, first_element, released_by}
 use Rattle.split_rules.specs.Positions.{Level, FieldRead, field_reads}
-use Rattle.split_rules.specs.Walk.{emitted, read_emissions, expr_emissions}
+use Rattle.split_rules.specs.Walk.{emitted, read_emissions, expr_emissions, releasing}
 use Rattle.split_rules.proofs.BackedLabels.{all_first, all_second}
 use Rattle.split_rules.proofs.ToldEmissions.{Sees, ReadsWell}
 use Rattle.split_rules.proofs.ToldStatements.{ExprReadsWell}
@@ -99,7 +99,7 @@ pub one_shaded : (scene : Scene) (site : Site) (entries : List EntryShade) (bran
     (after : Known) →
     ShadedOp scene (site_known site temps begun entries branches) site.me (shade_at site temps released) what after →
     IsShaded scene (site_known site temps begun entries branches)
-    (record { host = site.me; label = site.pc; statement = site.id; op = what }) after
+    (record { host = site.me; label = site.pc; statement = site.id; op = what; released = released }) after
 one_shaded scene site entries branches is temps released silent begun may what after law = record {
   shade = shade_at site temps released;
   ahead = ahead_at site temps begun;
@@ -112,6 +112,7 @@ one_shaded scene site entries branches is temps released silent begun may what a
     begun = may_meet site.pc site.guard begun may;
   };
   label_is = refl;
+  released_is = refl;
   is_shade = record { under_block = is.under_block; below = is.below; silent = silent };
   guarded = may_guard site.pc site.guard begun may;
   law = law;
@@ -181,7 +182,8 @@ one_read : (scene : Scene) (site : Site) (entries : List EntryShade) (branches :
     IsSeenOn scene.planned (field_host scene.planned.plan field) (value_label scene.basis site.pc index) →
     (scene.may_release ≡ false → releases index ≡ false) →
     ReadsTo scene site entries branches temps begun
-    (read_emissions site.me site.pc site.id (record { field = field; index = nodes } ∷ []))
+    (read_emissions site.me site.pc site.id
+    (record { field = field; index = nodes; released = released_by (length before) index } ∷ []))
     (temps ++ read_label scene.basis site.pc (record { field = field; index = index }) ∷ [])
 one_read scene site entries branches is temps begun may field index nodes before temps_are nodes_are well seen silent =
     let own : Begun = record { pc = site.pc; guard = site.guard } in
@@ -244,7 +246,11 @@ expr_shaded scene site entries branches is temps begun may (scalar field) read =
 expr_shaded scene site entries branches is temps begun may (element field index) read =
     let tell = read_label scene.basis site.pc in
     let own : FieldRead = record { field = field; index = index } in
-    let own_reading : Reading = record { field = field; index = nodes_of (length temps) index } in
+    let own_reading : Reading = record {
+      field = field;
+      index = nodes_of (length temps) index;
+      released = released_by (length temps) index;
+    } in
     let inner = temps ++ reads_tell scene site.pc index in
     let P = IsIndexSeen scene.basis scene.planned site.pc in
     let seen = (all_second P (field_reads index) (own ∷ []) read.indexes).0 in
@@ -263,7 +269,8 @@ expr_shaded scene site entries branches is temps begun may (element field index)
     let R : List Label → Type 0 = λ behind. ReadsTo scene site entries branches temps begun
     (expr_emissions site.me site.pc site.id (length temps) index
     ++ read_emissions site.me site.pc site.id (own_reading ∷ [])) behind in
-    subst Q (sym (map-append (λ reading. emitted site.me site.pc site.id (op.Read reading.field reading.index))
+    subst Q (sym (map-append (λ reading. releasing site.me site.pc site.id (op.Read reading.field reading.index)
+    reading.released)
     (readings_of (length temps) index) (own_reading ∷ [])))
     (subst R (append_assoc temps (reads_tell scene site.pc index) (tell own ∷ [])
     ∙ ap (λ list. temps ++ list) (sym (map-append tell (field_reads index) (own ∷ [])))) both)
@@ -299,7 +306,8 @@ expr_shaded scene site entries branches is temps begun may (binary operator left
     let Q : List Emission → Type 0 = λ list. ReadsTo scene site entries branches temps begun list
     (temps ++ reads_tell scene site.pc (binary operator left right)) in
     let R : List Label → Type 0 = λ it. ReadsTo scene site entries branches temps begun (first ++ second) it in
-    subst Q (sym (map-append (λ reading. emitted site.me site.pc site.id (op.Read reading.field reading.index))
+    subst Q (sym (map-append (λ reading. releasing site.me site.pc site.id (op.Read reading.field reading.index)
+    reading.released)
     (readings_of (length temps) left) (readings_of (length temps + reads_in left) right)))
     (subst R (append_assoc temps (reads_tell scene site.pc left) (reads_tell scene site.pc right)
     ∙ ap (λ list. temps ++ list) (sym (map-append tell (field_reads left) (field_reads right)))) both)

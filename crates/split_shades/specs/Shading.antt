@@ -303,6 +303,7 @@ pub record IsShaded (scene : Scene) (known : Known) (one : Emitted) (after : Kno
   pub is_here : known.place ≡ here one.host ahead
   pub meets : Meets ahead shade
   pub label_is : shade.pc ≡ one.label
+  pub released_is : shade.released ≡ one.released
   pub is_shade : IsShade scene known.entries shade
   -- the guard of a loop is evaluated only where that was known ahead
   pub guarded : IfSome shade.guard (λ own. ahead.begun ≡ Some (record { pc = shade.pc; guard = Some own }))

@@ -11,8 +11,9 @@ ghost use Rattle.split_shades.specs.Flows.{AreResultsLabelled, AllFlow};
 ghost use Rattle.split_shades.specs.Shading.{Known, nowhere, AreShaded, shades_start, Rides, Ends};
 ghost use Rattle.split_shades.specs.Sites.{ReleasesNothing, scene_of};
 ghost use Rattle.split_shades.specs.Carried.{AreCarried, IsPushedFor};
-ghost use Rattle.split_shades.specs.ShadedCode.{Shades, IsShadedCode, ReleaseNothing, AreKnownInCode};
+ghost use Rattle.split_shades.specs.ShadedCode.{Shades, IsShadedCode, ReleaseNothing, IsTabled, AreKnownInCode};
 ghost use Rattle.split_rules.specs.SplitCode.{split_code};
+ghost use Rattle.split_rules.specs.Releases.{releases_of};
 ghost use Rattle.split_shades.specs.Shades.{EntryShade};
 ghost use Rattle.split_rules.specs.Expressions.{released_by};
 ghost use Rattle.split_shades.specs.Worked.{branching, looping, scene_on, code_on, entry_words, instruction_words};
@@ -59,6 +60,12 @@ pub fn shade_laws()
         AreResultsLabelled placed.labelled.program → (may_release ≡ false → ReleasesNothing placed.labelled.program) →
         (shades : Shades) × IsShadedCode (scene_of placed may_release)
         (split_code placed) shades }
+    // What an instruction releases by its shade is its row of the table of releases.
+    ensures tabled { (placed : PlacedProgram) (may_release : Bool) →
+        IsSplittable placed → IsAllowed placed → IsHeld placed →
+        AreResultsLabelled placed.labelled.program → (may_release ≡ false → ReleasesNothing placed.labelled.program) →
+        (shades : Shades) × IsShadedCode (scene_of placed may_release) (split_code placed) shades
+        × IsTabled (split_code placed) shades (releases_of placed) }
     ensures silent { (placed : PlacedProgram) → IsSplittable placed → IsAllowed placed → IsHeld placed →
         AreResultsLabelled placed.labelled.program → ReleasesNothing placed.labelled.program →
         (shades : Shades) × IsShadedCode (scene_of placed false)

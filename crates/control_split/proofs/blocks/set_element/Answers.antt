@@ -4,8 +4,8 @@ use Rattle.host_code.specs.declared.code_expr.Node.{Node}
 use Rattle.host_code.specs.declared.instruction.Op.TheVariants as op
 use Rattle.jif_tree.specs.Trees.{expr_tree}
 use Rattle.split_rules.specs.Emissions.{Emission}
-use Rattle.split_rules.specs.Expressions.{reads_in, nodes_of}
-use Rattle.split_rules.specs.Walk.{emitted, expr_emissions}
+use Rattle.split_rules.specs.Expressions.{reads_in, nodes_of, released_by}
+use Rattle.split_rules.specs.Walk.{emitted, expr_emissions, releasing}
 use Rattle.control_split.specs.Trace.{traced, traced_one}
 use Rattle.control_split.proofs.Operands.{traced_then}
 use Rattle.control_split.proofs.Reading.{reads_few}
@@ -34,8 +34,9 @@ returns c =
     let nodes = c.in_ok-nodes.ensures ∙ ap (λ first. nodes_of first value) middle in
     on_ok_weaker c.instruction.result (λ is. traced_then start c.add_reads-2.new.trace c.instruction.new.self
     (firsts ++ seconds (reads_in index))
-    (emitted place.host place.label.now place.statement
-    (op.Put c.args.field (nodes_of 0 index) (nodes_of (reads_in index) value)) ∷ []) both
+    (releasing place.host place.label.now place.statement
+    (op.Put c.args.field (nodes_of 0 index) (nodes_of (reads_in index) value))
+    (released_by 0 index ++ released_by (reads_in index) value) ∷ []) both
     (is ∙ ap (λ (at : List Node). traced_one c.add_reads-2.new.trace
     (emitted place.host place.label.now place.statement (op.Put c.args.field at c.in_ok-nodes.nodes)))
     c.in_ok-at.ensures

@@ -3,8 +3,8 @@ use Rattle.std.proofs.lemmas.Result.{on_ok_weaker}
 use Rattle.host_code.specs.declared.code_expr.Node.{Node}
 use Rattle.host_code.specs.declared.instruction.Op.TheVariants as op
 use Rattle.jif_tree.specs.Trees.{expr_tree}
-use Rattle.split_rules.specs.Expressions.{nodes_of}
-use Rattle.split_rules.specs.Walk.{emitted, expr_emissions, send_emissions}
+use Rattle.split_rules.specs.Expressions.{nodes_of, released_by}
+use Rattle.split_rules.specs.Walk.{emitted, expr_emissions, send_emissions, releasing}
 use Rattle.control_split.specs.Trace.{TraceShape, traced, traced_one}
 use Rattle.control_split.specs.Views.{planned_in}
 use Rattle.control_split.proofs.Operands.{traced_then}
@@ -18,7 +18,8 @@ returns c =
     c.args.carried in
     on_ok_weaker c.send.result (λ is. traced_then c.args.trace.now c.value.new.trace c.send.new.trace
     (expr_emissions place.host place.label.now place.statement 0 value)
-    (emitted place.host place.label.now place.statement (op.Let c.args.x (nodes_of 0 value)) ∷ sent)
+    (releasing place.host place.label.now place.statement (op.Let c.args.x (nodes_of 0 value))
+    (released_by 0 value) ∷ sent)
     c.in_ok-nodes.ensures.trace
     (is ∙ ap (λ (trace : TraceShape). traced trace sent) (c.in_ok-instruction.ensures
     ∙ ap (λ (nodes : List Node). traced_one c.value.new.trace

@@ -1,7 +1,7 @@
 use Rattle.std.proofs.Common.{arith, ◌+◌, ◌∷◌, []}
 use Rattle.std.proofs.lemmas.Result.{on_ok_weaker}
 use Rattle.jif_tree.specs.Trees.{expr_tree}
-use Rattle.split_rules.specs.Expressions.{readings_of, reads_in, nodes_of}
+use Rattle.split_rules.specs.Expressions.{readings_of, reads_in, nodes_of, released_by}
 use Rattle.control_split.proofs.Operands.{room_behind, reads_both}
 use Rattle.control_split.proofs.expressions.+add_reads.Goals as goal
 
@@ -22,7 +22,11 @@ returns-in_ok-code_expr-in-Element-clause-trace t c =
     (on_ok_weaker c.read-in-Element.result (reads_both c.args.trace.now c.add_reads.new.trace
     c.read-in-Element.new.trace
     place.host place.label.now place.statement (readings_of c.args.first (expr_tree c.in-Element.index.value))
-    (record { field = c.in-Element.field; index = nodes_of c.args.first (expr_tree c.in-Element.index.value) } ∷ [])
+    (record {
+      field = c.in-Element.field;
+      index = nodes_of c.args.first (expr_tree c.in-Element.index.value);
+      released = released_by c.args.first (expr_tree c.in-Element.index.value);
+    } ∷ [])
     (rw c.deref.ensures at c.in_ok-next-in-Element.ensures.trace))
     (rw (c.in_ok-code_expr-in-Element.ensures, c.deref-in-Element.ensures) at c.read-in-Element.ensures.trace))
 
