@@ -61,3 +61,10 @@ pub mod OpenCode
 pub mod CoveredRuns
 pub mod OpenExamples
 pub mod TypingExamples
+pub mod ReleasedRows
+pub mod ReleasedBlocks
+pub mod ReleasedPrograms
+pub mod ExpressionNodes
+pub mod ReadRows
+pub mod AddedStatements
+pub mod ToldRows

@@ -11,6 +11,7 @@ pub mod Allowed
 pub mod Held
 pub mod SplitCode
 pub mod Releases
+pub mod ReleaseRows
 pub mod Flow
 pub mod WalkStart
 pub mod Splittable
