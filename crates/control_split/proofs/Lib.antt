@@ -6,7 +6,6 @@ pub mod Whole
 pub mod Stepping
 pub mod SplitParts
 pub mod Alike
-pub mod Reading
 pub mod Nesting
 pub mod Sites
 pub mod TableRows

@@ -12,8 +12,12 @@ use Rattle.split_rules.specs.Emissions.{Emission}
 use Rattle.split_rules.specs.Expressions.{Reading, reads_in, nodes_of, released_by}
 use Rattle.split_rules.specs.Walk.{Walked, read_emissions, result_emissions, argument_emissions, releasing}
 use Rattle.control_split.specs.Trace.{TraceShape, traced, traced_one}
-use Rattle.control_split.proofs.Reading.{reads_few}
+use Rattle.split_rules.proofs.ExpressionNodes.{reads_few}
 use Rattle.control_split.proofs.Traces.{traced_append}
+
+-- an expression reads no more than it has nodes
+pub few_reads : (expr : ExprTree) → reads_in expr ≤ expr_nodes expr
+few_reads = reads_few
 
 pub room_behind : (first middle most : ℕ) (left right : ExprTree) → middle ≡ first + reads_in left →
     first + (1 + (expr_nodes left + expr_nodes right)) ≤ most → middle + expr_nodes right ≤ most

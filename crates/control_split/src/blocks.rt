@@ -17,7 +17,7 @@ ghost use Rattle.control_split.specs.Views.{walked_of, planned_in, around_of, Is
 ghost use Rattle.control_split.specs.Places.{around_at, heading_at};
 
 use crate::calls::{CallSite, call, give_back};
-use crate::expressions::{add_reads, code_expr, first_element, value};
+use crate::expressions::{add_reads, first_element, value};
 use crate::labels::guarded;
 use crate::moves::{end, move_on};
 use crate::needs::{ahead_at, block_needs, left_behind};
@@ -30,6 +30,7 @@ use jif_tree::{Expr, Stmt, StmtKind, tree_laws};
 use js_base::limits::HOSTS;
 use js_base::{EntryId, FieldId, HostId, OutOfMemory, VarId};
 use msg_cost::{Planned, Spot, next_spot, straight_to};
+use split_rules::code_expr;
 
 /// The statements of a block that begins on this host.
 ///

@@ -8,7 +8,7 @@ use Rattle.split_rules.specs.Expressions.{reads_in, nodes_of, released_by}
 use Rattle.split_rules.specs.Walk.{emitted, expr_emissions, releasing}
 use Rattle.control_split.specs.Trace.{traced, traced_one}
 use Rattle.control_split.proofs.Operands.{traced_then}
-use Rattle.control_split.proofs.Reading.{reads_few}
+use Rattle.split_rules.proofs.ExpressionNodes.{reads_few}
 use Rattle.control_split.proofs.blocks.set_element.Goals as goal
 
 pub add_reads-requires-2 : goal.add_reads-requires-2
