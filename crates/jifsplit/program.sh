@@ -4,6 +4,7 @@ node=$top/crates/jifhost/out/jifhost
 tokens=$top/crates/jiftokens/out/jiftokens
 picture=$top/crates/jifpicture/out/jifpicture
 runner=$top/crates/jifrun/out/jifrun
+merged=$top/crates/jifmerge/out/jifmerge
 
 is_built() {
   [ -x "$1" ] && [ -z "$(find "$top/crates" "$top/crates.txt" -name out -prune -o -type f \

@@ -243,7 +243,7 @@ labelled_once laws file tree (stopped verdict) (stopped other) one two =
 
 -- ---- all stages
 
-drafted_once : SourceLaws → (program : List ℕ) → IsOne (Drafted program)
+pub drafted_once : SourceLaws → (program : List ℕ) → IsOne (Drafted program)
 drafted_once laws program =
     one_then (Lexed program) Parsed (lexed_once laws.lexing program) (λ list was. parsed_once laws.grammar list)
 

@@ -57,6 +57,7 @@ pub data RefusalShape : Type 0 where
   NoKey : (file host : List ℕ) → RefusalShape
   WeakEntry : (file : List ℕ) (entry : EntryId) (place : ℕ) → RefusalShape
   Reveals : (file : List ℕ) (place : ℕ) → RefusalShape
+  WrongJournals : RefusalShape
 
 -- what a refusal of the program says
 abbrev pub refusal_shape : native.Refusal → RefusalShape
@@ -79,6 +80,7 @@ refusal_shape (variants.OtherHosts code hosts) = OtherHosts (string_bytes code) 
 refusal_shape (variants.NoKey file host) = NoKey (string_bytes file) (string_bytes host)
 refusal_shape (variants.WeakEntry file entry place) = WeakEntry (string_bytes file) entry place
 refusal_shape (variants.Reveals file place) = Reveals (string_bytes file) place
+refusal_shape variants.WrongJournals = WrongJournals
 
 -- the status with which a refused program ends
 abbrev pub refusal_status : RefusalShape → Status
@@ -101,6 +103,7 @@ refusal_status (OtherHosts code hosts) = status.InputRefused
 refusal_status (NoKey file host) = status.InputRefused
 refusal_status (WeakEntry file entry place) = status.InputRefused
 refusal_status (Reveals file place) = status.InputRefused
+refusal_status WrongJournals = status.InputRefused
 
 -- ---- programs
 
@@ -201,6 +204,7 @@ why_not_line line_cause.HostBusy = codes "host busy"
 why_not_line line_cause.NotMisbehaving = codes "not misbehaving"
 why_not_line line_cause.EventsDiffer = codes "events differ"
 why_not_line line_cause.NotPrompt = codes "not prompt"
+why_not_line line_cause.NoMatch = codes "no list meets this"
 why_not_line (line_cause.NoSuchToken number count) =
     codes "no such token " ++ (decimal number ++ (codes ", " ++ (decimal count ++ codes " sent")))
 
@@ -241,6 +245,7 @@ refusal_text (WeakEntry file entry place) =
     ++ (codes " names more than the need of entry e" ++ decimal entry.0)))
 refusal_text (Reveals file place) =
     file ++ (codes ": instruction " ++ (decimal place ++ codes " shows a host what it may not see"))
+refusal_text WrongJournals = codes "wrong number of journals"
 
 -- a line of a program of this name on the error output
 abbrev pub error_line : (program text : List ℕ) → List ℕ

@@ -96,6 +96,16 @@ not_prompt file line = at_line file line cause.NotPrompt
 abbrev pub event_no_token : List ℕ → ℕ → ℕ → ℕ → VerdictShape
 event_no_token file line number count = at_line file line (cause.NoSuchToken number count)
 
+-- ---- journals
+
+-- no list of events meets the journal behind this line
+abbrev pub no_match : List ℕ → ℕ → VerdictShape
+no_match file line = at_line file line cause.NoMatch
+
+-- there is not one journal for each host
+abbrev pub wrong_journals : VerdictShape
+wrong_journals = Refuse refusals.WrongJournals
+
 -- ---- two runs
 
 abbrev pub bad_differ : VerdictShape

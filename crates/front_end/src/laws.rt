@@ -3,10 +3,11 @@
 ghost use Rattle.std.specs.Prelude.{◌≡◌, ◌<◌, ℕ, List};
 ghost use Rattle.js_base.specs.Counts.{last_count};
 ghost use Rattle.host_decl.specs.Hosts.{HostsShape};
+ghost use Rattle.jif_grammar.specs.DraftShapes.{DraftShape};
 ghost use Rattle.front_end.specs.Verdicts.{VerdictShape};
 ghost use Rattle.front_end.specs.Loads.{FilesChange, IsFileFault};
 ghost use Rattle.front_end.specs.PlacedSources.{PlacedSource, PlacedSources};
-ghost use Rattle.front_end.specs.Sources.{HostsRead, Source, Sources};
+ghost use Rattle.front_end.specs.Sources.{Drafted, HostsRead, Source, Sources};
 ghost use Rattle.front_end.specs.Stages.{Outcome};
 
 use host_decl::host_file_laws;
@@ -26,6 +27,10 @@ pub fn source_laws()
 
     // One of the two comes of all bytes.
     ensures some_source { (program hosts : List ℕ) → (end : Outcome Source) × Sources program hosts end }
+
+    // A program alone is one draft, or is refused for one cause.
+    ensures one_draft { (program : List ℕ) (first second : Outcome DraftShape) →
+        Drafted program first → Drafted program second → first ≡ second }
 
     // A host file alone says one row of hosts, or is refused for one cause.
     ensures one_hosts { (bytes : List ℕ) (first second : Outcome HostsShape) →

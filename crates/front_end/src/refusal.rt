@@ -35,6 +35,8 @@ pub enum LineCause {
     EventsDiffer,
     /// Something secret goes on while its event may be seen.
     NotPrompt,
+    /// No list of events meets the journal behind this line.
+    NoMatch,
 }
 
 /// Why words or files are refused: the cause, with its place. It says nothing of the program that refuses them, which
@@ -119,6 +121,8 @@ pub enum Refusal {
         file: String,
         place: u32,
     },
+    /// There is not one journal for each host.
+    WrongJournals,
 }
 
 impl Refusal {
@@ -145,7 +149,8 @@ impl Refusal {
             | Refusal::OtherHosts { .. }
             | Refusal::NoKey { .. }
             | Refusal::WeakEntry { .. }
-            | Refusal::Reveals { .. } => Status::InputRefused,
+            | Refusal::Reveals { .. }
+            | Refusal::WrongJournals => Status::InputRefused,
         }
     }
 
@@ -179,6 +184,7 @@ impl Refusal {
                 weak_entry_text(alloc, file, *entry, *place)
             }
             Refusal::Reveals { file, place } => reveals_text(alloc, file, *place),
+            Refusal::WrongJournals => String::from_str(alloc, "wrong number of journals"),
         }
     }
 }

@@ -299,6 +299,7 @@ fn why_not_line(alloc: Global, why: LineCause) -> Result<String, AllocError>
         LineCause::NotMisbehaving => String::from_str(alloc, "not misbehaving"),
         LineCause::EventsDiffer => String::from_str(alloc, "events differ"),
         LineCause::NotPrompt => String::from_str(alloc, "not prompt"),
+        LineCause::NoMatch => String::from_str(alloc, "no list meets this"),
         LineCause::NoSuchToken { number, count } => {
             format!(in alloc; "no such token {number}, {count} sent")
         }

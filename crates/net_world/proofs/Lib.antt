@@ -7,6 +7,8 @@ pub mod GoingOn
 pub mod Letters
 pub mod Moved
 pub mod Named
+pub mod NextGoes
+pub mod Obeying
 pub mod OwnTokens
 pub mod Present
 pub mod Queues

@@ -57,6 +57,10 @@ lacks hosts host = is_absent (slice_get hosts host.0)
 abbrev pub misbehaves : WorldShape → HostId → Bool
 misbehaves world host = lacks world.hosts host
 
+-- no host misbehaves
+abbrev pub AllObey : WorldShape → Type 0
+AllObey world = (host : HostId) → misbehaves world host ≡ false
+
 abbrev pub tokens_sent : WorldShape → List Token
 tokens_sent world = tokens_in world.sent
 

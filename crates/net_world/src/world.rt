@@ -45,6 +45,19 @@ pub enum EventError {
     Stopped,
 }
 
+impl EventError {
+    /// Where all hosts obey, what comes next is never refused, and a host answers far more calls than it is made to
+    /// answer. So memory ran out.
+    pub fn only_memory(self) -> OutOfMemory
+        requires { self ≡ EventError.OutOfMemory }
+    {
+        match self {
+            EventError::OutOfMemory => OutOfMemory,
+            _ => unreachable!(),
+        }
+    }
+}
+
 /// All hosts, and what is in flight between them. A misbehaving host has no state: it may send whatever it can make,
 /// and what it is sent is kept.
 #[derive(Drop)]

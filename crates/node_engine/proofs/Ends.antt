@@ -51,6 +51,7 @@ refused_calmly (refusal.OtherHosts code hosts) there = (refl, refl)
 refused_calmly (refusal.NoKey file host) there = (refl, refl)
 refused_calmly (refusal.WeakEntry file entry place) there = (refl, refl)
 refused_calmly (refusal.Reveals file place) there = (refl, refl)
+refused_calmly refusal.WrongJournals there = (refl, refl)
 
 due_calmly : (verdict : VerdictShape) (there : Outside) → Faults (end_of verdict).status there there
 due_calmly (Refuse why) there = refused_calmly why there

@@ -4,7 +4,7 @@ use Rattle.js_base.specs.declared.ids.HostId.{HostId}
 use Rattle.js_base.specs.declared.text.TheConstants.{LINE_FEED}
 use Rattle.host_code.specs.declared.message.Message.{Message}
 use Rattle.host_code.specs.Code.{CodeShape}
-use Rattle.host_code.specs.MessageText.{host_text, message_text}
+use Rattle.event_text.specs.JournalText.{turn_text, take_text, send_text, done_text}
 use Rattle.wire_msg.specs.declared.error.WireError.TheVariants.{Short, BadKind, BadField, TooLong, Trailing}
 use Rattle.node_engine.specs.declared.arrivals.DropReason.{DropReason}
 use Rattle.node_engine.specs.declared.arrivals.DropReason.TheVariants.{Frame, Seal}
@@ -14,19 +14,19 @@ line text = text ++ LINE_FEED ∷ []
 
 -- the host ran an instruction
 abbrev pub turn_line : List ℕ
-turn_line = line (codes "turn")
+turn_line = line turn_text
 
 -- the host took a message
 abbrev pub take_line : CodeShape → HostId → Message → List ℕ
-take_line code from message = line (codes "take " ++ host_text code from ++ codes " " ++ message_text code message)
+take_line code from message = line (take_text code from message)
 
 -- the host sent a message, by what it did in the line before
 abbrev pub send_line : CodeShape → HostId → Message → List ℕ
-send_line code to message = line (codes "send " ++ host_text code to ++ codes " " ++ message_text code message)
+send_line code to message = line (send_text code to message)
 
 -- a host said that it is done
 abbrev pub done_line : CodeShape → HostId → List ℕ
-done_line code from = line (codes "done " ++ host_text code from)
+done_line code from = line (done_text code from)
 
 abbrev pub reason : DropReason → List ℕ
 reason (Frame Short) = codes "short"

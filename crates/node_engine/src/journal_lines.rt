@@ -6,7 +6,8 @@ ghost use Rattle.host_code.specs.Messages.{MessageFits};
 ghost use Rattle.node_engine.specs.JournalLines as lines;
 
 use crate::arrivals::DropReason;
-use host_code::{Code, Message, host_name, message_text};
+use event_text::{done_text, send_text, take_text};
+use host_code::{Code, Message};
 use js_base::{HostId, OutOfMemory};
 use std::alloc::Global;
 use wire_msg::WireError;
@@ -24,9 +25,8 @@ pub fn take_line(
     requires { MessageFits code.now message.now }
     ensures { IfOk result (λ line. string_bytes line ≡ lines.take_line code.now from message.now) }
 {
-    let name = host_name(code, from);
-    let said = message_text(alloc, code, message)?;
-    Ok(format!(in alloc; "take {name} {said}\n")?)
+    let text = take_text(alloc, code, from, message)?;
+    Ok(format!(in alloc; "{text}\n")?)
 }
 
 /// The line of a message that was sent to a host.
@@ -39,17 +39,16 @@ pub fn send_line(
     requires { MessageFits code.now message.now }
     ensures { IfOk result (λ line. string_bytes line ≡ lines.send_line code.now to message.now) }
 {
-    let name = host_name(code, to);
-    let said = message_text(alloc, code, message)?;
-    Ok(format!(in alloc; "send {name} {said}\n")?)
+    let text = send_text(alloc, code, to, message)?;
+    Ok(format!(in alloc; "{text}\n")?)
 }
 
 /// The line of a host that said that it is done.
 pub fn done_line(alloc: Global, code: &Code, from: HostId) -> Result<String, OutOfMemory>
     ensures { IfOk result (λ line. string_bytes line ≡ lines.done_line code.now from) }
 {
-    let name = host_name(code, from);
-    Ok(format!(in alloc; "done {name}\n")?)
+    let text = done_text(alloc, code, from)?;
+    Ok(format!(in alloc; "{text}\n")?)
 }
 
 /// The line of what arrived and was dropped.

@@ -3,7 +3,6 @@ use Rattle.std.proofs.Common.{◌≡◌, ℕ, zero, suc, ◌+◌, ◌⊎◌, inl
 use Rattle.std.proofs.Common.{refl, ap, sym, subst, arith}
 use Rattle.std.specs.Prelude.{ℤ, IsSome, IsSomeAnd, slice_get, ◌==◌, if◌then◌else◌}
 use Rattle.std.proofs.lemmas.Bool.Decides.{eqb_tells}
-use Rattle.std.proofs.lemmas.Nat.Bits.{bit_at-zero}
 use Rattle.js_base.specs.declared.ids.HostId.{HostId}
 use Rattle.js_base.proofs.Options.{some_or_none}
 use Rattle.host_decl.specs.Hosts as declared_hosts
@@ -11,20 +10,10 @@ use Rattle.host_code.specs.Code.{CodeShape}
 use Rattle.host_core.specs.Host.{HostShape}
 use Rattle.host_core.specs.Start.{host_at_start, idle_host, root_host}
 use Rattle.net_world.specs.Choice.{Runs}
-use Rattle.net_world.specs.World.{world_at_start, state_at, given, is_absent, host_before, hosts_before}
+use Rattle.net_world.specs.World.{world_at_start, state_at, given, hosts_before}
+use Rattle.net_world.proofs.Obeying.{no_bad, obey_at_start}
 use Rattle.net_world.proofs.Present.{same_id}
 use Rattle.record_merge.specs.Single.{nothing, runs, IsSingle}
-
-no_bad : (code : CodeShape) (store : List (List ℤ)) (n : ℕ) (row : declared_hosts.HostShape) →
-    host_before code store 0 n row ≡ Some (host_at_start code store row.key (record { 0 = n }))
-no_bad code store n row =
-    ap (λ bit. if bit == 1 then None else Some (host_at_start code store row.key (record { 0 = n }))) (bit_at-zero n)
-
-none_absent : (code : CodeShape) (store : List (List ℤ)) (n : ℕ) (rows : List declared_hosts.HostShape) (k : ℕ) →
-    is_absent (slice_get (hosts_before code store 0 n rows) k) ≡ false
-none_absent code store n [] k = refl
-none_absent code store n (row ∷ rows) zero = ap (λ o. is_absent (Some o)) (no_bad code store n row)
-none_absent code store n (row ∷ rows) (suc k) = none_absent code store (n + 1) rows k
 
 idle_rests : (code : CodeShape) (store : List (List ℤ)) (key : List ℕ) (me : HostId) →
     IsSome (host_at_start code store key me).running → me.0 ≡ code.root.0
@@ -67,12 +56,12 @@ start_single code rows store =
     same_id other code.root (omega (arith, same)) in
     elim (runs_or_not (state_at world code.root)) [
       | inl there ↦ record {
-        obey = λ host. none_absent code store 0 rows host.0;
+        obey = obey_at_start code rows store;
         active = runs code.root;
         only = (record { there = there; alone = others }, λ from to some. some refl);
       }
       | inr rests ↦ record {
-        obey = λ host. none_absent code store 0 rows host.0;
+        obey = obey_at_start code rows store;
         active = nothing;
         only = (λ host running. rests (subst (Runs world) (others host running) running), λ from to some. some refl);
       }

@@ -13,7 +13,7 @@ use Rattle.net_world.specs.Choice.{IsNextEvent}
 use Rattle.net_world.specs.Fits.{FlightFits}
 use Rattle.net_world.specs.Flying.{Flight}
 use Rattle.net_world.specs.World.{WorldShape}
-use Rattle.record_merge.specs.JournalWords.{take_words}
+use Rattle.event_text.specs.JournalText.{take_words}
 use Rattle.record_merge.specs.NextLines.{IsFirst, taken_words, step_words}
 
 pub take_step : (code : CodeShape) (world : WorldShape) (from to : HostId) (place : ℕ) (event : Event)

@@ -9,7 +9,7 @@ use Rattle.event_text.specs.declared.event.Event.{Event}
 use Rattle.event_text.specs.Words.{Word}
 use Rattle.host_code.specs.Code.{CodeShape}
 use Rattle.net_world.specs.World.{WorldShape}
-use Rattle.record_merge.specs.JournalWords.{IsSendLine}
+use Rattle.event_text.specs.JournalText.{IsSendLine}
 use Rattle.record_merge.specs.Meeting.{Journal, journal_at, MeetsAt, MeetsUpTo, IsKept, IsAtEnd}
 use Rattle.record_merge.specs.Notes.{Note, IsNotedRun, lines_at}
 use Rattle.record_merge.specs.Single.{IsSingle}

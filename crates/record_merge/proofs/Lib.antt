@@ -10,3 +10,5 @@ pub mod FirstFlights
 pub mod Walks
 pub mod HeldJournals
 pub mod Merged
+pub mod ReadJournals
+pub mod OneMerge

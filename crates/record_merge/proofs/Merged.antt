@@ -8,8 +8,13 @@ use Rattle.event_text.specs.declared.event.Event.{Event}
 use Rattle.event_text.specs.Lines.{LineShape, words}
 use Rattle.host_code.specs.Code.{CodeShape}
 use Rattle.net_world.specs.World.{WorldShape}
-use Rattle.record_merge.specs.declared.journal.JournalLine.{JournalLine}
-use Rattle.record_merge.specs.JournalLines.{said_line, journal_of, all_of, said_of, number_at}
+use Rattle.event_text.specs.declared.lines.Line.{Line}
+use Rattle.record_merge.specs.declared.journal.MergeError.{MergeError}
+use Rattle.record_merge.specs.declared.journal.MergeError.TheVariants as error
+use Rattle.record_merge.specs.JournalLines.{said_line, journal_of, all_of, said_of, number_at, IsNotMerged}
+use Rattle.record_merge.specs.Journals.{first_fault, journal_lines}
+use Rattle.record_merge.specs.Merging.{IsMerged, IsRefusedFor}
+use Rattle.record_merge.specs.Reading.{IsUnread}
 use Rattle.record_merge.specs.Meeting.{Journal, journal_at, MeetsAt, Meets, IsAtEnd, IsFirstLeft, IsLeftAt}
 use Rattle.record_merge.specs.Meeting.{words_in}
 use Rattle.record_merge.specs.Notes.{lines_at}
@@ -17,11 +22,11 @@ use Rattle.record_merge.specs.Single.{IsSingle}
 use Rattle.record_merge.proofs.Furthest.{end_meets, furthest}
 use Rattle.record_merge.proofs.OneMeeting.{whole_place}
 
-line_words : (lines : List JournalLine) → map (λ line. line.words) (map said_line lines) ≡ journal_of lines
+line_words : (lines : List Line) → map (λ line. line.words) (map said_line lines) ≡ journal_of lines
 line_words [] = refl
 line_words (line ∷ lines) = ap (λ (ws : Journal). words line.bytes.now ∷ ws) (line_words lines)
 
-said_words : (journals : List (Vec JournalLine Global)) → words_in (said_of journals) ≡ all_of journals
+said_words : (journals : List (Vec Line Global)) → words_in (said_of journals) ≡ all_of journals
 said_words [] = refl
 said_words (journal ∷ journals) =
     ap (λ (j : Journal). j ∷ words_in (said_of journals)) (line_words journal.items)
@@ -32,7 +37,7 @@ number_there : (found : Option LineShape) (number : ℕ) →
 number_there None number is = absurd (cc)
 number_there (Some line) number is = let same : line.number ≡ number = cc in same
 
-pub not_merged : (code : CodeShape) (world : WorldShape) (journals : List (Vec JournalLine Global)) (places : List ℕ)
+pub not_merged : (code : CodeShape) (world : WorldShape) (journals : List (Vec Line Global)) (places : List ℕ)
     (events : List Event) (host : HostId) (number : ℕ) → IsSingle world →
     IsAtEnd code world (all_of journals) places events → IsFirstLeft (all_of journals) places host →
     number_at journals host (slice_index places host.0) ≡ Some number →
@@ -70,3 +75,34 @@ all_met code world journals places events end ended =
           omega (arith, whole, most, least) in
           subst (MeetsAt (lines_at host met.notes) (journal_at journals host)) same (met.meets host);
     }
+
+-- ---- by the bytes of journals
+
+-- the journals were read
+pub record HaveRead (code : CodeShape) (journals : List (List ℕ)) (lines : List (Vec Line Global)) : Type 0 where
+  pub sound : first_fault code 0 journals ≡ None
+  pub said : said_of lines ≡ map journal_lines journals
+
+pub merged_of : (code : CodeShape) (world : WorldShape) (journals : List (List ℕ)) (lines : List (Vec Line Global))
+    (events : List Event) → HaveRead code journals lines → Meets code world (all_of lines) events →
+    IsMerged code world journals events
+merged_of code world journals lines events read meets =
+    let same : all_of lines ≡ words_in (map journal_lines journals) =
+    sym (said_words lines) ∙ ap words_in read.said in
+    (read.sound, subst (λ (js : List Journal). Meets code world js events) same meets)
+
+pub refused_of : (code : CodeShape) (world : WorldShape) (journals : List (List ℕ)) (lines : List (Vec Line Global))
+    (why : MergeError) → HaveRead code journals lines → IsNotMerged code world lines why →
+    IsRefusedFor code world journals why
+refused_of code world journals lines error.OutOfMemory read not = tt
+refused_of code world journals lines (error.TooLong host) read not = absurd not
+refused_of code world journals lines (error.BadLine host line) read not = absurd not
+refused_of code world journals lines (error.NoMatch host line) read not =
+    (read.sound, subst (λ (said : List (List LineShape)). IsLeftAt code world said host line) read.said not)
+
+pub unread_refused : (code : CodeShape) (world : WorldShape) (journals : List (List ℕ)) (why : MergeError) →
+    IsUnread code journals why → IsRefusedFor code world journals why
+unread_refused code world journals error.OutOfMemory unread = tt
+unread_refused code world journals (error.TooLong host) unread = unread
+unread_refused code world journals (error.BadLine host line) unread = unread
+unread_refused code world journals (error.NoMatch host line) unread = absurd unread

@@ -14,11 +14,11 @@ use Rattle.host_core.specs.Turn.{IsTurnOf, IsRunning, label_of_turn, label_of_th
 use Rattle.net_world.specs.Choice.{NothingFlies, IsNextEvent}
 use Rattle.net_world.specs.Flying.{Flight}
 use Rattle.net_world.specs.World.{WorldShape, IsStep, IsTakeStep, IsTurnStep, state_at, with_state, without_flight}
-use Rattle.net_world.specs.World.{after_sending, letter_of}
-use Rattle.record_merge.specs.JournalWords.{take_words, sent_words, send_words, turn_words}
+use Rattle.net_world.specs.World.{AllObey, after_sending, letter_of}
+use Rattle.event_text.specs.JournalText.{take_words, sent_words, send_words, turn_words}
 use Rattle.record_merge.specs.NextLines.{taken_words, step_words, flying_words, sent_next, note_of}
 use Rattle.record_merge.specs.Notes.{IsNoted}
-use Rattle.record_merge.specs.Single.{flies, IsOnly, AllObey, IsSingle}
+use Rattle.record_merge.specs.Single.{flies, IsOnly, IsSingle}
 use Rattle.record_merge.proofs.Singles.{OthersRest, turn_alone, take_alone, taken_flights, nothing_sent, letter_moved}
 use Rattle.record_merge.proofs.Singles.{posted_only, posted_flights, act_nowhere}
 use Rattle.record_merge.proofs.Spent.{turn_spent, take_spent}

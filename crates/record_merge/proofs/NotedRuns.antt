@@ -13,7 +13,7 @@ use Rattle.host_core.proofs.OneOutcome.{one_taking, one_turn_of}
 use Rattle.net_world.specs.Flying.{Flight}
 use Rattle.net_world.specs.World.{WorldShape, IsStep, state_at}
 use Rattle.net_world.proofs.StepLaws.{one_step}
-use Rattle.record_merge.specs.JournalWords.{turn_words, take_words, sent_words}
+use Rattle.event_text.specs.JournalText.{turn_words, take_words, sent_words}
 use Rattle.record_merge.specs.Notes.{Note, IsNoted, IsNotedRun}
 use Rattle.record_merge.specs.Single.{IsSingle}
 use Rattle.record_merge.proofs.Singles.{step_single, one_event}

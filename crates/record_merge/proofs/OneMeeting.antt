@@ -11,7 +11,7 @@ use Rattle.event_text.specs.declared.event.Event.TheVariants.{Take, Turn, Act}
 use Rattle.event_text.specs.Words.{Word}
 use Rattle.host_code.specs.Code.{CodeShape}
 use Rattle.net_world.specs.World.{WorldShape}
-use Rattle.record_merge.specs.JournalWords.{IsSendLine}
+use Rattle.event_text.specs.JournalText.{IsSendLine}
 use Rattle.record_merge.specs.Meeting.{Journal, journal_at, MeetsAt, Meets}
 use Rattle.record_merge.specs.Notes.{Note, IsNoted, IsNotedRun, lines_at}
 use Rattle.record_merge.specs.Single.{IsSingle}

@@ -14,10 +14,10 @@ use Rattle.host_core.specs.Host.{HostShape, Outcome, Letter, with_label}
 use Rattle.net_world.specs.Choice.{Runs, NoneRuns, Flies, NothingFlies}
 use Rattle.net_world.specs.Flying.{Flight, Flying, with_flights}
 use Rattle.net_world.specs.World.{WorldShape, IsStep, IsTakeStep, IsTurnStep, state_at, misbehaves, with_state}
-use Rattle.net_world.specs.World.{without_flight, after_sending, after_posting, after_telling, letter_of, after_step}
+use Rattle.net_world.specs.World.{AllObey, without_flight, after_sending, after_posting, after_telling, letter_of, after_step}
 use Rattle.net_world.proofs.Moved.{Moved, mover_state, other_state, bad_moved}
 use Rattle.net_world.proofs.Present.{same_id}
-use Rattle.record_merge.specs.Single.{Active, nothing, runs, flies, FliesAlone, IsOnly, AllObey, IsSingle}
+use Rattle.record_merge.specs.Single.{Active, nothing, runs, flies, FliesAlone, IsOnly, IsSingle}
 use Rattle.record_merge.proofs.Spent.{IsSpent, turn_spent, take_spent}
 
 -- ---- what runs

@@ -15,8 +15,8 @@ use Rattle.net_world.specs.Choice.{IsNextEvent}
 use Rattle.net_world.specs.Flying.{Flight}
 use Rattle.net_world.specs.World.{WorldShape, IsStep, mover}
 use Rattle.net_world.proofs.Present.{same_id, get_other}
-use Rattle.record_merge.specs.JournalLines.{next_unless, next_of, IsFitting, IsPassed, IsRead, HasMerged}
-use Rattle.record_merge.specs.JournalWords.{IsSendLine}
+use Rattle.record_merge.specs.JournalLines.{met, lines_in, next_unless, next_of, IsFitting, IsPassed, IsRead, HasMerged}
+use Rattle.event_text.specs.JournalText.{IsSendLine}
 use Rattle.record_merge.specs.Meeting.{Journal, journal_at, IsKept, IsAtEnd}
 use Rattle.record_merge.specs.NextLines.{taken_words, step_words, flying_words, sent_next, note_of}
 use Rattle.record_merge.specs.Notes.{Note, IsNoted, IsNotedRun, lines_at}
@@ -357,16 +357,8 @@ merged_end code world last journals events places left merged fitting = record {
 -- ---- the measure
 
 -- how many lines are met, and how many there are
-abbrev pub met : List ℕ → ℕ
-met [] = 0
-met (place ∷ places) = place + met places
-
-abbrev pub lines_of : List Journal → ℕ
-lines_of [] = 0
-lines_of (journal ∷ journals) = length journal + lines_of journals
-
 pub met_within : (places : List ℕ) (journals : List Journal) → length places ≡ length journals →
-    ((n : ℕ) → slice_index places n ≤ length (unwrap_or (slice_get journals n) [])) → met places ≤ lines_of journals
+    ((n : ℕ) → slice_index places n ≤ length (unwrap_or (slice_get journals n) [])) → met places ≤ lines_in journals
 met_within [] journals same within = omega arith
 met_within (place ∷ places) [] same within =
     let no : suc (length places) ≡ 0 = same in absurd (omega (arith, no))

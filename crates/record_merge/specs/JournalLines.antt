@@ -10,21 +10,21 @@ use Rattle.event_text.specs.Words.{Word}
 use Rattle.host_code.specs.Code.{CodeShape}
 use Rattle.net_world.specs.Choice.{IsNextEvent}
 use Rattle.net_world.specs.World.{WorldShape, mover}
-use Rattle.record_merge.specs.declared.journal.JournalLine.{JournalLine}
+use Rattle.event_text.specs.declared.lines.Line.{Line}
 use Rattle.record_merge.specs.declared.journal.MergeError.{MergeError}
 use Rattle.record_merge.specs.declared.journal.MergeError.TheVariants as error
-use Rattle.record_merge.specs.JournalWords.{IsSendLine}
+use Rattle.event_text.specs.JournalText.{IsSendLine}
 use Rattle.record_merge.specs.Meeting.{Journal, journal_at, IsLeftAt}
 use Rattle.record_merge.specs.Notes.{Note, IsNotedRun, lines_at}
 use Rattle.record_merge.specs.Single.{IsSingle}
 use Rattle.record_merge.specs.NextLines.{step_words, sent_next}
 
 -- a line with its words
-abbrev pub said_line : JournalLine → LineShape
+abbrev pub said_line : Line → LineShape
 said_line line = line_of line.number line.bytes.now
 
 -- a journal by its words
-abbrev pub journal_of : List JournalLine → Journal
+abbrev pub journal_of : List Line → Journal
 journal_of lines = map (λ line. words line.bytes.now) lines
 
 -- the next line of a host's journal, none where the journal was left or has ended
@@ -35,6 +35,16 @@ next_unless _ line = line
 abbrev pub next_of : List Journal → List ℕ → List Bool → HostId → Option (List Word)
 next_of journals places left host =
     next_unless (slice_get left host.0) (slice_get (journal_at journals host) (slice_index places host.0))
+
+-- how many lines of all journals are met, where each is met up to its place
+abbrev pub met : List ℕ → ℕ
+met [] = 0
+met (place ∷ places) = place + met places
+
+-- how many lines journals have in all
+abbrev pub lines_in : List Journal → ℕ
+lines_in [] = 0
+lines_in (journal ∷ journals) = length journal + lines_in journals
 
 -- The event that comes next is one whose line is next in its host's journal; or no event comes next whose line is.
 abbrev pub IsFitting : CodeShape → WorldShape → List Journal → List ℕ → List Bool → Option Event → Type 0
@@ -86,19 +96,21 @@ pub record HasPassed (code : CodeShape) (after : WorldShape) (journals : List Jo
   pub left_are : left_after ≡ slice_set left host.0 passed.1
 
 -- the journals of all hosts, by their words and with the numbers of their lines
-abbrev pub all_of : List (Vec JournalLine Global) → List Journal
+abbrev pub all_of : List (Vec Line Global) → List Journal
 all_of journals = map (λ journal. journal_of journal.items) journals
 
-abbrev pub said_of : List (Vec JournalLine Global) → List (List LineShape)
+abbrev pub said_of : List (Vec Line Global) → List (List LineShape)
 said_of journals = map (λ journal. map said_line journal.items) journals
 
 -- why journals are not merged
-abbrev pub IsNotMerged : CodeShape → WorldShape → List (Vec JournalLine Global) → MergeError → Type 0
+abbrev pub IsNotMerged : CodeShape → WorldShape → List (Vec Line Global) → MergeError → Type 0
 IsNotMerged code world journals error.OutOfMemory = ⊤
+IsNotMerged code world journals (error.TooLong host) = ⊥
+IsNotMerged code world journals (error.BadLine host number) = ⊥
 IsNotMerged code world journals (error.NoMatch host number) = IsLeftAt code world (said_of journals) host number
 
 -- the number of the line at a place of a host's journal
-abbrev pub number_at : List (Vec JournalLine Global) → HostId → ℕ → Option ℕ
+abbrev pub number_at : List (Vec Line Global) → HostId → ℕ → Option ℕ
 number_at journals host place =
     option_map (λ (line : LineShape). line.number)
     (slice_get (unwrap_or (slice_get (said_of journals) host.0) []) place)

@@ -9,7 +9,7 @@ use Rattle.host_code.specs.Code.{CodeShape}
 use Rattle.host_code.specs.Messages.{MessageFits}
 use Rattle.net_world.specs.Flying.{Flight}
 use Rattle.net_world.specs.World.{WorldShape, mover}
-use Rattle.record_merge.specs.JournalWords.{turn_words, take_words, send_words}
+use Rattle.event_text.specs.JournalText.{turn_words, take_words, send_words}
 use Rattle.record_merge.specs.Notes.{Note}
 
 abbrev pub taken_words : CodeShape → HostId → Option Flight → List Word

@@ -6,7 +6,7 @@ use Rattle.event_text.specs.declared.event.Event.TheVariants.{Take, Turn, Act}
 use Rattle.event_text.specs.Words.{Word}
 use Rattle.host_code.specs.Code.{CodeShape}
 use Rattle.net_world.specs.World.{WorldShape, IsTurnStep, IsTakeStep}
-use Rattle.record_merge.specs.JournalWords.{turn_words, take_words, sent_words}
+use Rattle.event_text.specs.JournalText.{turn_words, take_words, sent_words}
 
 -- the lines that an event adds to the journal of the host whose step it is
 pub record Note : Type 0 where

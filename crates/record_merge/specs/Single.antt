@@ -1,8 +1,8 @@
 -- Worlds in which the threads that run and the messages in flight are at most one together.
-use Rattle.std.specs.Prelude.{◌≡◌, false, length}
+use Rattle.std.specs.Prelude.{◌≡◌, length}
 use Rattle.js_base.specs.declared.ids.HostId.{HostId}
 use Rattle.net_world.specs.Choice.{Runs, NoneRuns, Flies, NothingFlies}
-use Rattle.net_world.specs.World.{WorldShape, misbehaves}
+use Rattle.net_world.specs.World.{WorldShape, AllObey}
 
 -- what goes on: nothing, a thread on a host, or a message from a host to a host
 pub data Active : Type 0 where
@@ -25,9 +25,6 @@ abbrev pub IsOnly : WorldShape → Active → Type 0
 IsOnly world nothing = NoneRuns world × NothingFlies world
 IsOnly world (runs host) = RunsAlone world host × NothingFlies world
 IsOnly world (flies from to) = NoneRuns world × FliesAlone world from to
-
-abbrev pub AllObey : WorldShape → Type 0
-AllObey world = (host : HostId) → misbehaves world host ≡ false
 
 -- nobody misbehaves, and at most one thing goes on
 pub record IsSingle (world : WorldShape) : Type 0 where

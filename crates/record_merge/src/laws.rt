@@ -1,6 +1,6 @@
 //! What holds of worlds and of journals. The calls do nothing: their contracts are the laws.
 
-ghost use Rattle.std.specs.Prelude.{◌≡◌, ◌≤◌, ℕ, ℤ, List, slice_index};
+ghost use Rattle.std.specs.Prelude.{◌≡◌, ◌≢◌, ◌≤◌, ℕ, ℤ, List, slice_index};
 ghost use Rattle.js_base.specs.declared.ids.HostId.{HostId};
 ghost use Rattle.event_text.specs.declared.event.Event.{Event};
 ghost use Rattle.event_text.specs.Lines.{LineShape};
@@ -8,6 +8,9 @@ ghost use Rattle.host_code.specs.Code.{CodeShape};
 ghost use Rattle.host_decl.specs.Hosts.{HostShape};
 ghost use Rattle.net_world.specs.World.{WorldShape, IsStep, world_at_start};
 ghost use Rattle.record_merge.specs.Meeting.{Journal, Meets, MeetsUpTo, IsAtEnd, IsLeftAt, words_in};
+ghost use Rattle.record_merge.specs.Merging.{IsMerged, IsRefusedFor};
+ghost use Rattle.record_merge.specs.declared.journal.MergeError.{MergeError};
+ghost use Rattle.record_merge.specs.declared.journal.MergeError.TheVariants.{OutOfMemory};
 ghost use Rattle.record_merge.specs.Single.{IsSingle};
 
 /// Where nobody misbehaves, whatever the code, the threads that run and the messages in flight are at most one together
@@ -44,4 +47,16 @@ pub fn merge_laws()
         IsAtEnd code (world_at_start code rows 0 store) journals places events →
         MeetsUpTo code (world_at_start code rows 0 store) journals reached others →
         slice_index reached host.0 ≤ slice_index places host.0 }
+
+    // So the bytes of journals are merged into one list, or not merged for one cause.
+    ensures one_merge { (code : CodeShape) (rows : List HostShape) (store : List (List ℤ)) (journals : List (List ℕ))
+        (events others : List Event) →
+        IsMerged code (world_at_start code rows 0 store) journals events →
+        IsMerged code (world_at_start code rows 0 store) journals others → events ≡ others }
+    ensures one_cause { (code : CodeShape) (world : WorldShape) (journals : List (List ℕ)) (why other : MergeError) →
+        why ≢ OutOfMemory → other ≢ OutOfMemory → IsRefusedFor code world journals why →
+        IsRefusedFor code world journals other → why ≡ other }
+    ensures merged_or_refused { (code : CodeShape) (world : WorldShape) (journals : List (List ℕ))
+        (events : List Event) (why : MergeError) → why ≢ OutOfMemory →
+        IsRefusedFor code world journals why → ¬ IsMerged code world journals events }
 {}

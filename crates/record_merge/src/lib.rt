@@ -1,13 +1,14 @@
 //! The journals of all hosts, of which none misbehaves, merged into the one list of events that they tell.
 #![tactic(auto)]
 
+mod forms;
 mod journal;
 mod laws;
-mod merge;
 mod merging;
+mod one_list;
+mod reading;
 mod step_lines;
-mod words;
 
-pub use journal::{JournalLine, MergeError};
+pub use journal::MergeError;
 pub use laws::{merge_laws, single_laws};
-pub use merge::merge_lines;
+pub use one_list::merge;

@@ -1,24 +1,25 @@
 //! The one list of events that journals allow.
 
 ghost use Rattle.std.specs.Prelude.{◌≡◌, ◌↔◌, ◌∷◌, ◌<◌, [], IfOk, IsTrue, Some, IfSome, IfNone, length, map};
-ghost use Rattle.std.specs.Prelude.{unwrap_or, Option};
+ghost use Rattle.std.specs.Prelude.{unwrap_or, Option, ℕ, ◌+◌};
 ghost use Rattle.std.specs.Prelude.{◌++◌, OnOk, replicate, slice_index};
 ghost use Rattle.std.specs.Option.{option_map};
 ghost use Rattle.host_code.specs.Messages.{MessageFits};
+ghost use Rattle.host_core.specs.declared.host.TheConstants.{MOST_CALLS};
 ghost use Rattle.net_world.specs.Choice.{IsNextEvent};
 ghost use Rattle.net_world.specs.Fits.{WorldFits, world_of};
-ghost use Rattle.net_world.specs.World.{mover, IsStep};
+ghost use Rattle.net_world.specs.Steps.{HaveMade};
+ghost use Rattle.net_world.specs.World.{mover, AllObey, IsStep};
 ghost use Rattle.event_text.specs.Lines.{words};
-ghost use Rattle.record_merge.specs.JournalLines.{journal_of, next_of, IsFitting, IsPassed, HasPassed};
+ghost use Rattle.record_merge.specs.JournalLines.{journal_of, lines_in, met, next_of, IsFitting, IsPassed, HasPassed};
 ghost use Rattle.record_merge.specs.Meeting.{journal_at, IsAtEnd};
 ghost use Rattle.record_merge.specs.Single.{IsSingle};
 ghost use Rattle.event_text.specs.declared.event.Event.{Event};
-ghost use Rattle.record_merge.specs.JournalWords.{send_words};
+ghost use Rattle.event_text.specs.JournalText.{send_words};
 ghost use Rattle.record_merge.specs.NextLines.{IsFirst, step_words, sent_next};
 
-use crate::journal::JournalLine;
 use crate::step_lines::{is_send_line, is_take_line, is_turn_line};
-use event_text::{BadMessage, Event};
+use event_text::{BadMessage, Event, Line};
 use host_code::{Code, Message};
 use js_base::{HostId, OutOfMemory};
 use net_world::World;
@@ -72,11 +73,11 @@ fn is_step_line(
 
 /// The next line of a host's journal, none where the journal was left or has ended.
 fn next_line<'a>(
-    journals: &[Vec<JournalLine<'a>>],
+    journals: &[Vec<Line<'a>>],
     places: &[usize],
     left: &[bool],
     host: HostId,
-) -> Option<JournalLine<'a>>
+) -> Option<Line<'a>>
     requires places { length places.now ≡ length journals.now }
     requires left { length left.now ≡ length journals.now }
     ensures { option_map (λ line. words line.bytes.now) result
@@ -97,7 +98,7 @@ fn fitting(
     alloc: Global,
     code: &Code,
     world: &World,
-    journals: &[Vec<JournalLine<'_>>],
+    journals: &[Vec<Line<'_>>],
     places: &[usize],
     left: &[bool],
 ) -> Result<Option<Event>, OutOfMemory>
@@ -126,7 +127,7 @@ fn passed(
     alloc: Global,
     code: &Code,
     world: &World,
-    journal: &[JournalLine<'_>],
+    journal: &[Line<'_>],
     place: usize,
 ) -> Result<(usize, bool), OutOfMemory>
     requires fits { WorldFits code.now world.now }
@@ -147,7 +148,7 @@ fn passed(
 fn behind_send(
     alloc: Global,
     code: &Code,
-    journal: &[JournalLine<'_>],
+    journal: &[Line<'_>],
     place: usize,
     to: HostId,
     message: &Message,
@@ -172,13 +173,16 @@ fn go_on(
     alloc: Global,
     code: &Code,
     world: &mut World,
-    journals: &[Vec<JournalLine<'_>>],
+    journals: &[Vec<Line<'_>>],
     places: &mut Vec<usize>,
     left: &mut Vec<bool>,
     event: &Event,
 ) -> Result<(), OutOfMemory>
     requires fits { WorldFits code.now world.old }
+    requires obey { AllObey (world_of world.old) }
     requires next { IsNextEvent (world_of world.old) (Some event.now) }
+    requires answers { HaveMade (met places.old.items) world.old.hosts }
+    requires few { met places.old.items < MOST_CALLS }
     requires host { (mover event.now).0 < length journals.now }
     requires there { slice_index places.old.items (mover event.now).0 < length (journal_at
         (map (λ journal. journal_of journal.items) journals.now) (mover event.now)) }
@@ -188,12 +192,12 @@ fn go_on(
     ensures passed { OnOk result (HasPassed code.now (world_of world.new)
         (map (λ journal. journal_of journal.items) journals.now) (mover event.now) places.old.items left.old.items
         places.new.items left.new.items) }
+    ensures made { OnOk result ((n : ℕ) → HaveMade n world.old.hosts → HaveMade (n + 1) world.new.hosts) }
     ensures fits { WorldFits code.now world.new }
 {
     let host = mover(event).0 as usize;
-    // What comes next is possible, so memory ran out, or the host has made 2^62 steps, which is out of reach.
-    if world.apply(code, event).is_err() {
-        return Err(OutOfMemory);
+    if let Err(error) = world.apply(code, event) {
+        return Err(error.only_memory());
     }
     let (place, gone) = passed(alloc, code, world, &journals[host], places[host])?;
     places[host] = place;
@@ -208,11 +212,13 @@ pub fn walk(
     alloc: Global,
     code: &Code,
     world: &mut World,
-    journals: &[Vec<JournalLine<'_>>],
+    journals: &[Vec<Line<'_>>],
     places: &mut Vec<usize>,
 ) -> Result<Vec<Event>, OutOfMemory>
     requires fits { WorldFits code.now world.old }
     requires single { IsSingle (world_of world.old) }
+    requires fresh { HaveMade 0 world.old.hosts }
+    requires few { lines_in (map (λ journal. journal_of journal.items) journals.now) < MOST_CALLS }
     requires places { places.old.items ≡ replicate (length journals.now) 0 }
     ensures end { IfOk result (λ events. IsAtEnd code.now (world_of world.old)
         (map (λ journal. journal_of journal.items) journals.now) places.new.items events.items) }

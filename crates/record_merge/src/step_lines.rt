@@ -4,9 +4,9 @@ ghost use Rattle.std.specs.Prelude.{◌≡◌, ◌↔◌, ◌∷◌, IfOk, IsTru
 ghost use Rattle.host_code.specs.Messages.{MessageFits};
 ghost use Rattle.host_code.specs.MessageText.{host_text, message_text};
 ghost use Rattle.event_text.specs.Lines.{words};
-ghost use Rattle.record_merge.specs.JournalWords.{turn_words, take_words, send_words};
+ghost use Rattle.event_text.specs.JournalText.{turn_words, take_words, send_words};
 
-use crate::words::{first_word, is_same_words};
+use event_text::{TURN_TEXT, first_word};
 use host_code::{Code, Message, host_name, message_text};
 use js_base::{HostId, OutOfMemory};
 use std::alloc::Global;
@@ -15,7 +15,7 @@ use std::alloc::Global;
 pub fn is_turn_line(line: &[u8]) -> bool
     ensures { IsTrue result ↔ (words line.now ≡ turn_words) }
 {
-    is_same_words(line, b"turn")
+    is_same_words(line, TURN_TEXT.as_bytes())
 }
 
 /// Whether a line is that of a message that was taken from a host.
@@ -70,4 +70,23 @@ fn is_message_line(
     }
     let text = message_text(alloc, code, message)?;
     Ok(is_same_words(said, text.as_bytes()))
+}
+
+/// Whether two lines have the same words.
+fn is_same_words(one: &[u8], other: &[u8]) -> bool
+    ensures { IsTrue result ↔ (words one.now ≡ words other.now) }
+{
+    let mut left = one;
+    let mut against = other;
+    while let Some((word, rest)) = first_word(left) {
+        let Some((next, behind)) = first_word(against) else {
+            return false;
+        };
+        if word != next {
+            return false;
+        }
+        left = rest;
+        against = behind;
+    }
+    first_word(against).is_none()
 }

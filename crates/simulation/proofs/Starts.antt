@@ -6,7 +6,6 @@ use Rattle.std.proofs.lemmas.Bool.Decides.{eqb_tells}
 use Rattle.std.proofs.lemmas.Bool.{eq-eqb, ne_eqb}
 use Rattle.std.proofs.lemmas.List.{length-map}
 use Rattle.std.proofs.lemmas.List.Elements.{All-get_or}
-use Rattle.std.proofs.lemmas.Nat.Bits.{bit_at-zero}
 use Rattle.std.proofs.lemmas.Option.{slice_get_within, get_or_from_slice_get}
 use Rattle.js_base.specs.declared.ids.HostId.{HostId}
 use Rattle.js_base.specs.declared.ids.FrameId.{FrameId}
@@ -23,8 +22,9 @@ use Rattle.host_stores.specs.Stores.{own_rows}
 use Rattle.host_core.specs.Host.{HostShape, new_token, after_push, after_entering, with_running, thread_at}
 use Rattle.host_core.specs.Start.{main_frame, last_token, idle_host, root_host, host_at_start}
 use Rattle.net_world.specs.World.{AreHostsOf, named_host, world_at_start, state_at, given}
-use Rattle.net_world.specs.World.{is_absent, host_before, hosts_before}
+use Rattle.net_world.specs.World.{hosts_before}
 use Rattle.split_rules.specs.Pace.{PACE}
+use Rattle.net_world.proofs.Obeying.{no_bad, obey_at_start}
 use Rattle.net_world.proofs.Present.{same_id}
 use Rattle.typed_steps.specs.Views.{Split}
 use Rattle.typed_steps.specs.Variables.{AreFresh, Holds}
@@ -41,11 +41,6 @@ all_there P xs i x all there =
     subst P (get_or_from_slice_get xs i x x there) (All-get_or P xs i x (slice_get_within xs i x there) all)
 
 -- ---- hosts before the first event
-
-no_bad : (code : CodeShape) (store : List (List ℤ)) (n : ℕ) (row : declared_hosts.HostShape) →
-    host_before code store 0 n row ≡ Some (host_at_start code store row.key (record { 0 = n }))
-no_bad code store n row =
-    ap (λ bit. if bit == 1 then None else Some (host_at_start code store row.key (record { 0 = n }))) (bit_at-zero n)
 
 -- a state before the first event is that of a host of the number
 pub record IsStart (code : CodeShape) (store : List (List ℤ)) (host : HostId) (state : HostShape) : Type 0 where
@@ -69,12 +64,6 @@ pub starts : (code : CodeShape) (store : List (List ℤ)) (rows : List declared_
     (state : HostShape) → state_at (world_at_start code rows 0 store) host ≡ Some state →
     IsStart code store host state
 starts code store rows host state is = start_from code store 0 rows host.0 host state (omega arith) is
-
-none_absent : (code : CodeShape) (store : List (List ℤ)) (n : ℕ) (rows : List declared_hosts.HostShape) (k : ℕ) →
-    is_absent (slice_get (hosts_before code store 0 n rows) k) ≡ false
-none_absent code store n [] k = refl
-none_absent code store n (row ∷ rows) zero = ap (λ o. is_absent (Some o)) (no_bad code store n row)
-none_absent code store n (row ∷ rows) (suc k) = none_absent code store (n + 1) rows k
 
 there_within : (code : CodeShape) (store : List (List ℤ)) (n : ℕ) (rows : List declared_hosts.HostShape) (k : ℕ) →
     k < length rows → (state : HostShape) × (given (slice_get (hosts_before code store 0 n rows) k) ≡ Some state)
@@ -269,7 +258,7 @@ started split store rows none hosts (Some entry) is on_root =
         orderly = record {
           unaffected = none;
           count = long_start code store 0 rows ∙ many;
-          none_bad = λ host. none_absent code store 0 rows host.0;
+          none_bad = obey_at_start code rows store;
           numbers = λ host s at. (fresh_at host s at).me;
           ignored = λ host s at. (fresh_at host s at).ignored;
         };

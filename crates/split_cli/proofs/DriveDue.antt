@@ -3,14 +3,14 @@ use Rattle.std.proofs.Common.{◌≡◌, ℕ, List, sym, ap, ◌∙◌, subst}
 use Rattle.std.specs.Prelude.{ℤ}
 use Rattle.host_decl.specs.Hosts.{HostsShape}
 use Rattle.host_code.specs.Code.{CodeShape}
-use Rattle.net_world.specs.World.{WorldShape, AreHostsOf, world_at_start}
+use Rattle.net_world.specs.World.{WorldShape, AllObey, AreHostsOf, world_at_start}
 use Rattle.split_cli.specs.declared.driving.Driven.{Driven}
 use Rattle.split_cli.specs.Drive.{first_world, TellsDrive}
 use Rattle.front_end.specs.PlacedCode.{code_of}
-use Rattle.split_cli.specs.Driven.{AllObey, HasDriven}
+use Rattle.split_cli.specs.Driven.{HasDriven}
 use Rattle.front_end.specs.PlacedSources.{PlacedSource}
 use Rattle.front_end.specs.Verdicts.{Print}
-use Rattle.split_cli.proofs.NextEvents.{obey_at_start}
+use Rattle.net_world.proofs.Obeying.{obey_at_start}
 
 -- the hosts of the code are those of the file
 pub code_hosts : (placed : PlacedSource) (code : CodeShape) → code ≡ code_of placed →

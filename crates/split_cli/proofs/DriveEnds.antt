@@ -17,10 +17,11 @@ use Rattle.net_world.specs.Choice.{Runs, NoneRuns, IsFirstRunning, Flies, Nothin
 use Rattle.net_world.specs.Choice.{IsFirstFlying, IsNextEvent}
 use Rattle.net_world.specs.Fits.{FlightFits, HasOwnToken, ShapeFits}
 use Rattle.net_world.specs.Flying.{Flight}
-use Rattle.net_world.specs.World.{WorldShape, IsStep, Refusal, refusal_of, state_at, given}
-use Rattle.split_cli.specs.Driven.{AllObey, DrivesTo, rested, spent}
+use Rattle.net_world.specs.World.{WorldShape, AllObey, IsStep, Refusal, refusal_of, state_at, given}
+use Rattle.split_cli.specs.Driven.{DrivesTo, rested, spent}
 use Rattle.split_cli.proofs.FirstHosts.{first_or_none}
-use Rattle.split_cli.proofs.NextEvents.{KeepsObeying, obey_after, shape_goes, next_own}
+use Rattle.net_world.proofs.NextGoes.{shape_goes, next_own}
+use Rattle.split_cli.proofs.NextEvents.{KeepsObeying, obey_after}
 
 -- ---- what runs
 

@@ -29,10 +29,10 @@ use Rattle.front_end.specs.Stages.{given}
 use Rattle.event_text.specs.Start.{program_form}
 use Rattle.front_end.specs.Starting.{StartingValues}
 use Rattle.front_end.specs.Verdicts.{Print}
+use Rattle.net_world.proofs.Obeying.{obey_at_start}
 use Rattle.split_cli.proofs.DriveDue.{code_hosts}
 use Rattle.front_end.proofs.NativeParts.{IsSeen}
 use Rattle.front_end.proofs.NativeSources.{NativeLaws, is_read}
-use Rattle.split_cli.proofs.NextEvents.{obey_at_start}
 use Rattle.front_end.proofs.ReadLaws.{splittable}
 use Rattle.front_end.proofs.ReadSources.{read_source, source_given, chosen}
 use Rattle.split_cli.proofs.DriveEnds.{StepCauses, drive_ends}

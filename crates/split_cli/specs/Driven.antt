@@ -1,12 +1,11 @@
 -- How a world ends in which nobody chooses: the event that comes next happens, again and again.
-use Rattle.std.specs.Prelude.{◌≡◌, ℕ, ◌≤◌, false, List, length, Some, None}
-use Rattle.js_base.specs.declared.ids.HostId.{HostId}
+use Rattle.std.specs.Prelude.{◌≡◌, ℕ, ◌≤◌, List, length, Some, None}
 use Rattle.js_base.specs.declared.status.Status.{Status}
 use Rattle.js_base.specs.declared.status.Status.TheVariants.{Done, Spent}
 use Rattle.event_text.specs.declared.event.Event.{Event}
 use Rattle.host_code.specs.Code.{CodeShape}
 use Rattle.net_world.specs.Choice.{IsNextEvent}
-use Rattle.net_world.specs.World.{WorldShape, misbehaves}
+use Rattle.net_world.specs.World.{WorldShape}
 use Rattle.simulation.specs.Driven.{IsDriven}
 use Rattle.split_cli.specs.declared.driving.Driven.{Driven}
 
@@ -20,10 +19,6 @@ pub data DrivesTo (code : CodeShape) (world : WorldShape) (most : ℕ) (events :
       DrivesTo code world most events after Spent
 
 -- ---- in the program
-
--- no host misbehaves
-abbrev pub AllObey : WorldShape → Type 0
-AllObey world = (host : HostId) → misbehaves world host ≡ false
 
 -- the status of a drive that leaves this world: nothing happens any more, or something would come next
 pub data LeavesWith (world : WorldShape) : Status → Type 0 where

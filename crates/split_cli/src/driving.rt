@@ -3,14 +3,15 @@
 ghost use Rattle.std.specs.Prelude.{◌≡◌, ◌≤◌, IfOk};
 ghost use Rattle.net_world.specs.Fits.{WorldFits, world_of};
 ghost use Rattle.net_world.specs.Steps.{HaveMade};
+ghost use Rattle.net_world.specs.World.{AllObey};
 ghost use Rattle.front_end.specs.declared.step_counts.TheConstants.{STEPS};
-ghost use Rattle.split_cli.specs.Driven.{AllObey, HasDriven, LeavesWith};
+ghost use Rattle.split_cli.specs.Driven.{HasDriven, LeavesWith};
 
 use front_end::STEPS;
 use host_code::Code;
 use js_base::{OutOfMemory, Status};
+use net_world::World;
 use net_world::laws::step_laws;
-use net_world::{EventError, World};
 
 /// How a drive ended.
 #[derive(Clone, Copy)]
@@ -38,21 +39,11 @@ pub fn drive(code: &Code, world: &mut World, most: u64) -> Result<Driven, OutOfM
         };
         match world.apply(code, &event) {
             Ok(()) => {}
-            Err(error) => return Err(only_memory(error)),
+            Err(error) => return Err(error.only_memory()),
         }
     }
     let status = end_status(world);
     Ok(Driven { made: most, status })
-}
-
-/// What comes next is never refused, and a host answers far more calls than a drive makes. So memory ran out.
-fn only_memory(error: EventError) -> OutOfMemory
-    requires { error ≡ EventError.OutOfMemory }
-{
-    match error {
-        EventError::OutOfMemory => OutOfMemory,
-        _ => unreachable!(),
-    }
 }
 
 /// The status of a drive that left this world.

@@ -1,6 +1,6 @@
 use Rattle.front_end.proofs.OneFault.{one_fault_place}
 use Rattle.front_end.proofs.OnePlaced.{PlaceLaws, places_once}
-use Rattle.front_end.proofs.OneSource.{SourceLaws, hosts_once, sources_once}
+use Rattle.front_end.proofs.OneSource.{SourceLaws, drafted_once, hosts_once, sources_once}
 use Rattle.front_end.proofs.SomePlaced.{PlaceCauses, places_some}
 use Rattle.front_end.proofs.SomeSource.{SourceCauses, sources_some}
 use Rattle.front_end.proofs.laws.source_laws.Goals as goal
@@ -69,6 +69,9 @@ returns-clause-some_source c = sources_some (source_causes c)
 
 pub returns-clause-some_plan : goal.returns-clause-some_plan
 returns-clause-some_plan c = places_some (source_causes c) (place_causes c)
+
+pub returns-clause-one_draft : goal.returns-clause-one_draft
+returns-clause-one_draft c = drafted_once (source_laws c)
 
 pub returns-clause-one_hosts : goal.returns-clause-one_hosts
 returns-clause-one_hosts c = hosts_once (source_laws c).hosts

@@ -2,7 +2,8 @@ use Rattle.std.proofs.Common.{rules, ◌≡◌, ◌+◌, ℕ, [], None, arith, r
 use Rattle.net_world.specs.Fits.{world_of}
 use Rattle.net_world.specs.Steps.{HaveMade}
 use Rattle.net_world.specs.World.{IsStep}
-use Rattle.split_cli.proofs.NextEvents.{HasGone, next_goes, not_stuck, only_memory, gone_on, rest_at, ended_at}
+use Rattle.net_world.proofs.NextGoes.{next_goes, not_stuck, only_memory}
+use Rattle.split_cli.proofs.NextEvents.{HasGone, gone_on, rest_at, ended_at}
 use Rattle.split_cli.proofs.driving.drive.Goals as goal
 
 pub loop-made-init : goal.loop-made-init

@@ -1,0 +1,28 @@
+use Rattle.std.proofs.Common.{codes, refl, arith}
+use Rattle.front_end.specs.Verdicts.{no_such_file}
+use Rattle.jifmerge.specs.Due.{absent, few_words}
+use Rattle.jifmerge.proofs.OneVerdict.{MergeLaws, answer_once, due_once}
+use Rattle.jifmerge.proofs.laws.merged_laws.Goals as goal
+
+laws : (c : goal.After-merge_laws) → MergeLaws
+laws c = record {
+  one_merge = c.merge_laws.ensures.one_merge;
+  one_cause = c.merge_laws.ensures.one_cause;
+  merged_or_refused = c.merge_laws.ensures.merged_or_refused;
+  one_draft = c.source_laws.ensures.one_draft;
+  one_hosts = c.source_laws.ensures.one_hosts;
+  one_plan = c.source_laws.ensures.one_plan;
+}
+
+pub returns-clause-one_verdict : goal.returns-clause-one_verdict
+returns-clause-one_verdict c = due_once (laws c)
+
+pub returns-clause-one_answer : goal.returns-clause-one_answer
+returns-clause-one_answer c = answer_once (laws c)
+
+pub returns-clause-worked_no_words : goal.returns-clause-worked_no_words
+returns-clause-worked_no_words c = λ held. few_words (omega arith)
+
+pub returns-clause-worked_absent : goal.returns-clause-worked_absent
+returns-clause-worked_absent c =
+    absent 0 (codes "P") (omega arith) (record { here = refl; absent = refl; before = tt })
