@@ -1,6 +1,7 @@
 pub mod Choice
 pub mod Fits
 pub mod Flying
+pub mod Released
 pub mod Replay
 pub mod Secret
 pub mod Steps

@@ -9,6 +9,7 @@ mod matching;
 mod moves;
 mod readers;
 mod refusals;
+mod releases;
 mod replaying;
 mod secrets;
 mod steps;
