@@ -6,7 +6,8 @@ use Rattle.js_base.specs.declared.ids.HostId.{HostId}
 use Rattle.event_text.specs.declared.event.Event.{Event}
 use Rattle.event_text.specs.declared.event.Event.TheVariants.{Turn}
 use Rattle.host_code.specs.Code.{CodeShape}
-use Rattle.host_core.specs.Host.{HostShape, ThreadShape, value_in_thread}
+use Rattle.host_code.specs.Thread.{ThreadShape}
+use Rattle.host_core.specs.Host.{HostShape, value_in_thread}
 use Rattle.split_rules.specs.Releases.{ReleasesShape, operands_at}
 use Rattle.net_world.specs.Secret.{IsSecret}
 use Rattle.net_world.specs.World.{WorldShape, state_at, IsStep}
