@@ -1,7 +1,7 @@
 -- The lines of journals, without what ends them.
 --
--- A journal has a line for each step of a host, behind it that of what the step sent, and one for what the host was told
--- or dropped besides.
+-- A journal has a line for each step of a host, behind it that of what the step sent, and one for what the host was
+-- told or dropped besides.
 use Rattle.std.specs.Prelude.{◌≡◌, List, [], ◌∷◌, ◌++◌, Option, Some, None, ℕ, codes}
 use Rattle.js_base.specs.declared.ids.HostId.{HostId}
 use Rattle.host_code.specs.declared.message.Message.{Message}

@@ -12,6 +12,7 @@ pub mod Obeying
 pub mod OwnTokens
 pub mod Present
 pub mod Queues
+pub mod ReleasedValues
 pub mod ReplayedEvents
 pub mod Rows
 pub mod Same
