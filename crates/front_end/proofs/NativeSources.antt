@@ -9,7 +9,7 @@ use Rattle.jif_grammar.specs.DraftShapes.{DraftShape}
 use Rattle.jif_grammar.specs.Programs as grammar
 use Rattle.jif_tree.specs.Limits.{IsWithinLimits}
 use Rattle.jif_tree.specs.Named.{AreNamed}
-use Rattle.jif_tree.specs.Numbering.{CountsFrom, site_numbers}
+use Rattle.jif_tree.specs.Numbering.{CountsFrom, site_numbers, statement_numbers}
 use Rattle.jif_tree.specs.Trees.{ProgramTree, program_tree}
 use Rattle.jif_tree.specs.WellNumbered.{IsWellNumbered}
 use Rattle.jif_resolve.specs.Sizes.{KeepsLimits}
@@ -34,16 +34,18 @@ pub record NativeLaws : Type 0 where
   pub numbered : (principals : Declared) (draft : DraftShape) (tree : ProgramTree) →
       IsProgramOf principals draft tree → IsWellNumbered tree
 
--- what is known of a source, with the numbers of its call sites
-pub is_read : NativeLaws → (program hosts : List ℕ) (source : Source) → CountsFrom 1 (site_numbers source.tree) →
+-- what is known of a source, with the numbers of its statements and call sites
+pub is_read : NativeLaws → (program hosts : List ℕ) (source : Source) →
+    CountsFrom 0 (statement_numbers source.tree) → CountsFrom 1 (site_numbers source.tree) →
     Sources program hosts (given source) → IsReadProgram source.tree
-is_read laws program hosts source sites accepted =
+is_read laws program hosts source statements sites accepted =
     let read = read_source program hosts source accepted in
     let principals = source.file.principals in
     let small = laws.small program read.list read.few read.read in
     let keeps = laws.kept read.list read.draft read.parsed in
     record {
       numbered = laws.numbered principals read.draft source.tree read.resolved;
+      statements = statements;
       sites = sites;
       named = laws.named read.list principals read.draft source.tree small read.parsed read.resolved;
       within = laws.within principals read.draft source.tree keeps read.resolved;

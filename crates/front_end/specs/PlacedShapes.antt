@@ -1,5 +1,7 @@
 -- A program with its places, as contracts see it, and what holds of it always.
 use Rattle.std.specs.Prelude.{◌≡◌, length}
+use Rattle.jif_tree.specs.Numbering.{CountsFrom, statement_numbers}
+use Rattle.jif_tree.specs.Trees.{program_tree}
 use Rattle.need_labels.specs.Needs.{NeedsShape}
 use Rattle.need_labels.specs.Plan.{PlanShape}
 use Rattle.place_rules.specs.Allowed.{AllowedShape}
@@ -23,7 +25,8 @@ placed_shape placed = record {
   plan = placed.plan;
 }
 
--- its plan has a host for each field, and its code can be made
+-- its plan has a host for each field, its statements are numbered in the order of the text, and its code can be made
 pub record IsWellPlaced (placed : PlacedModel) : Type 0 where
   pub each : length placed.plan.fields ≡ length placed.source.checked.program.fields.items
+  pub statements : CountsFrom 0 (statement_numbers (program_tree placed.source.checked.program))
   pub splittable : IsSplittable (program_of (placed_shape placed))

@@ -8,7 +8,7 @@ use Rattle.jif_grammar.specs.DraftShapes.{DraftShape}
 use Rattle.jif_grammar.specs.Programs as grammar
 use Rattle.jif_tree.specs.Limits.{IsWithinLimits}
 use Rattle.jif_tree.specs.Named.{AreNamed}
-use Rattle.jif_tree.specs.Numbering.{CountsFrom, site_numbers}
+use Rattle.jif_tree.specs.Numbering.{CountsFrom, site_numbers, statement_numbers}
 use Rattle.jif_tree.specs.Trees.{ProgramTree}
 use Rattle.jif_tree.specs.WellNumbered.{IsWellNumbered}
 
@@ -25,6 +25,7 @@ pub record IsReadDraft (draft : DraftShape) : Type 0 where
 -- its statements and sites are numbered, all has names, and it is within the limits
 pub record IsReadProgram (program : ProgramTree) : Type 0 where
   pub numbered : IsWellNumbered program
+  pub statements : CountsFrom 0 (statement_numbers program)
   pub sites : CountsFrom 1 (site_numbers program)
   pub named : AreNamed program
   pub within : IsWithinLimits program

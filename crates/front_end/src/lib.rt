@@ -19,7 +19,7 @@ pub use answers::answer;
 pub use laws::source_laws;
 pub use load::{Asked, Loaded, as_loaded, load_all};
 pub use placed::{PlacedSource, on_hosts, read_places};
-pub use placed_code::code_of;
+pub use placed_code::{code_of, releases_of};
 pub use refusal::{LineCause, Refusal};
 pub use sources::{
     Source, accepted, drafted, hosts_read, labelled, lexed, parsed, read_sources, resolved,

@@ -1,5 +1,5 @@
-//! Merges the journals of all hosts of a program that computes over the secrets of several parties into one script, which
-//! says what happened.
+//! Merges the journals of all hosts of a program that computes over the secrets of several parties into one script,
+//! which says what happened.
 #![tactic(auto)]
 
 mod due;

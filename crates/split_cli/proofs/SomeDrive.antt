@@ -10,7 +10,7 @@ use Rattle.host_decl.specs.Hosts.{HostsShape, AreHosts}
 use Rattle.host_decl.specs.Reading.{ReadsHosts}
 use Rattle.jif_grammar.specs.DraftShapes.{DraftShape}
 use Rattle.jif_resolve.specs.Verdicts.{IsProgramOf}
-use Rattle.jif_tree.specs.Numbering.{CountsFrom, site_numbers}
+use Rattle.jif_tree.specs.Numbering.{CountsFrom, site_numbers, statement_numbers}
 use Rattle.jif_tree.specs.Trees.{ProgramTree, program_tree}
 use Rattle.need_labels.specs.Labelled as needs
 use Rattle.need_labels.specs.Needs.{NeedsShape}
@@ -42,6 +42,8 @@ use Rattle.front_end.proofs.SomeStages.{HasVerdict, some_due}
 -- what is known of the code of split programs, and of the world before the first event
 pub record CodeLaws : Type 0 where
   pub native : NativeLaws
+  pub statements : (principals : Declared) (draft : DraftShape) (tree : ProgramTree) →
+      IsProgramOf principals draft tree → CountsFrom 0 (statement_numbers tree)
   pub sites : (principals : Declared) (draft : DraftShape) (tree : ProgramTree) →
       IsProgramOf principals draft tree → CountsFrom 1 (site_numbers tree)
   pub hosts : (bytes : List ℕ) (file : HostsShape) → ReadsHosts bytes file → AreHosts file
@@ -61,8 +63,9 @@ splits laws program hosts placed accepted =
     let read = read_source program hosts source given_source in
     let choice = chosen program hosts placed accepted in
     splittable source placed.needs placed.plan
-    (is_read laws.native program hosts source (laws.sites source.file.principals read.draft source.tree read.resolved)
-    given_source)
+    (is_read laws.native program hosts source
+    (laws.statements source.file.principals read.draft source.tree read.resolved)
+    (laws.sites source.file.principals read.draft source.tree read.resolved) given_source)
     (laws.hosts hosts source.file read.file) (laws.short_names hosts source.file read.file)
     (laws.places (labelled_source source) placed.needs source.file placed.allowed placed.plan choice.plan)
 

@@ -1,7 +1,8 @@
 -- What is due for an accepted program in its places and two scripts: whether misbehaving hosts are sent the same in
--- both runs, as far as both go. The runs may be compared where the same hosts misbehave, where all starts alike that
--- these hosts may see, where the same events happen before their eyes, and where each such event finds the world quiet.
-use Rattle.std.specs.Prelude.{◌≡◌, ◌≢◌, ◌⊎◌, ⊤, ℕ, ◌<◌, ℤ, List, ◌++◌, codes, length, take, Some}
+-- both runs, as far as both go, and which values each run released. The runs may be compared where the same hosts
+-- misbehave, where all starts alike that these hosts may see, where the same events happen before their eyes, and where
+-- each such event finds the world quiet.
+use Rattle.std.specs.Prelude.{◌≡◌, ◌≢◌, ⊤, ℕ, ◌<◌, ℤ, List, ◌++◌, codes, length, take, Some}
 use Rattle.std.specs.Prelude.{None, IsSome, IsSomeAnd, slice_get}
 use Rattle.std.specs.Fmt.{decimal}
 use Rattle.js_base.specs.declared.status.Status.TheVariants.{Done, Differ}
@@ -10,13 +11,16 @@ use Rattle.jif_tree.specs.Trees.{program_tree}
 use Rattle.event_text.specs.declared.event.Event.{Event}
 use Rattle.event_text.specs.Script.{ScriptShape}
 use Rattle.host_code.specs.Code.{CodeShape, CodeFieldShape}
+use Rattle.net_world.specs.Released.{AreAlike}
 use Rattle.net_world.specs.Secret.{IsReadable}
 use Rattle.net_world.specs.Told.{SentMessage}
 use Rattle.net_world.specs.World.{WorldShape, state_at}
 use Rattle.split_cli.specs.Drive.{first_world}
-use Rattle.front_end.specs.PlacedCode.{code_of}
-use Rattle.split_cli.specs.Followed.{Followed, EventsFollowed}
+use Rattle.front_end.specs.PlacedCode.{code_of, program_of}
+use Rattle.split_cli.specs.Followed.{Followed, FollowedRun, EventsFollowed}
 use Rattle.front_end.specs.PlacedSources.{PlacedSource}
+use Rattle.split_rules.specs.Releases.{releases_of}
+use Rattle.split_cli.specs.ReleaseLines.{release_lines}
 use Rattle.split_cli.specs.Releases.{first_release}
 use Rattle.net_world.specs.Replay.{events_in}
 use Rattle.split_cli.specs.Replay.{ScriptRead}
@@ -25,14 +29,6 @@ use Rattle.front_end.specs.Text.{line_text}
 use Rattle.front_end.specs.Verdicts.{VerdictShape, Print, bad_differ, starts_differ, events_differ, not_prompt}
 
 -- ---- lists
-
--- the second list begins with the first
-abbrev pub IsFront : {X : Type 0} → List X → List X → Type 0
-IsFront {X} front whole = (rest : List X) × (whole ≡ front ++ rest)
-
--- the lists are equal as far as both go
-abbrev pub AreAlike : {X : Type 0} → List X → List X → Type 0
-AreAlike one other = IsFront one other ⊎ IsFront other one
 
 -- this is the first place, of those that both lists have, at which they differ
 pub record DifferAt {X : Type 0} (one other : List X) (place : ℕ) : Type 0 where
@@ -119,29 +115,38 @@ abbrev pub differ_text : (place statement : ℕ) → List ℕ
 differ_text place statement =
     line_text (codes "differ " ++ decimal place ++ codes " statement " ++ decimal statement)
 
--- two runs were compared
-pub data Compared (placed : PlacedSource) (one other : List SentMessage) : VerdictShape → Type 0 where
-  agree : AreAlike one other → Compared placed one other (Print Done (agree_text one other))
-  differ : (place : ℕ) → DifferAt one other place →
-      Compared placed one other (Print Differ (differ_text place (first_release placed.source.tree)))
+-- Two runs were compared, by what misbehaving hosts were sent in each. Behind the answer stand the values that the
+-- runs released.
+pub data Compared (placed : PlacedSource) (one other : List SentMessage) (released released_too : List ℤ) :
+    VerdictShape → Type 0 where
+  agree : AreAlike one other → Compared placed one other released released_too
+      (Print Done (agree_text one other ++ release_lines released released_too))
+  differ : (place : ℕ) → DifferAt one other place → Compared placed one other released released_too
+      (Print Differ (differ_text place (first_release placed.source.tree) ++ release_lines released released_too))
 
 -- the premises of two scripts that were followed, in order, and then the messages
-abbrev pub DueForRuns : PlacedSource → (file : List ℕ) (said : ScriptShape) (run : Followed) →
-    (other : List ℕ) (said_too : ScriptShape) (run_too : Followed) → VerdictShape → Type 0
-DueForRuns placed file said run other said_too run_too =
+abbrev pub DueForRuns : PlacedSource → (file : List ℕ) (said : ScriptShape) (one : FollowedRun) →
+    (other : List ℕ) (said_too : ScriptShape) (two : FollowedRun) → VerdictShape → Type 0
+DueForRuns placed file said one other said_too two =
     DueThen (SameMisbehave said said_too) (λ _.
     DueThen (SameStarts placed said said_too) (λ _.
-    DueThen (SameEvents file run run_too) (λ _.
-    DueThen (IsPromptRun file run) (λ _.
-    DueThen (IsPromptRun other run_too) (λ _. Compared placed run.last.sent run_too.last.sent)))))
+    DueThen (SameEvents file one.run two.run) (λ _.
+    DueThen (IsPromptRun file one.run) (λ _.
+    DueThen (IsPromptRun other two.run) (λ _.
+    Compared placed one.run.last.sent two.run.last.sent one.released two.released)))))
+
+-- the events of a script of this name are followed on the hosts of a program
+abbrev pub ScriptFollowed : PlacedSource → (file : List ℕ) → ScriptShape → Outcome FollowedRun → Type 0
+ScriptFollowed placed file said =
+    EventsFollowed file (code_of placed) (releases_of (program_of placed)) (first_world placed said.bad said.start)
+    said.events
 
 -- two scripts that were read are followed, one after the other
 abbrev pub DueForSaid : PlacedSource → (file : List ℕ) (said : ScriptShape) (other : List ℕ) (said_too : ScriptShape) →
     VerdictShape → Type 0
 DueForSaid placed file said other said_too =
-    DueThen (EventsFollowed file (code_of placed) (first_world placed said.bad said.start) said.events) (λ run.
-    DueThen (EventsFollowed other (code_of placed) (first_world placed said_too.bad said_too.start) said_too.events)
-    (λ run_too. DueForRuns placed file said run other said_too run_too))
+    DueThen (ScriptFollowed placed file said) (λ one.
+    DueThen (ScriptFollowed placed other said_too) (λ two. DueForRuns placed file said one other said_too two))
 
 -- two files of these names hold these scripts, which are read one after the other
 abbrev pub DueForScripts : (file script other script_too : List ℕ) → PlacedSource → VerdictShape → Type 0

@@ -1,10 +1,12 @@
 -- A run of a script, with what is kept of it to compare it with another.
-use Rattle.std.specs.Prelude.{◌≡◌, ℕ, List, [], ◌∷◌, Option, Some, None}
+use Rattle.std.specs.Prelude.{◌≡◌, ℕ, ℤ, List, [], ◌∷◌, Option, Some, None}
 use Rattle.event_text.specs.declared.event.Event.{Event}
 use Rattle.host_code.specs.Code.{CodeShape}
+use Rattle.net_world.specs.Released.{AreReleased}
 use Rattle.net_world.specs.Secret.{IsSecret, IsQuiet}
 use Rattle.net_world.specs.World.{WorldShape, IsStep, Refusal}
-use Rattle.net_world.specs.Replay.{IsRefusedAt}
+use Rattle.net_world.specs.Replay.{IsRefusedAt, events_in}
+use Rattle.split_rules.specs.Releases.{ReleasesShape}
 use Rattle.split_cli.specs.Replay.{event_refused}
 use Rattle.front_end.specs.Stages.{Outcome, given, stopped}
 
@@ -30,9 +32,16 @@ IsFollowed code world (one ∷ said) run =
     (next : WorldShape) × (rest : Followed) × IsStep code world one.1 next × IsFollowed code next said rest
     × IsKept code world one rest run
 
--- the events of a script of this name all happen, or the first that is refused stops the command
-pub data EventsFollowed (file : List ℕ) (code : CodeShape) (world : WorldShape) (said : List (ℕ × Event)) :
-    Outcome Followed → Type 0 where
-  followed : (run : Followed) → IsFollowed code world said run → EventsFollowed file code world said (given run)
+-- what is kept of a run, and the values that its events released
+pub record FollowedRun : Type 0 where
+  pub run : Followed
+  pub released : List ℤ
+
+-- The events of a script of this name all happen, or the first that is refused stops the command. The table tells what
+-- the instructions of the code release.
+pub data EventsFollowed (file : List ℕ) (code : CodeShape) (table : ReleasesShape) (world : WorldShape)
+    (said : List (ℕ × Event)) : Outcome FollowedRun → Type 0 where
+  followed : (it : FollowedRun) → IsFollowed code world said it.run →
+      AreReleased code table world (events_in said) it.released → EventsFollowed file code table world said (given it)
   refused : (at : ℕ × Event) (why : Refusal) → IsRefusedAt code world said at why →
-      EventsFollowed file code world said (stopped (event_refused file at why))
+      EventsFollowed file code table world said (stopped (event_refused file at why))

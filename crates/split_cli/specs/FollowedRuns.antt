@@ -7,14 +7,15 @@ use Rattle.net_world.specs.Secret.{IsSecret, IsQuiet}
 use Rattle.net_world.specs.World.{WorldShape}
 use Rattle.split_cli.specs.declared.following.Followed as following
 use Rattle.split_cli.specs.declared.following.Seen as seeing
-use Rattle.split_cli.specs.Followed.{Followed}
+use Rattle.split_cli.specs.Followed.{Followed, FollowedRun}
 
 -- what is kept of events, and the world that they left
 abbrev pub run_with : seeing.Seen → WorldShape → Followed
 run_with seen world = record { seen = map (λ one. one.now) seen.events.items; late = seen.late; last = world }
 
-abbrev pub run_of : following.Followed → Followed
-run_of run = run_with run.seen (world_of run.world)
+-- and the values that they released
+abbrev pub run_of : following.Followed → FollowedRun
+run_of it = record { run = run_with it.seen (world_of it.world); released = it.seen.released.items }
 
 -- the line that was late first
 abbrev pub first_late : Option ℕ → ℕ → Option ℕ

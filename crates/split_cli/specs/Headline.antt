@@ -8,7 +8,7 @@
 use Rattle.std.specs.Prelude.{◌≡◌, ℕ, ◌+◌, ◌*◌, ◌≤◌, ℤ, List, length, map, Option, Some, Ok}
 use Rattle.js_base.specs.declared.limits.TheConstants.{SCRIPT_BYTES}
 use Rattle.js_base.specs.declared.status.Status.{Status}
-use Rattle.js_base.specs.declared.status.Status.TheVariants.{Done}
+use Rattle.js_base.specs.declared.status.Status.TheVariants.{Done, Differ}
 use Rattle.js_base.specs.Sink.{Takes}
 use Rattle.jif_tree.specs.declared.program.Program.{Program}
 use Rattle.jif_tree.specs.Altered.{Exposure}
@@ -21,6 +21,7 @@ use Rattle.event_text.specs.Misbehaving.{past_bad}
 use Rattle.event_text.specs.Script.{ScriptShape, script_of}
 use Rattle.event_text.specs.Settings.{form_of, settings_in_front, after_settings}
 use Rattle.event_text.specs.Start.{start_of, program_form}
+use Rattle.net_world.specs.Released.{AreAlike, AreReleased}
 use Rattle.net_world.specs.Replay.{events_in}
 use Rattle.net_world.specs.Secret.{IsSeenRun, IsPrompt}
 use Rattle.net_world.specs.Together.{Together}
@@ -28,6 +29,7 @@ use Rattle.net_world.specs.World.{WorldShape, IsRun, has_halted}
 use Rattle.simulation.specs.Ending.{EVENTS}
 use Rattle.simulation.specs.Obeying.{StandsPlainly, GoesOnPlainly}
 use Rattle.source_law.specs.Unendorsed.{EndorsesNothing}
+use Rattle.split_rules.specs.Releases.{releases_of}
 use Rattle.split_shades.specs.Sites.{ReleasesNothing}
 use Rattle.integrity.specs.Altering.{StandsFor, GoesOnAltered}
 use Rattle.integrity.specs.Exposed.{exposure_of}
@@ -36,7 +38,7 @@ use Rattle.front_end.specs.PlacedCode.{code_of, program_of}
 use Rattle.front_end.specs.PlacedSources.{PlacedSource, PlacedSources}
 use Rattle.front_end.specs.Stages.{given}
 use Rattle.front_end.specs.Verdicts.{Print}
-use Rattle.split_cli.specs.Compare.{AreAlike, StartAlike, Compared}
+use Rattle.split_cli.specs.Compare.{StartAlike, Compared}
 use Rattle.split_cli.specs.Drive.{first_world, drive_text}
 use Rattle.split_cli.specs.Driven.{DrivesTo}
 use Rattle.split_cli.specs.Replay.{replay_text}
@@ -135,9 +137,17 @@ pub record IsSeen (placed : PlacedSource) (tree : Program) (script : List ℕ) (
       it.last
   pub prompt : IsPrompt (code_of placed) (first_world placed it.said.bad it.said.start) (events_in it.said.events)
 
+-- of a script that was played turns that may be seen released these values, in order
+abbrev pub HasReleased : (placed : PlacedSource) (tree : Program) (script : List ℕ) → Played placed tree script →
+    List ℤ → Type 0
+HasReleased placed tree script it values =
+    AreReleased (code_of placed) (releases_of (program_of placed)) (first_world placed it.said.bad it.said.start)
+    (events_in it.said.events) values
+
 -- Two scripts were played and compared, to this status and this report: the same hosts misbehave, what they may read
--- starts alike, and they see the same as far as both runs go. Where the program releases nothing they are told the same
--- too, and it is never reported that they differ.
+-- starts alike, and they see the same as far as both runs go. As long as the values that one run releases go on as
+-- those of the other, they are told the same too: so it is reported that they differ only where these values do. Where
+-- the program releases nothing it is never reported.
 pub record IsPrivate (program hosts one other : List ℕ) (status : Status) (text : List ℕ) : Type 0 where
   pub placed : PlacedSource
   pub tree : Program
@@ -152,7 +162,13 @@ pub record IsPrivate (program hosts one other : List ℕ) (status : Status) (tex
   pub first_seen : IsSeen placed tree one first seen
   pub second_seen : IsSeen placed tree other second seen_too
   pub alike : AreAlike seen seen_too
-  pub reported : Compared placed first.last.sent second.last.sent (Print status text)
+  pub released : List ℤ
+  pub released_too : List ℤ
+  pub first_released : HasReleased placed tree one first released
+  pub second_released : HasReleased placed tree other second released_too
+  pub reported : Compared placed first.last.sent second.last.sent released released_too (Print status text)
+  pub released_alike : AreAlike released released_too → AreAlike first.last.sent second.last.sent
+  pub differs : status ≡ Differ → ¬ AreAlike released released_too
   pub told_alike : ReleasesNothing placed.source.tree → AreAlike first.last.sent second.last.sent
   pub never_differs : ReleasesNothing placed.source.tree → status ≡ Done
 

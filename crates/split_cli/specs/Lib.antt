@@ -14,6 +14,7 @@ pub mod Making
 pub mod MessageParts
 pub mod PlaceLines
 pub mod PlainRun
+pub mod ReleaseLines
 pub mod Releases
 pub mod ReleasingKinds
 pub mod Replay

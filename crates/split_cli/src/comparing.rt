@@ -1,14 +1,17 @@
 //! What two runs have in common, as far as misbehaving hosts may see them.
 
 ghost use Rattle.std.specs.Prelude.{◌≡◌, ◌≢◌, ◌↔◌, ℕ, ℤ, List, Some, IfOk, IsTrue, MatchOption, map, option_copied};
-ghost use Rattle.std.specs.Prelude.{slice_get};
+ghost use Rattle.std.specs.Prelude.{slice_get, ◌++◌};
 ghost use Rattle.js_base.specs.declared.status.Status.{Status};
 ghost use Rattle.host_code.specs.Code.{CodeShape};
 ghost use Rattle.net_world.specs.Fits.{WorldFits, world_of};
+ghost use Rattle.std.specs.String.{string_bytes};
 ghost use Rattle.net_world.specs.World.{WorldShape};
-ghost use Rattle.split_cli.specs.Compare.{AreAlike, Compared, DifferAt, GoApart, IsFirstUnlike, IsPromptRun};
+ghost use Rattle.net_world.specs.Released.{AreAlike};
+ghost use Rattle.split_cli.specs.Compare.{Compared, DifferAt, GoApart, IsFirstUnlike, IsPromptRun};
 ghost use Rattle.split_cli.specs.Compare.{SameBits, SameEvents, SameValues, StartAlike, StartsUnlike, agree_text};
 ghost use Rattle.split_cli.specs.Compare.{differ_text};
+ghost use Rattle.split_cli.specs.ReleaseLines.{release_lines};
 ghost use Rattle.split_cli.specs.FollowedRuns.{run_with};
 ghost use Rattle.front_end.specs.Loading.{EndsAs};
 ghost use Rattle.front_end.specs.PlacedShapes.{placed_shape};
@@ -17,6 +20,7 @@ ghost use Rattle.front_end.specs.Verdicts.{Print, verdict_shape};
 
 use crate::following::Seen;
 use crate::message_parts::{is_same_event, is_same_sent};
+use crate::release_lines::push_release_lines;
 use crate::releasing::first_release;
 use event_text::Event;
 use front_end::{LineCause, PlacedSource, Stop, Verdict, stopped};
@@ -144,48 +148,60 @@ pub fn is_prompt(alloc: Global, name: &str, seen: &Seen<'_>) -> Result<(), Stop>
     }
 }
 
-/// What is due for the messages that misbehaving hosts were sent in two runs of a program.
+/// What is due for the messages that misbehaving hosts were sent in two runs of a program, and for the values that the
+/// runs released.
 pub fn compared(
     alloc: Global,
     placed: &PlacedSource,
     one: &[(HostId, HostId, Message)],
     other: &[(HostId, HostId, Message)],
+    released: &[i64],
+    released_too: &[i64],
 ) -> Result<Verdict, OutOfMemory>
-    ensures { IfOk result (λ verdict.
-        Compared (placed_shape placed.now) one.now other.now (verdict_shape verdict)) }
+    ensures { IfOk result (λ verdict. Compared (placed_shape placed.now) one.now other.now released.now
+        released_too.now (verdict_shape verdict)) }
 {
     let Some(place) = first_difference(one, other) else {
-        return agreement(alloc, one, other);
+        let text = agreement(alloc, one, other)?;
+        return with_release_lines(Status::Done, text, released, released_too);
     };
     let source = &placed.source;
     let statement = first_release(alloc, &source.checked.program)?;
-    difference(alloc, place, statement)
+    let text = difference(alloc, place, statement)?;
+    with_release_lines(Status::Differ, text, released, released_too)
 }
 
-/// The report that the messages agree, as far as both lists go.
+/// The report that begins with a line, and says behind it what two runs released.
+fn with_release_lines(
+    status: Status,
+    line: String,
+    released: &[i64],
+    released_too: &[i64],
+) -> Result<Verdict, OutOfMemory>
+    ensures { IfOk result (λ verdict. verdict_shape verdict
+        ≡ Print status (string_bytes line ++ release_lines released.now released_too.now)) }
+{
+    let mut text = line;
+    push_release_lines(&mut text, released, released_too)?;
+    Ok(Verdict::Print { status, text })
+}
+
+/// The line that says that the messages agree, as far as both lists go.
 fn agreement(
     alloc: Global,
     one: &[(HostId, HostId, Message)],
     other: &[(HostId, HostId, Message)],
-) -> Result<Verdict, OutOfMemory>
-    ensures { IfOk result (λ verdict. verdict_shape verdict ≡ Print Status.Done (agree_text one.now other.now)) }
+) -> Result<String, OutOfMemory>
+    ensures { IfOk result (λ text. string_bytes text ≡ agree_text one.now other.now) }
 {
-    let text = format!(in alloc; "agree {} {}\n", one.len(), other.len())?;
-    Ok(Verdict::Print {
-        status: Status::Done,
-        text,
-    })
+    Ok(format!(in alloc; "agree {} {}\n", one.len(), other.len())?)
 }
 
-/// The report that they differ first at a place, of a program that releases something first in this statement.
-fn difference(alloc: Global, place: usize, statement: u32) -> Result<Verdict, OutOfMemory>
-    ensures { IfOk result (λ verdict. verdict_shape verdict ≡ Print Status.Differ (differ_text place statement)) }
+/// The line that says that they differ first at a place, of a program that releases something first in this statement.
+fn difference(alloc: Global, place: usize, statement: u32) -> Result<String, OutOfMemory>
+    ensures { IfOk result (λ text. string_bytes text ≡ differ_text place statement) }
 {
-    let text = format!(in alloc; "differ {place} statement {statement}\n")?;
-    Ok(Verdict::Print {
-        status: Status::Differ,
-        text,
-    })
+    Ok(format!(in alloc; "differ {place} statement {statement}\n")?)
 }
 
 /// The first place at which the messages differ, of those that both lists have.

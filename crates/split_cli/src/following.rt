@@ -1,13 +1,14 @@
 //! Runs that are followed to be compared.
 
-ghost use Rattle.std.specs.Prelude.{◌≡◌, ◌∷◌, ◌++◌, [], if◌then◌else◌, map, All, IfErr, IfOk, OnOk};
+ghost use Rattle.std.specs.Prelude.{◌≡◌, ◌∷◌, ◌++◌, [], if◌then◌else◌, map, All, IfErr, IfOk, List, OnOk, ℤ};
 ghost use Rattle.net_world.specs.Fits.{WorldFits, HasOwnToken, world_of};
 ghost use Rattle.net_world.specs.Steps.{HaveMade};
+ghost use Rattle.net_world.specs.Released.{AreReleased, Releases};
 ghost use Rattle.net_world.specs.World.{WorldShape};
 ghost use Rattle.split_cli.specs.Followed.{IsFollowed, EventsFollowed};
 ghost use Rattle.split_cli.specs.FollowedRuns.{IsAdded, first_late, run_of, run_with};
 ghost use Rattle.front_end.specs.Loading.{EndsAs};
-ghost use Rattle.net_world.specs.Replay.{IsReplayError};
+ghost use Rattle.net_world.specs.Replay.{IsReplayError, events_in};
 
 use crate::scripts::events_refused;
 use event_text::Event;
@@ -16,14 +17,16 @@ use host_code::Code;
 use js_base::OutOfMemory;
 use net_world::laws::fits_laws;
 use net_world::{ReplayError, World, refused};
+use split_rules::ReleaseTable;
 use std::alloc::Global;
 
-/// What is kept of the events of a run: those that misbehaving hosts may see, with their lines, and the line of the
-/// first of these at whose moment the world was not quiet.
+/// What is kept of the events of a run: those that misbehaving hosts may see, with their lines, the line of the first of
+/// these at whose moment the world was not quiet, and the values that they released.
 #[derive(Drop)]
 pub struct Seen<'a> {
     pub events: Vec<&'a (u32, Event)>,
     pub late: Option<u32>,
+    pub released: Vec<i64>,
 }
 
 /// A run of a script: what is kept of its events, and the world that they left.
@@ -34,6 +37,7 @@ pub struct Followed<'a> {
 }
 
 /// Makes the events of a script of this name happen in a world that has just started, and keeps what is to be compared.
+/// The table is that of the code.
 ///
 /// # Errors
 /// `Due` where an event is refused.
@@ -41,37 +45,45 @@ pub fn follow<'a>(
     alloc: Global,
     name: &str,
     code: &Code,
+    table: &ReleaseTable,
     from: World,
     events: &'a [(u32, Event)],
 ) -> Result<Followed<'a>, Stop>
     requires fits { WorldFits code.now from }
     requires fresh { HaveMade 0 from.hosts }
     requires own { All (λ one. HasOwnToken (world_of from) one.1) events.now }
-    ensures follow { EndsAs run_of (EventsFollowed name.now code.now (world_of from) events.now) result }
+    ensures follow { EndsAs run_of (EventsFollowed name.now code.now table.now (world_of from) events.now) result }
 {
     let mut world = from;
-    match seen_events(alloc, code, &mut world, events) {
+    match seen_events(alloc, code, table, &mut world, events) {
         Ok(seen) => Ok(Followed { seen, world }),
         Err(error) => Err(events_refused(alloc, name, error)),
     }
 }
 
 impl<'a> Seen<'a> {
-    /// Keeps an event with its line, where misbehaving hosts may see it.
+    /// Keeps an event with its line and what it releases, where misbehaving hosts may see it.
     fn keep(
         &mut self,
+        alloc: Global,
         code: &Code,
+        table: &ReleaseTable,
         world: &World,
         said: &'a (u32, Event),
     ) -> Result<(), OutOfMemory>
         requires { WorldFits code.now world.now }
-        ensures { OnOk result ((last : WorldShape) → IsAdded code.now (world_of world.now) said.now
+        ensures added { OnOk result ((last : WorldShape) → IsAdded code.now (world_of world.now) said.now
             (run_with self.old last) (run_with self.new last)) }
+        ensures released { OnOk result ((own : List ℤ)
+            × Releases code.now table.now (world_of world.now) said.now.1 own
+            × (self.new.released.items ≡ self.old.released.items ++ own)) }
     {
         if world.secret(code, &said.1) {
             return Ok(());
         }
         let quiet = world.quiet(code);
+        let own = world.releases(alloc, code, table, &said.1)?;
+        self.released.extend_from_slice(&own)?;
         self.push(quiet, said)
     }
 
@@ -81,6 +93,7 @@ impl<'a> Seen<'a> {
             ≡ map (λ one. one.now) self.old.events.items ++ said.now ∷ []) }
         ensures late { OnOk result (self.new.late
             ≡ (if quiet then self.old.late else first_late self.old.late said.now.0)) }
+        ensures released { OnOk result (self.new.released ≡ self.old.released) }
     {
         self.events.push(said)?;
         if !quiet {
@@ -94,6 +107,7 @@ impl<'a> Seen<'a> {
 fn seen_events<'a>(
     alloc: Global,
     code: &Code,
+    table: &ReleaseTable,
     world: &mut World,
     events: &'a [(u32, Event)],
 ) -> Result<Seen<'a>, ReplayError>
@@ -102,6 +116,8 @@ fn seen_events<'a>(
     requires own { All (λ one. HasOwnToken (world_of world.old) one.1) events.now }
     ensures followed { IfOk result (λ seen.
         IsFollowed code.now (world_of world.old) events.now (run_with seen (world_of world.new))) }
+    ensures released { IfOk result (λ seen.
+        AreReleased code.now table.now (world_of world.old) (events_in events.now) seen.released.items) }
     ensures refused { IfErr result (IsReplayError code.now (world_of world.old) events.now) }
     ensures fits { WorldFits code.now world.new }
 {
@@ -109,9 +125,10 @@ fn seen_events<'a>(
     let mut seen = Seen {
         events: Vec::new(alloc),
         late: None,
+        released: Vec::new(alloc),
     };
     for said in events {
-        seen.keep(code, world, said)?;
+        seen.keep(alloc, code, table, world, said)?;
         let (line, event) = said;
         if let Err(error) = world.apply(code, event) {
             return Err(refused(*line, event, error));

@@ -10,6 +10,7 @@ mod laws;
 mod making;
 mod message_parts;
 mod place_lines;
+mod release_lines;
 mod releasing;
 mod row_line;
 mod scripts;

@@ -18,7 +18,9 @@ use crate::comparing::{
 use crate::following::follow;
 use crate::scripts::{first_world, read_script};
 use event_text::Script;
-use front_end::{Loaded, PlacedSource, Stop, Verdict, code_of, load_all, read_places};
+use front_end::{
+    Loaded, PlacedSource, Stop, Verdict, code_of, load_all, read_places, releases_of,
+};
 use host_code::Code;
 use js_base::Files;
 use std::alloc::Global;
@@ -87,15 +89,23 @@ fn due_for_said(
     requires own_too { All (λ it. IsOwnEvent code.now.hosts other.now.bad it.1) other.now.events }
     ensures { EndsIn (DueForSaid (placed_shape placed.now) name.now one.now other_name.now other.now) result }
 {
+    let table = releases_of(alloc, placed, code)?;
     let world = first_world(alloc, placed, code, one)?;
     let unlike = unlike_field(code, &world, one.start(), other.start());
-    let run = follow(alloc, name, code, world, one.events())?;
+    let run = follow(alloc, name, code, &table, world, one.events())?;
     let other_world = first_world(alloc, placed, code, other)?;
-    let other_run = follow(alloc, other_name, code, other_world, other.events())?;
+    let other_run = follow(alloc, other_name, code, &table, other_world, other.events())?;
     same_misbehave(one.bad(), other.bad())?;
     same_starts(alloc, unlike)?;
     same_events(alloc, name, &run.seen, &other_run.seen)?;
     is_prompt(alloc, name, &run.seen)?;
     is_prompt(alloc, other_name, &other_run.seen)?;
-    Ok(compared(alloc, placed, run.world.sent(), other_run.world.sent())?)
+    Ok(compared(
+        alloc,
+        placed,
+        run.world.sent(),
+        other_run.world.sent(),
+        &run.seen.released,
+        &other_run.seen.released,
+    )?)
 }

@@ -15,6 +15,7 @@ invariant_of-result c =
     let has = c.placement_laws.ensures.hosts labelled needs source.hosts _ _ c.in-Ok.ensures.placed in
     rw (← c.source.view_is) (record {
       each = a_host_each source.hosts.principals source.checked needs source.hosts _ needs_are allowed;
+      statements = c.source.invariant.read.statements;
       splittable = splittable (record { file = source.hosts; tree = program_tree source.checked.program }) _ _
           c.source.invariant.read c.principals.ensures.sound c.source.invariant.short has;
     })

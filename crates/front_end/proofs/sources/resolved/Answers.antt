@@ -11,6 +11,7 @@ resolve-requires c = c.limit_laws.ensures.kept _ _ c.requires.parsed
 pub returns-in-Ok-clause-read : goal.returns-in-Ok-clause-read
 returns-in-Ok-clause-read c = record {
   numbered = c.program_laws.ensures.well_numbered _ _ _ c.in-Ok.ensures.found;
+  statements = c.program_laws.ensures.statements _ _ _ c.in-Ok.ensures.found;
   sites = c.program_laws.ensures.sites _ _ _ c.in-Ok.ensures.found;
   named = c.named_laws.ensures.of_tokens _ _ _ _ c.requires.tokens c.requires.parsed c.in-Ok.ensures.found;
   within = c.in-Ok.ensures.limits;

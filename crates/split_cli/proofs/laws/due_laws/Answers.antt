@@ -34,6 +34,7 @@ all_causes c = record {
   places = c.source_laws.ensures.some_plan;
   code = record {
     native = native_laws c;
+    statements = c.program_laws.ensures.statements;
     sites = c.program_laws.ensures.sites;
     hosts = c.host_file_laws.ensures.sound;
     short_names = c.host_file_laws.ensures.short_names;

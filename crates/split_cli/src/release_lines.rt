@@ -1,0 +1,47 @@
+//! The values that two runs released, as lines.
+
+ghost use Rattle.std.specs.Prelude.{◌≡◌, ◌++◌, OnOk, option_copied};
+ghost use Rattle.std.specs.String.{string_bytes};
+ghost use Rattle.split_cli.specs.ReleaseLines.{release_line, release_lines, value_or_dash};
+
+use js_base::OutOfMemory;
+use std::fmt::Write;
+
+/// Adds a line for each value of the run that released more.
+pub fn push_release_lines(text: &mut String, one: &[i64], other: &[i64]) -> Result<(), OutOfMemory>
+    ensures { OnOk result (string_bytes text.new ≡ string_bytes text.old ++ release_lines one.now other.now) }
+{
+    for number in 0..one.len().max(other.len()) {
+        push_line(text, number, one.get(number), other.get(number))?;
+    }
+    Ok(())
+}
+
+/// Adds the line of a number, with the value of each run that released so many.
+fn push_line(
+    text: &mut String,
+    number: usize,
+    one: Option<&i64>,
+    other: Option<&i64>,
+) -> Result<(), OutOfMemory>
+    ensures { OnOk result (string_bytes text.new ≡ string_bytes text.old
+        ++ release_line number (option_copied one.entry) (option_copied other.entry)) }
+{
+    write!(text, "release {number} ").map_err(|_| OutOfMemory)?;
+    push_value(text, one)?;
+    text.push(' ')?;
+    push_value(text, other)?;
+    text.push('\n')?;
+    Ok(())
+}
+
+/// Adds a value, or `-` where there is none.
+fn push_value(text: &mut String, value: Option<&i64>) -> Result<(), OutOfMemory>
+    ensures { OnOk result (string_bytes text.new
+        ≡ string_bytes text.old ++ value_or_dash (option_copied value.entry)) }
+{
+    match value {
+        Some(value) => write!(text, "{value}").map_err(|_| OutOfMemory),
+        None => Ok(text.push('-')?),
+    }
+}
