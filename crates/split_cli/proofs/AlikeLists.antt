@@ -13,7 +13,8 @@ use Rattle.std.proofs.lemmas.Option.{slice_get-map, slice_get-get_or}
 use Rattle.event_text.specs.declared.event.Event.{Event}
 use Rattle.host_code.specs.Code.{CodeShape}
 use Rattle.net_world.specs.World.{WorldShape}
-use Rattle.split_cli.specs.Compare.{AreAlike, DifferAt, GoApart, StartsUnlike}
+use Rattle.net_world.specs.Released.{AreAlike}
+use Rattle.split_cli.specs.Compare.{DifferAt, GoApart, StartsUnlike}
 use Rattle.net_world.specs.Replay.{events_in}
 
 -- ---- place by place

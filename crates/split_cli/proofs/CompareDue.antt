@@ -11,10 +11,11 @@ use Rattle.js_base.specs.declared.OutOfMemory.{OutOfMemory}
 use Rattle.net_world.specs.Told.{SentMessage}
 use Rattle.net_world.specs.World.{WorldShape}
 use Rattle.split_cli.specs.Compare.{Premise, fails, SameBits, SameMisbehave, SameValues, SameStarts, Compared}
-use Rattle.split_cli.specs.Compare.{DueForRuns, DueForSaid, DueForCompare}
+use Rattle.split_cli.specs.Compare.{ScriptFollowed, DueForRuns, DueForSaid, DueForCompare}
 use Rattle.split_cli.specs.Drive.{first_world}
-use Rattle.front_end.specs.PlacedCode.{code_of}
-use Rattle.split_cli.specs.Followed.{Followed, EventsFollowed}
+use Rattle.front_end.specs.PlacedCode.{code_of, program_of}
+use Rattle.split_rules.specs.Releases.{ReleasesShape, releases_of}
+use Rattle.split_cli.specs.Followed.{FollowedRun, EventsFollowed}
 use Rattle.front_end.specs.Loading.{StopsWith}
 use Rattle.front_end.specs.PlacedSources.{PlacedSource}
 use Rattle.split_cli.specs.Replay.{ScriptRead}
@@ -27,13 +28,15 @@ use Rattle.front_end.proofs.Stages.{stopped_with}
 
 -- what was followed in a world that is the first, by a code that is that of the program
 pub followed_as : (file : List ℕ) (placed : PlacedSource) (code : CodeShape) (said : ScriptShape) (first : WorldShape)
-    (events : List (ℕ × Event)) (end : Outcome Followed) → code ≡ code_of placed →
-    first ≡ first_world placed said.bad said.start → events ≡ said.events → EventsFollowed file code first events end →
-    EventsFollowed file (code_of placed) (first_world placed said.bad said.start) said.events end
-followed_as file placed code said first events end same starts are was =
-    subst (λ (c : CodeShape). EventsFollowed file c (first_world placed said.bad said.start) said.events end) same
-    (subst (λ (w : WorldShape). EventsFollowed file code w said.events end) starts
-    (subst (λ (es : List (ℕ × Event)). EventsFollowed file code first es end) are was))
+    (table : ReleasesShape) (events : List (ℕ × Event)) (end : Outcome FollowedRun) → code ≡ code_of placed →
+    table ≡ releases_of (program_of placed) → first ≡ first_world placed said.bad said.start → events ≡ said.events →
+    EventsFollowed file code table first events end → ScriptFollowed placed file said end
+followed_as file placed code said first table events end same tells starts are was =
+    let world = first_world placed said.bad said.start in
+    subst (λ (c : CodeShape). EventsFollowed file c (releases_of (program_of placed)) world said.events end) same
+    (subst (λ (t : ReleasesShape). EventsFollowed file code t world said.events end) tells
+    (subst (λ (w : WorldShape). EventsFollowed file code table w said.events end) starts
+    (subst (λ (es : List (ℕ × Event)). EventsFollowed file code table first es end) are was)))
 
 -- a premise that fails, and the stop with what is then due
 pub premise_stops : (Holds : Type 0) (Fails : VerdictShape → Type 0) (due : Result Verdict OutOfMemory) (why : Stop) →
@@ -61,30 +64,37 @@ starts_as placed code world one other start start_too end same first is is_too w
     (subst (λ (values : List (List ℤ)). SameValues code world one.start values end) is_too
     (subst (λ (values : List (List ℤ)). SameValues code world values start_too end) is was)))
 
-pub compared_as : (placed : PlacedSource) (one other sent sent_too : List SentMessage) (verdict : VerdictShape) →
-    one ≡ sent → other ≡ sent_too → Compared placed one other verdict → Compared placed sent sent_too verdict
-compared_as placed one other sent sent_too verdict is is_too was =
-    subst (λ (messages : List SentMessage). Compared placed sent messages verdict) is_too
-    (subst (λ (messages : List SentMessage). Compared placed messages other verdict) is was)
+pub compared_as : (placed : PlacedSource) (one other sent sent_too : List SentMessage)
+    (values values_too released released_too : List ℤ) (verdict : VerdictShape) → one ≡ sent → other ≡ sent_too →
+    values ≡ released → values_too ≡ released_too → Compared placed one other values values_too verdict →
+    Compared placed sent sent_too released released_too verdict
+compared_as placed one other sent sent_too values values_too released released_too verdict is is_too are are_too was =
+    subst (λ (all : List ℤ). Compared placed sent sent_too released all verdict) are_too
+    (subst (λ (all : List ℤ). Compared placed sent sent_too all values_too verdict) are
+    (subst (λ (messages : List SentMessage). Compared placed sent messages values values_too verdict) is_too
+    (subst (λ (messages : List SentMessage). Compared placed messages other values values_too verdict) is was)))
 
 -- ---- what is due
 
 -- both runs were followed
-pub runs_due : (placed : PlacedSource) (code : CodeShape) (file : List ℕ) (said : ScriptShape) (run : Followed)
-    (other : List ℕ) (said_too : ScriptShape) (run_too : Followed) (first first_too : WorldShape)
-    (events events_too : List (ℕ × Event)) (verdict : VerdictShape) → code ≡ code_of placed →
+pub runs_due : (placed : PlacedSource) (code : CodeShape) (table : ReleasesShape) (file : List ℕ)
+    (said : ScriptShape) (run : FollowedRun) (other : List ℕ) (said_too : ScriptShape) (run_too : FollowedRun)
+    (first first_too : WorldShape) (events events_too : List (ℕ × Event)) (verdict : VerdictShape) →
+    code ≡ code_of placed → table ≡ releases_of (program_of placed) →
     first ≡ first_world placed said.bad said.start → events ≡ said.events →
-    EventsFollowed file code first events (given run) → first_too ≡ first_world placed said_too.bad said_too.start →
-    events_too ≡ said_too.events → EventsFollowed other code first_too events_too (given run_too) →
+    EventsFollowed file code table first events (given run) →
+    first_too ≡ first_world placed said_too.bad said_too.start → events_too ≡ said_too.events →
+    EventsFollowed other code table first_too events_too (given run_too) →
     DueForRuns placed file said run other said_too run_too verdict → DueForSaid placed file said other said_too verdict
-runs_due placed code file said run other said_too run_too first first_too events events_too verdict same starts are
-    was starts_too are_too was_too due =
+runs_due placed code table file said run other said_too run_too first first_too events events_too verdict same tells
+    starts are was starts_too are_too was_too due =
     inl (
       run,
-      followed_as file placed code said first events (given run) same starts are was,
+      followed_as file placed code said first table events (given run) same tells starts are was,
       inl (
         run_too,
-        followed_as other placed code said_too first_too events_too (given run_too) same starts_too are_too was_too,
+        followed_as other placed code said_too first_too table events_too (given run_too) same tells starts_too are_too
+            was_too,
         due,
       ),
     )

@@ -1,9 +1,10 @@
 -- From what is due for two scripts to what misbehaving hosts are told by them.
-use Rattle.std.proofs.Common.{◌≡◌, ℕ, List, [], ◌∷◌, ◌++◌, Ok, None, get_or, refl, sym, subst, inl, inr, ⊎_elim}
+use Rattle.std.proofs.Common.{◌≡◌, ◌∙◌, ℕ, List, [], ◌∷◌, ◌++◌, Ok, None, get_or, refl, sym, ap, subst, inl, inr}
+use Rattle.std.proofs.Common.{⊎_elim}
 use Rattle.std.specs.Prelude.{ℤ, ⊤, Option, All}
 use Rattle.std.proofs.lemmas.List.Elements.{All-map}
 use Rattle.js_base.specs.declared.status.Status.{Status}
-use Rattle.js_base.specs.declared.status.Status.TheVariants.{Done}
+use Rattle.js_base.specs.declared.status.Status.TheVariants.{Done, Differ}
 use Rattle.jif_tree.specs.declared.program.Program.{Program}
 use Rattle.event_text.specs.declared.event.Event.{Event}
 use Rattle.event_text.specs.OwnTokens.{IsOwnEvent}
@@ -11,12 +12,14 @@ use Rattle.event_text.specs.Script.{ScriptShape, script_of}
 use Rattle.host_code.specs.Code.{CodeShape}
 use Rattle.host_code.specs.Sound.{IsSoundCode}
 use Rattle.net_world.specs.Fits.{HasOwnToken}
+use Rattle.net_world.specs.Released.{IsFront, AreAlike, AreReleased}
 use Rattle.net_world.specs.Secret.{IsSeenRun, IsPrompt}
 use Rattle.net_world.specs.Told.{SentMessage}
 use Rattle.net_world.specs.World.{WorldShape, world_at_start, not_bad, not_there, host_busy, no_such_token}
 use Rattle.split_rules.specs.Placed.{PlacedProgram}
 use Rattle.split_rules.specs.Allowed.{IsAllowed}
 use Rattle.split_rules.specs.Held.{IsHeld}
+use Rattle.split_rules.specs.Releases.{ReleasesShape, releases_of}
 use Rattle.split_rules.specs.SplitCode.{split_code}
 use Rattle.split_rules.specs.Splittable.{IsSplittable}
 use Rattle.split_shades.specs.Flows.{AreResultsLabelled}
@@ -27,13 +30,13 @@ use Rattle.front_end.specs.PlacedSources.{PlacedSource, PlacedSources}
 use Rattle.front_end.specs.Stages.{Outcome, given, stopped, DueThen}
 use Rattle.front_end.specs.Verdicts.{VerdictShape, Print}
 use Rattle.split_cli.specs.Commands.{Compare, words_of}
-use Rattle.split_cli.specs.Compare.{IsFront, AreAlike, StartAlike, holds, fails, SameMisbehave, SameStarts, SameEvents}
+use Rattle.split_cli.specs.Compare.{StartAlike, holds, fails, SameMisbehave, SameStarts, SameEvents}
 use Rattle.split_cli.specs.Compare.{IsPromptRun, Compared, agree, differ}
-use Rattle.split_cli.specs.Compare.{DueForRuns, DueForSaid, DueForCompare}
+use Rattle.split_cli.specs.Compare.{ScriptFollowed, DueForRuns, DueForSaid, DueForCompare}
 use Rattle.split_cli.specs.Due.{Due}
 use Rattle.split_cli.specs.Drive.{first_world}
 use Rattle.split_cli.specs.Headline.{IsPlacedAs, IsPrivate, OfFourFiles}
-use Rattle.split_cli.specs.Followed.{Followed, IsFollowed, EventsFollowed, followed, refused}
+use Rattle.split_cli.specs.Followed.{Followed, FollowedRun, IsFollowed, EventsFollowed, followed, refused}
 use Rattle.net_world.specs.Replay.{events_in}
 use Rattle.split_cli.specs.Replay.{ScriptRead}
 use Rattle.split_cli.proofs.AlikeStarts.{alike_stores, alike_swapped}
@@ -42,52 +45,67 @@ use Rattle.split_cli.proofs.Faithful.{AllLaws, Says, refused_says, placed_says, 
 use Rattle.split_cli.proofs.Faithful.{SaysOfBytes, OnlyTwo, four_due}
 use Rattle.split_cli.proofs.OneCompare.{differ_not_alike}
 use Rattle.split_cli.proofs.OneDrive.{OneStep}
+use Rattle.net_world.proofs.ReleasedValues.{released_once}
+use Rattle.split_cli.proofs.FollowedEvents.{followed_ran}
 use Rattle.split_cli.proofs.PromptRuns.{followed_runs, followed_seen, all_seen, followed_prompt}
 use Rattle.split_cli.proofs.SetSources.{set_there, results_there}
 
 -- ---- what is known of two runs
 
--- two runs of a program that releases nothing tell misbehaving hosts the same
+-- two runs tell misbehaving hosts the same, of which the values that one releases go on as those of the other
 abbrev pub ToldAlikeLaw : Type 0
 ToldAlikeLaw = (placed : PlacedProgram) (bad : ℕ) (store start : List (List ℤ)) (events others seen more : List Event)
-    (one other : WorldShape) →
+    (one other : WorldShape) (values values_too : List ℤ) →
     let code = split_code placed in
+    let table = releases_of placed in
     let first = world_at_start code placed.hosts.hosts bad store in
     let second = world_at_start code placed.hosts.hosts bad start in
-    IsSplittable placed → IsAllowed placed → IsHeld placed →
-    AreResultsLabelled placed.labelled.program → ReleasesNothing placed.labelled.program →
-    AreStoresAlike code first store start → All (HasOwnToken first) seen →
+    IsSplittable placed → IsAllowed placed → IsHeld placed → AreResultsLabelled placed.labelled.program →
+    AreReleased code table first events values → AreReleased code table second others values_too →
+    AreAlike values values_too → AreStoresAlike code first store start → All (HasOwnToken first) seen →
     IsSeenRun code first events (seen ++ more) one → IsSeenRun code second others seen other →
     IsPrompt code first events → IsPrompt code second others →
     (rest : List SentMessage) × (one.sent ≡ other.sent ++ rest)
 
+-- a run of a program that releases nothing releases no value
+abbrev pub NoneReleasedLaw : Type 0
+NoneReleasedLaw = (placed : PlacedProgram) (world after : WorldShape) (events seen : List Event) →
+    IsSplittable placed → IsAllowed placed → IsHeld placed → AreResultsLabelled placed.labelled.program →
+    ReleasesNothing placed.labelled.program → IsSeenRun (split_code placed) world events seen after →
+    AreReleased (split_code placed) (releases_of placed) world events []
+
 -- all that is cited beside the laws of accepted programs
 pub record PrivateLaws : Type 0 where
   pub told_alike : ToldAlikeLaw
+  pub none_released : NoneReleasedLaw
   pub one_step : OneStep
 
 -- ---- what two runs tell
 
--- a run that misbehaving hosts see so
-record IsSeenSo (code : CodeShape) (world : WorldShape) (events seen : List Event) (last : WorldShape) : Type 0 where
-  runs : IsSeenRun code world events seen last
-  prompt : IsPrompt code world events
+-- a run of a program in its places that misbehaving hosts see so, and that releases these values
+record IsSeenSo (placed : PlacedSource) (world : WorldShape) (events seen : List Event) (values : List ℤ)
+    (last : WorldShape) : Type 0 where
+  runs : IsSeenRun (code_of placed) world events seen last
+  prompt : IsPrompt (code_of placed) world events
+  released : AreReleased (code_of placed) (releases_of (program_of placed)) world events values
 
 -- the first of two runs is that of which more is seen
 longer_tells : AllLaws → PrivateLaws → (program hosts : List ℕ) (placed : PlacedSource) (tree : Program) (bad : ℕ)
-    (store start : List (List ℤ)) (events others seen more : List Event) (one other : WorldShape) →
-    IsPlacedAs program hosts placed tree → ReleasesNothing placed.source.tree →
+    (store start : List (List ℤ)) (events others seen more : List Event) (values values_too : List ℤ)
+    (one other : WorldShape) → IsPlacedAs program hosts placed tree → AreAlike values values_too →
     AreStoresAlike (code_of placed) (first_world placed bad store) store start →
     All (HasOwnToken (first_world placed bad store)) others →
-    IsSeenSo (code_of placed) (first_world placed bad store) events (seen ++ more) one →
-    IsSeenSo (code_of placed) (first_world placed bad start) others seen other → IsFront other.sent one.sent
-longer_tells sets laws program hosts placed tree bad store start events others seen more one other is_placed silent
-    alike own first second =
+    IsSeenSo placed (first_world placed bad store) events (seen ++ more) values one →
+    IsSeenSo placed (first_world placed bad start) others seen values_too other → IsFront other.sent one.sent
+longer_tells sets laws program hosts placed tree bad store start events others seen more values values_too one other
+    is_placed same_values alike own first second =
     let code = code_of placed in
     let set =
     set_there sets.reading sets.plans sets.granted program hosts placed is_placed.accepted tree is_placed.tree_is in
-    laws.told_alike (program_of placed) bad store start events others seen more one other set.splittable set.allowed
-    set.held (results_there sets.reading sets.plans sets.granted program hosts placed is_placed.accepted) silent alike
+    laws.told_alike (program_of placed) bad store start events others seen more one other values values_too
+    set.splittable set.allowed set.held
+    (results_there sets.reading sets.plans sets.granted program hosts placed is_placed.accepted) first.released
+    second.released same_values alike
     (all_seen (HasOwnToken (first_world placed bad store)) code others seen (first_world placed bad start) other
     second.runs own)
     first.runs second.runs first.prompt second.prompt
@@ -113,48 +131,56 @@ own_there sets placed script said bad store read same =
     (λ k d less. sets.scripts.own_at_start code placed.source.file.hosts bad store (get_or said.events k d).1
     (code_hosts placed code refl) (own k d less))
 
+-- lists that are alike are so in either order
+turned_round : {X : Type 0} (one other : List X) → AreAlike one other → AreAlike other one
+turned_round one other alike = ⊎_elim inr inl alike
+
 runs_tell : AllLaws → PrivateLaws → (program hosts one other : List ℕ) (placed : PlacedSource) (tree : Program)
-    (said said_too : ScriptShape) (seen seen_too : List Event) (last last_too : WorldShape) →
+    (said said_too : ScriptShape) (seen seen_too : List Event) (values values_too : List ℤ)
+    (last last_too : WorldShape) →
     IsPlacedAs program hosts placed tree → script_of (code_of placed) one ≡ Ok said →
     script_of (code_of placed) other ≡ Ok said_too → said.bad ≡ said_too.bad →
     StartAlike (code_of placed) (first_world placed said.bad said.start) said.start said_too.start →
-    IsSeenSo (code_of placed) (first_world placed said.bad said.start) (events_in said.events) seen last →
-    IsSeenSo (code_of placed) (first_world placed said_too.bad said_too.start) (events_in said_too.events) seen_too
-    last_too → AreAlike seen seen_too → ReleasesNothing placed.source.tree → AreAlike last.sent last_too.sent
-runs_tell sets laws program hosts one other placed tree said said_too seen seen_too last last_too is_placed read
-    read_too same starts first second both silent =
+    IsSeenSo placed (first_world placed said.bad said.start) (events_in said.events) seen values last →
+    IsSeenSo placed (first_world placed said_too.bad said_too.start) (events_in said_too.events) seen_too values_too
+    last_too → AreAlike seen seen_too → AreAlike values values_too → AreAlike last.sent last_too.sent
+runs_tell sets laws program hosts one other placed tree said said_too seen seen_too values values_too last last_too
+    is_placed read read_too same starts first second both same_values =
     let code = code_of placed in
     let rows = placed.source.file.hosts in
     let bad = said.bad in
     let second_same =
-    subst (λ (word : ℕ). IsSeenSo code (first_world placed word said_too.start) (events_in said_too.events) seen_too
-    last_too) (sym same) second in
+    subst (λ (word : ℕ). IsSeenSo placed (first_world placed word said_too.start) (events_in said_too.events) seen_too
+    values_too last_too) (sym same) second in
     let alike =
     alike_stores code rows bad said.start said_too.start (sound_there sets laws program hosts placed tree is_placed)
     (code_hosts placed code refl) starts in
     ⊎_elim
     (λ longer. inl (longer_tells sets laws program hosts placed tree bad said_too.start said.start
-    (events_in said_too.events) (events_in said.events) seen longer.0 last_too last is_placed silent
+    (events_in said_too.events) (events_in said.events) seen longer.0 values_too values last_too last is_placed
+    (turned_round values values_too same_values)
     (alike_swapped code rows bad said.start said_too.start alike)
     (own_there sets placed one said bad said_too.start read refl)
-    (subst (λ (all : List Event). IsSeenSo code (first_world placed bad said_too.start) (events_in said_too.events) all
-    last_too) longer.1 second_same) first))
+    (subst (λ (all : List Event). IsSeenSo placed (first_world placed bad said_too.start) (events_in said_too.events)
+    all values_too last_too) longer.1 second_same) first))
     (λ longer. inr (longer_tells sets laws program hosts placed tree bad said.start said_too.start
-    (events_in said.events) (events_in said_too.events) seen_too longer.0 last last_too is_placed silent alike
+    (events_in said.events) (events_in said_too.events) seen_too longer.0 values values_too last last_too is_placed
+    same_values alike
     (own_there sets placed other said_too bad said.start read_too (sym same))
-    (subst (λ (all : List Event). IsSeenSo code (first_world placed bad said.start) (events_in said.events) all last)
-    longer.1 first) second_same))
+    (subst (λ (all : List Event). IsSeenSo placed (first_world placed bad said.start) (events_in said.events) all
+    values last) longer.1 first) second_same))
     both
 
 -- ---- what is reported
 
 -- what is reported of alike messages is that they agree
-alike_done : (placed : PlacedSource) (one other : List SentMessage) (verdict : VerdictShape) (status : Status)
-    (text : List ℕ) → Compared placed one other verdict → verdict ≡ Print status text → AreAlike one other →
+alike_done : (placed : PlacedSource) (one other : List SentMessage) (released released_too : List ℤ)
+    (verdict : VerdictShape) (status : Status) (text : List ℕ) →
+    Compared placed one other released released_too verdict → verdict ≡ Print status text → AreAlike one other →
     status ≡ Done
-alike_done placed one other _ status text (agree alike) is also =
+alike_done placed one other released released_too _ status text (agree alike) is also =
     let done : Done ≡ status = cc in sym done
-alike_done placed one other _ status text (differ place apart) is also =
+alike_done placed one other released released_too _ status text (differ place apart) is also =
     absurd (differ_not_alike one other place apart also)
 
 -- ---- what a verdict says
@@ -168,20 +194,21 @@ then_says Text First Last verdict stops goes ends =
     ⊎_elim (λ both. goes both.0 both.1 both.2) (λ stop. stops stop) ends
 
 -- events are followed, or stop the command
-abbrev FollowedSays : (Status → List ℕ → Type 0) → CodeShape → WorldShape → List (ℕ × Event) → Outcome Followed →
-    Type 0
-FollowedSays Text code world said (given run) = IsFollowed code world said run
-FollowedSays Text code world said (stopped verdict) = Says Text verdict
+abbrev FollowedSays : (Status → List ℕ → Type 0) → CodeShape → ReleasesShape → WorldShape → List (ℕ × Event) →
+    Outcome FollowedRun → Type 0
+FollowedSays Text code table world said (given it) =
+    IsFollowed code world said it.run × AreReleased code table world (events_in said) it.released
+FollowedSays Text code table world said (stopped verdict) = Says Text verdict
 
-followed_says : (Text : Status → List ℕ → Type 0) (file : List ℕ) (code : CodeShape) (world : WorldShape)
-    (said : List (ℕ × Event)) (end : Outcome Followed) → EventsFollowed file code world said end →
-    FollowedSays Text code world said end
+followed_says : (Text : Status → List ℕ → Type 0) (file : List ℕ) (code : CodeShape) (table : ReleasesShape)
+    (world : WorldShape) (said : List (ℕ × Event)) (end : Outcome FollowedRun) →
+    EventsFollowed file code table world said end → FollowedSays Text code table world said end
 unfolding Says
-followed_says Text file code world said _ (followed run is) = is
-followed_says Text file code world said _ (refused at not_bad stops) = tt
-followed_says Text file code world said _ (refused at not_there stops) = tt
-followed_says Text file code world said _ (refused at host_busy stops) = tt
-followed_says Text file code world said _ (refused at (no_such_token count) stops) = tt
+followed_says Text file code table world said _ (followed run is values) = (is, values)
+followed_says Text file code table world said _ (refused at not_bad stops) = tt
+followed_says Text file code table world said _ (refused at not_there stops) = tt
+followed_says Text file code table world said _ (refused at host_busy stops) = tt
+followed_says Text file code table world said _ (refused at (no_such_token count) stops) = tt
 
 -- a premise holds, or stops the command
 abbrev PremiseSays : (Status → List ℕ → Type 0) → Type 0 → Outcome ⊤ → Type 0
@@ -215,69 +242,111 @@ abbrev IsCompareText : (program hosts one other : List ℕ) → Status → List 
 IsCompareText = IsPrivate
 
 -- a script that was read, and whose events were followed
-record IsFollowedSo (placed : PlacedSource) (script : List ℕ) (said : ScriptShape) (run : Followed) : Type 0 where
+record IsFollowedSo (placed : PlacedSource) (script : List ℕ) (said : ScriptShape) (it : FollowedRun) : Type 0 where
   was : IsRead script placed said
-  followed : IsFollowed (code_of placed) (first_world placed said.bad said.start) said.events run
+  followed : IsFollowed (code_of placed) (first_world placed said.bad said.start) said.events it.run
+  released : AreReleased (code_of placed) (releases_of (program_of placed)) (first_world placed said.bad said.start)
+      (events_in said.events) it.released
 
-seen_so : PrivateLaws → (placed : PlacedSource) (script : List ℕ) (said : ScriptShape) (run : Followed) →
-    IsFollowedSo placed script said run → run.late ≡ None →
-    IsSeenSo (code_of placed) (first_world placed said.bad said.start) (events_in said.events) (events_in run.seen)
-    run.last
-seen_so laws placed script said run it none =
+seen_so : PrivateLaws → (placed : PlacedSource) (script : List ℕ) (said : ScriptShape) (it : FollowedRun) →
+    IsFollowedSo placed script said it → it.run.late ≡ None →
+    IsSeenSo placed (first_world placed said.bad said.start) (events_in said.events) (events_in it.run.seen)
+    it.released it.run.last
+seen_so laws placed script said it was none =
     let first = first_world placed said.bad said.start in
     record {
-      runs = followed_seen (code_of placed) first said.events run it.followed;
-      prompt = followed_prompt laws.one_step (code_of placed) first said.events run it.followed none;
+      runs = followed_seen (code_of placed) first said.events it.run was.followed;
+      prompt = followed_prompt laws.one_step (code_of placed) first said.events it.run was.followed none;
+      released = was.released;
     }
 
+-- where the program releases nothing, a run that was followed released no value
+none_so : AllLaws → PrivateLaws → (program hosts script : List ℕ) (placed : PlacedSource) (tree : Program)
+    (said : ScriptShape) (it : FollowedRun) → IsPlacedAs program hosts placed tree →
+    IsFollowedSo placed script said it → ReleasesNothing placed.source.tree → it.released ≡ []
+none_so sets laws program hosts script placed tree said it is_placed was silent =
+    let code = code_of placed in
+    let first = first_world placed said.bad said.start in
+    let set =
+    set_there sets.reading sets.plans sets.granted program hosts placed is_placed.accepted tree is_placed.tree_is in
+    released_once code (releases_of (program_of placed)) first it.run.last (events_in said.events) it.released []
+    (followed_ran code first said.events it.run was.followed) was.released
+    (laws.none_released (program_of placed) first it.run.last (events_in said.events) (events_in it.run.seen)
+    set.splittable set.allowed set.held
+    (results_there sets.reading sets.plans sets.granted program hosts placed is_placed.accepted) silent
+    (followed_seen code first said.events it.run was.followed))
+
+-- empty lists are alike
+both_empty : {X : Type 0} (one other : List X) → one ≡ [] → other ≡ [] → AreAlike one other
+both_empty one other none none_too = inl ([], none_too ∙ ap (λ all. all ++ []) (sym none))
+
 -- all that is tested of two runs before they are compared
-record AreComparable (placed : PlacedSource) (said said_too : ScriptShape) (run run_too : Followed) : Type 0 where
+record AreComparable (placed : PlacedSource) (said said_too : ScriptShape) (run run_too : FollowedRun) : Type 0 where
   same_bad : said.bad ≡ said_too.bad
   starts : StartAlike (code_of placed) (first_world placed said.bad said.start) said.start said_too.start
-  events : AreAlike (events_in run.seen) (events_in run_too.seen)
-  prompt : run.late ≡ None
-  prompt_too : run_too.late ≡ None
+  events : AreAlike (events_in run.run.seen) (events_in run_too.run.seen)
+  prompt : run.run.late ≡ None
+  prompt_too : run_too.run.late ≡ None
+
+-- the report of two runs
+abbrev IsReported : PlacedSource → (run run_too : FollowedRun) → VerdictShape → Type 0
+IsReported placed run run_too =
+    Compared placed run.run.last.sent run_too.run.last.sent run.released run_too.released
 
 is_private : AllLaws → PrivateLaws → (program hosts one other : List ℕ) (placed : PlacedSource) (tree : Program)
-    (said said_too : ScriptShape) (run run_too : Followed) (status : Status) (text : List ℕ) →
+    (said said_too : ScriptShape) (run run_too : FollowedRun) (status : Status) (text : List ℕ) →
     IsPlacedAs program hosts placed tree → IsFollowedSo placed one said run → IsFollowedSo placed other said_too run_too
-    → AreComparable placed said said_too run run_too →
-    Compared placed run.last.sent run_too.last.sent (Print status text) → IsPrivate program hosts one other status text
+    → AreComparable placed said said_too run run_too → IsReported placed run run_too (Print status text) →
+    IsPrivate program hosts one other status text
 unfolding played
 is_private sets laws program hosts one other placed tree said said_too run run_too status text is_placed first second
     both reported =
     let code = code_of placed in
     let one_seen = seen_so laws placed one said run first both.prompt in
     let other_seen = seen_so laws placed other said_too run_too second both.prompt_too in
-    let tells = runs_tell sets laws program hosts one other placed tree said said_too (events_in run.seen)
-    (events_in run_too.seen) run.last run_too.last is_placed first.was.read second.was.read both.same_bad both.starts
-    one_seen other_seen both.events in
+    let tells = runs_tell sets laws program hosts one other placed tree said said_too (events_in run.run.seen)
+    (events_in run_too.run.seen) run.released run_too.released run.run.last run_too.run.last is_placed first.was.read
+    second.was.read both.same_bad both.starts one_seen other_seen both.events in
+    let agrees : AreAlike run.released run_too.released → status ≡ Done =
+    λ alike. alike_done placed run.run.last.sent run_too.run.last.sent run.released run_too.released
+    (Print status text) status text reported refl (tells alike) in
+    let none = none_so sets laws program hosts one placed tree said run is_placed first in
+    let none_too = none_so sets laws program hosts other placed tree said_too run_too is_placed second in
+    let silent_alike : ReleasesNothing placed.source.tree → AreAlike run.released run_too.released =
+    λ silent. both_empty run.released run_too.released (none silent) (none_too silent) in
     record {
       placed = placed;
       tree = tree;
       is_placed = is_placed;
-      first = played sets program hosts one placed tree said run.last is_placed first.was.short first.was.read
-          (followed_runs code (first_world placed said.bad said.start) said.events run first.followed);
-      second = played sets program hosts other placed tree said_too run_too.last is_placed second.was.short
+      first = played sets program hosts one placed tree said run.run.last is_placed first.was.short first.was.read
+          (followed_runs code (first_world placed said.bad said.start) said.events run.run first.followed);
+      second = played sets program hosts other placed tree said_too run_too.run.last is_placed second.was.short
           second.was.read
-          (followed_runs code (first_world placed said_too.bad said_too.start) said_too.events run_too second.followed);
+          (followed_runs code (first_world placed said_too.bad said_too.start) said_too.events run_too.run
+          second.followed);
       same_bad = both.same_bad;
       starts = both.starts;
-      seen = events_in run.seen;
-      seen_too = events_in run_too.seen;
+      seen = events_in run.run.seen;
+      seen_too = events_in run_too.run.seen;
       first_seen = record { runs = one_seen.runs; prompt = one_seen.prompt };
       second_seen = record { runs = other_seen.runs; prompt = other_seen.prompt };
       alike = both.events;
+      released = run.released;
+      released_too = run_too.released;
+      first_released = first.released;
+      second_released = second.released;
       reported = reported;
-      told_alike = tells;
-      never_differs = λ silent. alike_done placed run.last.sent run_too.last.sent (Print status text) status text
-          reported refl (tells silent);
+      released_alike = tells;
+      differs = λ is alike. let no : Differ ≡ Done = sym is ∙ agrees alike in absurd (cc);
+      silent = λ nothing. (none nothing, none_too nothing);
+      told_alike = λ nothing. tells (silent_alike nothing);
+      never_differs = λ nothing. agrees (silent_alike nothing);
     }
 
 report_says : AllLaws → PrivateLaws → (program hosts one other : List ℕ) (placed : PlacedSource) (tree : Program)
-    (said said_too : ScriptShape) (run run_too : Followed) (verdict : VerdictShape) →
+    (said said_too : ScriptShape) (run run_too : FollowedRun) (verdict : VerdictShape) →
     IsPlacedAs program hosts placed tree → IsFollowedSo placed one said run → IsFollowedSo placed other said_too run_too
-    → AreComparable placed said said_too run run_too → Compared placed run.last.sent run_too.last.sent verdict →
+    → AreComparable placed said said_too run run_too → IsReported placed run run_too verdict →
     Says (IsCompareText program hosts one other) verdict
 unfolding Says
 report_says sets laws program hosts one other placed tree said said_too run run_too _ is_placed first second both
@@ -290,35 +359,35 @@ report_says sets laws program hosts one other placed tree said said_too run run_
     (differ place apart)
 
 runs_say : AllLaws → PrivateLaws → (program hosts one other : List ℕ) (placed : PlacedSource) (tree : Program)
-    (file file_too : List ℕ) (said said_too : ScriptShape) (run run_too : Followed) (verdict : VerdictShape) →
+    (file file_too : List ℕ) (said said_too : ScriptShape) (run run_too : FollowedRun) (verdict : VerdictShape) →
     IsPlacedAs program hosts placed tree → IsFollowedSo placed one said run → IsFollowedSo placed other said_too run_too
     → DueForRuns placed file said run file_too said_too run_too verdict →
     Says (IsCompareText program hosts one other) verdict
 runs_say sets laws program hosts one other placed tree file file_too said said_too run run_too verdict is_placed first
     second =
     let Text = IsCompareText program hosts one other in
-    let Sent : ⊤ → VerdictShape → Type 0 = λ _. Compared placed run.last.sent run_too.last.sent in
-    let Later : ⊤ → VerdictShape → Type 0 = λ _. DueThen (IsPromptRun file_too run_too) Sent in
-    let Prompt : ⊤ → VerdictShape → Type 0 = λ _. DueThen (IsPromptRun file run) Later in
-    let Happens : ⊤ → VerdictShape → Type 0 = λ _. DueThen (SameEvents file run run_too) Prompt in
+    let Sent : ⊤ → VerdictShape → Type 0 = λ _. IsReported placed run run_too in
+    let Later : ⊤ → VerdictShape → Type 0 = λ _. DueThen (IsPromptRun file_too run_too.run) Sent in
+    let Prompt : ⊤ → VerdictShape → Type 0 = λ _. DueThen (IsPromptRun file run.run) Later in
+    let Happens : ⊤ → VerdictShape → Type 0 = λ _. DueThen (SameEvents file run.run run_too.run) Prompt in
     let Starts : ⊤ → VerdictShape → Type 0 = λ _. DueThen (SameStarts placed said said_too) Happens in
     then_says Text (SameMisbehave said said_too) Starts verdict
     (λ stops. misbehave_says Text said said_too (stopped verdict) stops) (λ a same_bad.
     then_says Text (SameStarts placed said said_too) Happens verdict
     (λ stops. starts_say Text placed said said_too (stopped verdict) stops) (λ b starts.
-    then_says Text (SameEvents file run run_too) Prompt verdict
-    (λ stops. events_say Text file run run_too (stopped verdict) stops) (λ c events.
-    then_says Text (IsPromptRun file run) Later verdict
-    (λ stops. prompt_says Text file run (stopped verdict) stops) (λ d prompt.
-    then_says Text (IsPromptRun file_too run_too) Sent verdict
-    (λ stops. prompt_says Text file_too run_too (stopped verdict) stops) (λ e prompt_too.
+    then_says Text (SameEvents file run.run run_too.run) Prompt verdict
+    (λ stops. events_say Text file run.run run_too.run (stopped verdict) stops) (λ c events.
+    then_says Text (IsPromptRun file run.run) Later verdict
+    (λ stops. prompt_says Text file run.run (stopped verdict) stops) (λ d prompt.
+    then_says Text (IsPromptRun file_too run_too.run) Sent verdict
+    (λ stops. prompt_says Text file_too run_too.run (stopped verdict) stops) (λ e prompt_too.
     report_says sets laws program hosts one other placed tree said said_too run run_too verdict is_placed first second
     (record {
       same_bad = misbehave_says Text said said_too (given a) same_bad;
       starts = starts_say Text placed said said_too (given b) starts;
-      events = events_say Text file run run_too (given c) events;
-      prompt = prompt_says Text file run (given d) prompt;
-      prompt_too = prompt_says Text file_too run_too (given e) prompt_too;
+      events = events_say Text file run.run run_too.run (given c) events;
+      prompt = prompt_says Text file run.run (given d) prompt;
+      prompt_too = prompt_says Text file_too run_too.run (given e) prompt_too;
     }))))))
 
 said_says : AllLaws → PrivateLaws → (program hosts one other : List ℕ) (placed : PlacedSource) (tree : Program)
@@ -328,22 +397,22 @@ said_says : AllLaws → PrivateLaws → (program hosts one other : List ℕ) (pl
 said_says sets laws program hosts one other placed tree file said file_too said_too verdict is_placed was was_too =
     let Text = IsCompareText program hosts one other in
     let code = code_of placed in
+    let table = releases_of (program_of placed) in
     let world = first_world placed said.bad said.start in
     let world_too = first_world placed said_too.bad said_too.start in
-    let First = EventsFollowed file code world said.events in
-    let Second = EventsFollowed file_too code world_too said_too.events in
-    let Runs : Followed → Followed → VerdictShape → Type 0 =
+    let Second = ScriptFollowed placed file_too said_too in
+    let Runs : FollowedRun → FollowedRun → VerdictShape → Type 0 =
     λ run run_too. DueForRuns placed file said run file_too said_too run_too in
-    then_says Text First (λ run. DueThen Second (Runs run)) verdict
-    (λ stops. followed_says Text file code world said.events (stopped verdict) stops) (λ run ran.
+    then_says Text (ScriptFollowed placed file said) (λ run. DueThen Second (Runs run)) verdict
+    (λ stops. followed_says Text file code table world said.events (stopped verdict) stops) (λ run ran.
     then_says Text Second (Runs run) verdict
-    (λ stops. followed_says Text file_too code world_too said_too.events (stopped verdict) stops) (λ run_too ran_too.
+    (λ stops. followed_says Text file_too code table world_too said_too.events (stopped verdict) stops)
+    (λ run_too ran_too.
+    let kept = followed_says Text file code table world said.events (given run) ran in
+    let kept_too = followed_says Text file_too code table world_too said_too.events (given run_too) ran_too in
     runs_say sets laws program hosts one other placed tree file file_too said said_too run run_too verdict is_placed
-    (record { was = was; followed = followed_says Text file code world said.events (given run) ran })
-    (record {
-      was = was_too;
-      followed = followed_says Text file_too code world_too said_too.events (given run_too) ran_too;
-    })))
+    (record { was = was; followed = kept.0; released = kept.1 })
+    (record { was = was_too; followed = kept_too.0; released = kept_too.1 })))
 
 compare_says : AllLaws → PrivateLaws → (file file_too program hosts one other : List ℕ) (placed : PlacedSource)
     (verdict : VerdictShape) → PlacedSources program hosts (given placed) →

@@ -1,13 +1,16 @@
 -- Runs that are followed: one event more.
-use Rattle.std.proofs.Common.{◌≡◌, ℕ, ◌<◌, ◌+◌, List, [], ◌∷◌, ◌++◌, None, get_or, length, take, refl, sym}
+use Rattle.std.proofs.Common.{◌≡◌, ◌∙◌, ℕ, ◌<◌, ◌≤◌, ◌+◌, ℤ, List, [], ◌∷◌, ◌++◌, None, get_or, length, take, refl, sym}
 use Rattle.std.proofs.Common.{ap, subst, map, Bool, true, false, Result, Ok, Err}
 use Rattle.std.specs.Prelude.{◌↔◌, IsTrue, OnOk, if◌then◌else◌}
 use Rattle.std.proofs.lemmas.Bool.{false≢true}
-use Rattle.std.proofs.lemmas.List.{take_more}
+use Rattle.std.proofs.lemmas.List.{map_more, take_all, take_more}
 use Rattle.event_text.specs.declared.event.Event.{Event}
 use Rattle.host_code.specs.Code.{CodeShape}
+use Rattle.net_world.specs.Released.{AreReleased, Releases}
 use Rattle.net_world.specs.Secret.{IsSecret, IsQuiet}
 use Rattle.net_world.specs.World.{WorldShape, IsStep, IsRun}
+use Rattle.split_rules.specs.Releases.{ReleasesShape}
+use Rattle.net_world.proofs.ReleasedValues.{released_last}
 use Rattle.split_cli.specs.Followed.{Followed, IsKept, IsFollowed}
 use Rattle.split_cli.specs.Followed as kept
 use Rattle.split_cli.specs.declared.following.Seen.{Seen}
@@ -133,3 +136,26 @@ pub added_on_ok : {T E : Type 0} (code : CodeShape) (world : WorldShape) (one : 
 added_on_ok code world one before after quiet (Ok value) not exact seen late =
     λ last. seen_added code world one (run_with before last) (run_with after last) quiet not exact seen late refl
 added_on_ok code world one before after quiet (Err why) not exact seen late = tt
+
+-- ---- what is released
+
+-- one event more, of those that are told with their lines
+pub released_more : (code : CodeShape) (table : ReleasesShape) (world middle : WorldShape) (said : List (ℕ × Event))
+    (i : ℕ) (d : ℕ × Event) (values own longer : List ℤ) → i < length said →
+    IsRun code world (events_in (take i said)) middle →
+    AreReleased code table world (events_in (take i said)) values →
+    Releases code table middle (get_or said i d).1 own → longer ≡ values ++ own →
+    AreReleased code table world (events_in (take (i + 1) said)) longer
+released_more code table world middle said i d values own longer within ran are is more =
+    let event_of : (ℕ × Event) → Event = λ one. one.1 in
+    subst (λ (events : List Event). AreReleased code table world events longer)
+    (sym (map_more event_of said i d within))
+    (subst (AreReleased code table world (events_in (take i said) ++ (get_or said i d).1 ∷ [])) (sym more)
+    (released_last code table world middle (events_in (take i said)) (get_or said i d).1 values own ran are is))
+
+-- all events
+pub released_all : (code : CodeShape) (table : ReleasesShape) (world : WorldShape) (said : List (ℕ × Event)) (i : ℕ)
+    (values : List ℤ) → length said ≤ i → AreReleased code table world (events_in (take i said)) values →
+    AreReleased code table world (events_in said) values
+released_all code table world said i values past are =
+    subst (λ (all : List (ℕ × Event)). AreReleased code table world (events_in all) values) (take_all i said past) are

@@ -27,6 +27,7 @@ pub mod OneVerdict
 pub mod PlanLines
 pub mod PromptRuns
 pub mod ReleaseParts
+pub mod ReleasedLines
 pub mod ReplayDue
 pub mod ReportLines
 pub mod RestingDrives

@@ -7,13 +7,16 @@ use Rattle.event_text.specs.Script.{ScriptShape}
 use Rattle.host_code.specs.Code.{CodeShape, CodeFieldShape}
 use Rattle.net_world.specs.Told.{SentMessage}
 use Rattle.net_world.specs.World.{WorldShape, Refusal}
-use Rattle.split_cli.specs.Compare.{AreAlike, DifferAt, IsFirstUnlike, Premise, holds}
+use Rattle.net_world.specs.Released.{AreAlike}
+use Rattle.split_cli.specs.Compare.{DifferAt, IsFirstUnlike, Premise, holds}
 use Rattle.split_cli.specs.Compare.{fails, SameMisbehave, SameStarts, GoApart, SameEvents, IsPromptRun, Compared, agree}
-use Rattle.split_cli.specs.Compare.{differ, differ_text, DueForRuns, DueForSaid, DueForCompare}
+use Rattle.split_cli.specs.Compare.{differ, differ_text, ScriptFollowed, DueForRuns, DueForSaid, DueForCompare}
 use Rattle.split_cli.specs.Drive.{first_world}
-use Rattle.front_end.specs.PlacedCode.{code_of}
+use Rattle.front_end.specs.PlacedCode.{code_of, program_of}
+use Rattle.split_rules.specs.Releases.{ReleasesShape, releases_of}
 use Rattle.split_cli.specs.Followed.{Followed, IsKept, hidden, prompt, untimely, IsFollowed, EventsFollowed, followed}
-use Rattle.split_cli.specs.Followed.{refused}
+use Rattle.split_cli.specs.Followed.{FollowedRun, refused}
+use Rattle.split_cli.specs.ReleaseLines.{release_lines}
 use Rattle.front_end.specs.PlacedSources.{PlacedSource}
 use Rattle.split_cli.specs.Releases.{first_release}
 use Rattle.net_world.specs.Replay.{events_in}
@@ -21,6 +24,7 @@ use Rattle.split_cli.specs.Replay.{event_refused, ScriptRead}
 use Rattle.front_end.specs.Stages.{DueThen}
 use Rattle.front_end.specs.Verdicts.{VerdictShape, Print, starts_differ, events_differ, not_prompt}
 use Rattle.js_base.specs.declared.status.Status.TheVariants.{Differ}
+use Rattle.net_world.proofs.ReleasedValues.{released_once}
 use Rattle.split_cli.proofs.FollowedEvents.{followed_ran}
 use Rattle.split_cli.proofs.OneReplay.{StepLaws, refused_once, ran_or_refused, script_once}
 use Rattle.front_end.proofs.Places.{same_place, same_here}
@@ -96,18 +100,23 @@ followed_once laws code world (event ∷ said) one two (next, rest, step, follow
     kept_once code world event rest one two kept
     (subst (λ (r : Followed). IsKept code world event r two) rests too)
 
-runs_once : StepLaws → (file : List ℕ) (code : CodeShape) (world : WorldShape) (said : List (ℕ × Event)) →
-    IsOne (EventsFollowed file code world said)
-runs_once laws file code world said _ _ (followed run is) (followed other also) =
-    ap give (followed_once laws code world said run other is also)
-runs_once laws file code world said _ _ (followed run is) (refused at why stops) =
-    absurd (ran_or_refused laws code world run.last said at why (followed_ran code world said run is) stops)
-runs_once laws file code world said _ _ (refused at why stops) (followed run is) =
-    absurd (ran_or_refused laws code world run.last said at why (followed_ran code world said run is) stops)
-runs_once laws file code world said _ _ (refused at why stops) (refused other also too) =
+runs_once : StepLaws → (file : List ℕ) (code : CodeShape) (table : ReleasesShape) (world : WorldShape)
+    (said : List (ℕ × Event)) → IsOne (EventsFollowed file code table world said)
+runs_once laws file code table world said _ _ (followed one is values) (followed other also values_too) =
+    let run = followed_ran code world said one.run is in
+    let runs = followed_once laws code world said one.run other.run is also in
+    let released =
+    released_once code table world one.run.last (events_in said) one.released other.released run values values_too in
+    ap (λ (it : Followed). give (record { run = it; released = one.released })) runs
+    ∙ ap (λ (all : List ℤ). give (record { run = other.run; released = all })) released
+runs_once laws file code table world said _ _ (followed it is values) (refused at why stops) =
+    absurd (ran_or_refused laws code world it.run.last said at why (followed_ran code world said it.run is) stops)
+runs_once laws file code table world said _ _ (refused at why stops) (followed it is values) =
+    absurd (ran_or_refused laws code world it.run.last said at why (followed_ran code world said it.run is) stops)
+runs_once laws file code table world said _ _ (refused at why stops) (refused other also too) =
     let one = refused_once laws code world said at other why also stops too in
-    ap (λ (it : ℕ × Event). stop_with {X = Followed} (event_refused file it why)) one.places
-    ∙ ap (λ (cause : Refusal). stop_with {X = Followed} (event_refused file other cause)) one.causes
+    ap (λ (it : ℕ × Event). stop_with {X = FollowedRun} (event_refused file it why)) one.places
+    ∙ ap (λ (cause : Refusal). stop_with {X = FollowedRun} (event_refused file other cause)) one.causes
 
 -- ---- premises
 
@@ -164,49 +173,53 @@ prompt_once file run =
 
 -- ---- what is due
 
-compared_once : (placed : PlacedSource) (one other : List SentMessage) (first second : VerdictShape) →
-    Compared placed one other first → Compared placed one other second → first ≡ second
-compared_once placed one other _ _ (agree alike) (agree also) = refl
-compared_once placed one other _ _ (agree alike) (differ place apart) =
+compared_once : (placed : PlacedSource) (one other : List SentMessage) (released released_too : List ℤ)
+    (first second : VerdictShape) → Compared placed one other released released_too first →
+    Compared placed one other released released_too second → first ≡ second
+compared_once placed one other released released_too _ _ (agree alike) (agree also) = refl
+compared_once placed one other released released_too _ _ (agree alike) (differ place apart) =
     absurd (differ_not_alike one other place apart alike)
-compared_once placed one other _ _ (differ place apart) (agree alike) =
+compared_once placed one other released released_too _ _ (differ place apart) (agree alike) =
     absurd (differ_not_alike one other place apart alike)
-compared_once placed one other _ _ (differ place apart) (differ also too) =
-    ap (λ (at : ℕ). Print Differ (differ_text at (first_release placed.source.tree)))
+compared_once placed one other released released_too _ _ (differ place apart) (differ also too) =
+    ap (λ (at : ℕ). Print Differ
+    (differ_text at (first_release placed.source.tree) ++ release_lines released released_too))
     (one_difference one other place also apart too)
 
-runs_due_once : (placed : PlacedSource) (file : List ℕ) (said : ScriptShape) (run : Followed) (other : List ℕ)
-    (said_too : ScriptShape) (run_too : Followed) (first second : VerdictShape) →
+runs_due_once : (placed : PlacedSource) (file : List ℕ) (said : ScriptShape) (run : FollowedRun) (other : List ℕ)
+    (said_too : ScriptShape) (run_too : FollowedRun) (first second : VerdictShape) →
     DueForRuns placed file said run other said_too run_too first →
     DueForRuns placed file said run other said_too run_too second → first ≡ second
 runs_due_once placed file said run other said_too run_too first second =
-    let Sent : ⊤ → VerdictShape → Type 0 = λ _. Compared placed run.last.sent run_too.last.sent in
-    let Later : ⊤ → VerdictShape → Type 0 = λ _. DueThen (IsPromptRun other run_too) Sent in
-    let Prompt : ⊤ → VerdictShape → Type 0 = λ _. DueThen (IsPromptRun file run) Later in
-    let Happens : ⊤ → VerdictShape → Type 0 = λ _. DueThen (SameEvents file run run_too) Prompt in
+    let Sent : ⊤ → VerdictShape → Type 0 =
+    λ _. Compared placed run.run.last.sent run_too.run.last.sent run.released run_too.released in
+    let Later : ⊤ → VerdictShape → Type 0 = λ _. DueThen (IsPromptRun other run_too.run) Sent in
+    let Prompt : ⊤ → VerdictShape → Type 0 = λ _. DueThen (IsPromptRun file run.run) Later in
+    let Happens : ⊤ → VerdictShape → Type 0 = λ _. DueThen (SameEvents file run.run run_too.run) Prompt in
     let Starts : ⊤ → VerdictShape → Type 0 = λ _. DueThen (SameStarts placed said said_too) Happens in
     one_due (SameMisbehave said said_too) Starts first second (misbehave_once said said_too) (λ _ _.
     one_due (SameStarts placed said said_too) Happens first second (starts_once placed said said_too) (λ _ _.
-    one_due (SameEvents file run run_too) Prompt first second (events_once file run run_too) (λ _ _.
-    one_due (IsPromptRun file run) Later first second (prompt_once file run) (λ _ _.
-    one_due (IsPromptRun other run_too) Sent first second (prompt_once other run_too) (λ _ _.
-    compared_once placed run.last.sent run_too.last.sent first second)))))
+    one_due (SameEvents file run.run run_too.run) Prompt first second (events_once file run.run run_too.run) (λ _ _.
+    one_due (IsPromptRun file run.run) Later first second (prompt_once file run.run) (λ _ _.
+    one_due (IsPromptRun other run_too.run) Sent first second (prompt_once other run_too.run) (λ _ _.
+    compared_once placed run.run.last.sent run_too.run.last.sent run.released run_too.released first second)))))
 
 said_due_once : StepLaws → (placed : PlacedSource) (file : List ℕ) (said : ScriptShape) (other : List ℕ)
     (said_too : ScriptShape) (first second : VerdictShape) → DueForSaid placed file said other said_too first →
     DueForSaid placed file said other said_too second → first ≡ second
 said_due_once laws placed file said other said_too first second =
     let code = code_of placed in
+    let table = releases_of (program_of placed) in
     let world = first_world placed said.bad said.start in
     let world_too = first_world placed said_too.bad said_too.start in
-    let Runs : Followed → Followed → VerdictShape → Type 0 =
+    let Runs : FollowedRun → FollowedRun → VerdictShape → Type 0 =
     λ run run_too. DueForRuns placed file said run other said_too run_too in
-    let Follows : Followed → VerdictShape → Type 0 =
-    λ run. DueThen (EventsFollowed other code world_too said_too.events) (Runs run) in
-    one_due (EventsFollowed file code world said.events) Follows first second
-    (runs_once laws file code world said.events) (λ run _.
-    one_due (EventsFollowed other code world_too said_too.events) (Runs run) first second
-    (runs_once laws other code world_too said_too.events)
+    let Follows : FollowedRun → VerdictShape → Type 0 =
+    λ run. DueThen (ScriptFollowed placed other said_too) (Runs run) in
+    one_due (ScriptFollowed placed file said) Follows first second
+    (runs_once laws file code table world said.events) (λ run _.
+    one_due (ScriptFollowed placed other said_too) (Runs run) first second
+    (runs_once laws other code table world_too said_too.events)
     (λ run_too _. runs_due_once placed file said run other said_too run_too first second))
 
 pub compare_once : StepLaws → (file script other script_too : List ℕ) (placed : PlacedSource)

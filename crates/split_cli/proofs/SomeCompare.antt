@@ -1,5 +1,5 @@
 -- For two scripts of a program in its places something is due, whatever they hold.
-use Rattle.std.proofs.Common.{◌≡◌, ◌≢◌, ◌∙◌, ◌⊎◌, ℕ, suc, ℤ, pos, negsuc, List, [], ◌∷◌, length, Option}
+use Rattle.std.proofs.Common.{◌≡◌, ◌≢◌, ◌∙◌, ◌⊎◌, ℕ, suc, ℤ, pos, negsuc, List, [], ◌∷◌, ◌++◌, length, Option}
 use Rattle.std.proofs.Common.{Some, None, Ok, slice_get, inl, inr, refl, sym, ap, ⊎_elim, arith}
 use Rattle.std.specs.Prelude.{All, IsSome, IsSomeAnd}
 use Rattle.std.specs.Option.{option_map}
@@ -18,18 +18,23 @@ use Rattle.net_world.specs.Fits.{ShapeFits, HasOwnToken}
 use Rattle.net_world.specs.Secret.{IsReadable, IsSecret, IsQuiet}
 use Rattle.net_world.specs.Told.{SentMessage}
 use Rattle.net_world.specs.World.{WorldShape, IsStep, state_at}
-use Rattle.split_cli.specs.Compare.{AreAlike, DifferAt, StartsUnlike, Premise, holds, fails}
+use Rattle.net_world.specs.Released.{AreAlike}
+use Rattle.split_rules.specs.Releases.{ReleasesShape, releases_of}
+use Rattle.split_cli.specs.Compare.{DifferAt, StartsUnlike, Premise, holds, fails, ScriptFollowed}
 use Rattle.split_cli.specs.Compare.{SameMisbehave, SameStarts, SameEvents, IsPromptRun, Compared, agree, differ}
 use Rattle.split_cli.specs.Compare.{agree_text, differ_text, DueForRuns, DueForScripts, DueForCompare}
 use Rattle.split_cli.specs.Drive.{first_world}
-use Rattle.front_end.specs.PlacedCode.{code_of}
-use Rattle.split_cli.specs.Followed.{Followed, IsKept, hidden, prompt, untimely, EventsFollowed, followed, refused}
+use Rattle.front_end.specs.PlacedCode.{code_of, program_of}
+use Rattle.split_cli.specs.Followed.{Followed, FollowedRun, IsKept, hidden, prompt, untimely, EventsFollowed}
+use Rattle.split_cli.specs.Followed.{followed, refused}
+use Rattle.split_cli.specs.ReleaseLines.{release_lines}
 use Rattle.front_end.specs.PlacedSources.{PlacedSource, PlacedSources}
 use Rattle.split_cli.specs.Releases.{first_release}
 use Rattle.net_world.specs.Replay.{events_in}
 use Rattle.split_cli.specs.Replay.{event_refused, ScriptRead, read}
 use Rattle.front_end.specs.Stages.{given, stopped}
 use Rattle.front_end.specs.Verdicts.{VerdictShape, Print, bad_differ, starts_differ, events_differ, not_prompt}
+use Rattle.net_world.proofs.ReleasedValues.{some_released, released_first}
 use Rattle.split_cli.proofs.DriveDue.{code_hosts}
 use Rattle.split_cli.proofs.DriveEnds.{StepCauses}
 use Rattle.split_cli.proofs.FirstHosts.{first_number_or_none}
@@ -64,27 +69,33 @@ some_kept code world one rest (inr not) (inr loud) =
     (record { seen = one ∷ rest.seen; late = Some one.0; last = rest.last }, untimely not loud)
 
 -- one event before the others
-follow_first : (file : List ℕ) (code : CodeShape) (world next : WorldShape) (one : ℕ × Event)
+follow_first : (file : List ℕ) (code : CodeShape) (table : ReleasesShape) (world next : WorldShape) (one : ℕ × Event)
     (said : List (ℕ × Event)) → IsStep code world one.1 next →
     Decided (IsSecret code world one.1) → Decided (IsQuiet code world) →
-    HasOutcome (EventsFollowed file code next said) →
-    HasOutcome (EventsFollowed file code world (one ∷ said))
-follow_first file code world next one said step secret quiet (_, followed rest is) =
-    let kept = some_kept code world one rest secret quiet in
-    (given kept.0, followed kept.0 (next, rest, step, is, kept.1))
-follow_first file code world next one said step secret quiet (_, refused at why stops) =
+    HasOutcome (EventsFollowed file code table next said) →
+    HasOutcome (EventsFollowed file code table world (one ∷ said))
+follow_first file code table world next one said step secret quiet (_, followed rest is values) =
+    let kept = some_kept code world one rest.run secret quiet in
+    let own = some_released code table world one.1 secret in
+    let it : FollowedRun = record { run = kept.0; released = own.0 ++ rest.released } in (
+      given it,
+      followed it (next, rest.run, step, is, kept.1)
+          (released_first code table world next one.1 (events_in said) own.0 rest.released step own.1 values),
+    )
+follow_first file code table world next one said step secret quiet (_, refused at why stops) =
     (stopped (event_refused file at why), refused at why (inr (next, step, stops)))
 
-follow_some : CompareCauses → (file : List ℕ) (code : CodeShape) → IsSoundCode code → (said : List (ℕ × Event))
-    (world : WorldShape) → ShapeFits code world → All (λ one. HasOwnToken world one.1) said →
-    HasOutcome (EventsFollowed file code world said)
-follow_some laws file code sound [] world fits own =
-    (given (record { seen = []; late = None; last = world }), followed _ refl)
-follow_some laws file code sound (one ∷ said) world fits own =
+follow_some : CompareCauses → (file : List ℕ) (code : CodeShape) (table : ReleasesShape) → IsSoundCode code →
+    (said : List (ℕ × Event)) (world : WorldShape) → ShapeFits code world →
+    All (λ one. HasOwnToken world one.1) said → HasOutcome (EventsFollowed file code table world said)
+follow_some laws file code table sound [] world fits own =
+    let it : FollowedRun = record { run = record { seen = []; late = None; last = world }; released = [] } in
+    (given it, followed it refl refl)
+follow_some laws file code table sound (one ∷ said) world fits own =
     ⊎_elim
-    (λ step. follow_first file code world step.0 one said step.1 (laws.secret code world one.1)
+    (λ step. follow_first file code table world step.0 one said step.1 (laws.secret code world one.1)
     (laws.quiet code world fits)
-    (follow_some laws file code sound said step.0
+    (follow_some laws file code table sound said step.0
     (laws.steps.fits code world step.0 one.1 sound fits (own 0 one (omega arith)) step.1)
     (λ k d lt. laws.own code world step.0 one.1 _ step.1 (own (suc k) d (omega arith)))))
     (λ why. (stopped (event_refused file one why.0), refused one why.0 (inl (refl, why.1))))
@@ -235,36 +246,38 @@ prompt_some file run =
 
 -- ---- what is due
 
-compared_some : (placed : PlacedSource) (one other : List SentMessage) → HasVerdict (Compared placed one other)
-compared_some placed one other =
-    ⊎_elim (λ alike. (Print Done (agree_text one other), agree alike))
+compared_some : (placed : PlacedSource) (one other : List SentMessage) (released released_too : List ℤ) →
+    HasVerdict (Compared placed one other released released_too)
+compared_some placed one other released released_too =
+    let lines = release_lines released released_too in
+    ⊎_elim (λ alike. (Print Done (agree_text one other ++ lines), agree alike))
     (λ apart. (
-      Print Differ (differ_text apart.0 (first_release placed.source.tree)),
+      Print Differ (differ_text apart.0 (first_release placed.source.tree) ++ lines),
       differ apart.0 apart.1,
     ))
     (alike_or_differ same_sent one other)
 
-runs_due : CompareCauses → (placed : PlacedSource) (file : List ℕ) (said : ScriptShape) (run : Followed)
-    (other : List ℕ)
-    (said_too : ScriptShape) (run_too : Followed) →
+runs_due : CompareCauses → (placed : PlacedSource) (file : List ℕ) (said : ScriptShape) (run : FollowedRun)
+    (other : List ℕ) (said_too : ScriptShape) (run_too : FollowedRun) →
     HasVerdict (DueForRuns placed file said run other said_too run_too)
 runs_due laws placed file said run other said_too run_too =
     some_due (SameMisbehave said said_too) _ (misbehave_some said said_too) (λ _ _.
     some_due (SameStarts placed said said_too) _ (starts_some laws placed said said_too) (λ _ _.
-    some_due (SameEvents file run run_too) _ (events_some file run run_too) (λ _ _.
-    some_due (IsPromptRun file run) _ (prompt_some file run) (λ _ _.
-    some_due (IsPromptRun other run_too) _ (prompt_some other run_too) (λ _ _.
-    compared_some placed run.last.sent run_too.last.sent)))))
+    some_due (SameEvents file run.run run_too.run) _ (events_some file run.run run_too.run) (λ _ _.
+    some_due (IsPromptRun file run.run) _ (prompt_some file run.run) (λ _ _.
+    some_due (IsPromptRun other run_too.run) _ (prompt_some other run_too.run) (λ _ _.
+    compared_some placed run.run.last.sent run_too.run.last.sent run.released run_too.released)))))
 
 -- a script that was read is followed
 script_followed : CompareCauses → CodeLaws → (placed : PlacedSource) → IsSoundCode (code_of placed) →
     (file script : List ℕ) (said : ScriptShape) → ScriptRead file script (code_of placed) (given said) →
-    HasOutcome (EventsFollowed file (code_of placed) (first_world placed said.bad said.start) said.events)
+    HasOutcome (ScriptFollowed placed file said)
 script_followed laws code_laws placed sound file script _ (read said short is) =
     let code = code_of placed in
     let rows = placed.source.file.hosts in
     let are = code_hosts placed code refl in
-    follow_some laws file code sound said.events (first_world placed said.bad said.start)
+    follow_some laws file code (releases_of (program_of placed)) sound said.events
+    (first_world placed said.bad said.start)
     (code_laws.start code rows said.bad said.start sound are)
     (own_in_first laws.own_at_start code rows said.bad said.start said (first_world placed said.bad said.start)
     said.events are refl refl refl (laws.said_own code script said is))
@@ -278,9 +291,9 @@ compare_some laws code_laws scripts program hosts placed accepted file script ot
     let due : HasVerdict (DueForScripts file script other script_too placed) =
     some_due (ScriptRead file script code) _ (script_some scripts file script code) (λ said was.
     some_due (ScriptRead other script_too code) _ (script_some scripts other script_too code) (λ said_too was_too.
-    some_due (EventsFollowed file code (first_world placed said.bad said.start) said.events) _
+    some_due (ScriptFollowed placed file said) _
     (script_followed laws code_laws placed sound file script said was) (λ run _.
-    some_due (EventsFollowed other code (first_world placed said_too.bad said_too.start) said_too.events) _
+    some_due (ScriptFollowed placed other said_too) _
     (script_followed laws code_laws placed sound other script_too said_too was_too) (λ run_too _.
     runs_due laws placed file said run other said_too run_too)))) in
     (due.0, (seen.0, seen.1, due.1))

@@ -98,7 +98,7 @@ sent_lines_more code sent i one lt is =
     report.numbered_more (sent_lines code) (sent_line code) (λ n. refl) (λ n x xs. refl) sent i one lt
     ∙ ap (λ m. lines_text (sent_lines code 0 (take i sent)) ++ (sent_line code i m ++ 10 ∷ [])) is
 
-range_push : (a n j : ℕ) → a + n ≡ j → range_with_len a (suc n) ≡ range_with_len a n ++ j ∷ []
+pub range_push : (a n j : ℕ) → a + n ≡ j → range_with_len a (suc n) ≡ range_with_len a n ++ j ∷ []
 range_push a zero j is =
     let same : a ≡ j = omega (arith, is) in
     ap (λ (k : ℕ). k ∷ []) same

@@ -15,7 +15,7 @@ run_with seen world = record { seen = map (λ one. one.now) seen.events.items; l
 
 -- and the values that they released
 abbrev pub run_of : following.Followed → FollowedRun
-run_of it = record { run = run_with it.seen (world_of it.world); released = it.seen.released.items }
+run_of it = record { run = run_with it.seen (world_of it.world); released = it.released.items }
 
 -- the line that was late first
 abbrev pub first_late : Option ℕ → ℕ → Option ℕ

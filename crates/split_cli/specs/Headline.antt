@@ -5,7 +5,7 @@
 -- run is at its end once an obeying root has halted. `StandsPlainly` says it of all fields, and that no message was
 -- ignored. What misbehaving hosts may affect may be altered in that run. Only by `endorse` does a program let it decide
 -- on the rest: so without one the rest is that of the plain run itself (`FollowsUnaltered`).
-use Rattle.std.specs.Prelude.{◌≡◌, ℕ, ◌+◌, ◌*◌, ◌≤◌, ℤ, List, length, map, Option, Some, Ok}
+use Rattle.std.specs.Prelude.{◌≡◌, ℕ, ◌+◌, ◌*◌, ◌≤◌, ℤ, List, [], length, map, Option, Some, Ok}
 use Rattle.js_base.specs.declared.limits.TheConstants.{SCRIPT_BYTES}
 use Rattle.js_base.specs.declared.status.Status.{Status}
 use Rattle.js_base.specs.declared.status.Status.TheVariants.{Done, Differ}
@@ -169,6 +169,7 @@ pub record IsPrivate (program hosts one other : List ℕ) (status : Status) (tex
   pub reported : Compared placed first.last.sent second.last.sent released released_too (Print status text)
   pub released_alike : AreAlike released released_too → AreAlike first.last.sent second.last.sent
   pub differs : status ≡ Differ → ¬ AreAlike released released_too
+  pub silent : ReleasesNothing placed.source.tree → (released ≡ []) × (released_too ≡ [])
   pub told_alike : ReleasesNothing placed.source.tree → AreAlike first.last.sent second.last.sent
   pub never_differs : ReleasesNothing placed.source.tree → status ≡ Done
 

@@ -20,19 +20,19 @@ use net_world::{ReplayError, World, refused};
 use split_rules::ReleaseTable;
 use std::alloc::Global;
 
-/// What is kept of the events of a run: those that misbehaving hosts may see, with their lines, the line of the first of
-/// these at whose moment the world was not quiet, and the values that they released.
+/// What is kept of the events of a run: those that misbehaving hosts may see, with their lines, and the line of the
+/// first of these at whose moment the world was not quiet.
 #[derive(Drop)]
 pub struct Seen<'a> {
     pub events: Vec<&'a (u32, Event)>,
     pub late: Option<u32>,
-    pub released: Vec<i64>,
 }
 
-/// A run of a script: what is kept of its events, and the world that they left.
+/// A run of a script: what is kept of its events, the values that they released, and the world that they left.
 #[derive(Drop)]
 pub struct Followed<'a> {
     pub seen: Seen<'a>,
+    pub released: Vec<i64>,
     pub world: World,
 }
 
@@ -55,35 +55,33 @@ pub fn follow<'a>(
     ensures follow { EndsAs run_of (EventsFollowed name.now code.now table.now (world_of from) events.now) result }
 {
     let mut world = from;
-    match seen_events(alloc, code, table, &mut world, events) {
-        Ok(seen) => Ok(Followed { seen, world }),
+    let mut released = Vec::new(alloc);
+    match seen_events(alloc, code, table, &mut world, &mut released, events) {
+        Ok(seen) => Ok(Followed {
+            seen,
+            released,
+            world,
+        }),
         Err(error) => Err(events_refused(alloc, name, error)),
     }
 }
 
 impl<'a> Seen<'a> {
-    /// Keeps an event with its line and what it releases, where misbehaving hosts may see it.
+    /// Keeps an event with its line, where misbehaving hosts may see it.
     fn keep(
         &mut self,
-        alloc: Global,
         code: &Code,
-        table: &ReleaseTable,
         world: &World,
         said: &'a (u32, Event),
     ) -> Result<(), OutOfMemory>
         requires { WorldFits code.now world.now }
-        ensures added { OnOk result ((last : WorldShape) → IsAdded code.now (world_of world.now) said.now
+        ensures { OnOk result ((last : WorldShape) → IsAdded code.now (world_of world.now) said.now
             (run_with self.old last) (run_with self.new last)) }
-        ensures released { OnOk result ((own : List ℤ)
-            × Releases code.now table.now (world_of world.now) said.now.1 own
-            × (self.new.released.items ≡ self.old.released.items ++ own)) }
     {
         if world.secret(code, &said.1) {
             return Ok(());
         }
         let quiet = world.quiet(code);
-        let own = world.releases(alloc, code, table, &said.1)?;
-        self.released.extend_from_slice(&own)?;
         self.push(quiet, said)
     }
 
@@ -93,7 +91,6 @@ impl<'a> Seen<'a> {
             ≡ map (λ one. one.now) self.old.events.items ++ said.now ∷ []) }
         ensures late { OnOk result (self.new.late
             ≡ (if quiet then self.old.late else first_late self.old.late said.now.0)) }
-        ensures released { OnOk result (self.new.released ≡ self.old.released) }
     {
         self.events.push(said)?;
         if !quiet {
@@ -103,21 +100,42 @@ impl<'a> Seen<'a> {
     }
 }
 
-/// Makes events happen, each of which stands on a line, up to the first that is refused.
+/// Adds the values that an event would release in a world.
+fn add_released(
+    alloc: Global,
+    code: &Code,
+    table: &ReleaseTable,
+    world: &World,
+    event: &Event,
+    released: &mut Vec<i64>,
+) -> Result<(), OutOfMemory>
+    requires { WorldFits code.now world.now }
+    ensures { OnOk result ((own : List ℤ) × Releases code.now table.now (world_of world.now) event.now own
+        × (released.new.items ≡ released.old.items ++ own)) }
+{
+    let own = world.releases(alloc, code, table, event)?;
+    released.extend_from_slice(&own)?;
+    Ok(())
+}
+
+/// Makes events happen, each of which stands on a line, up to the first that is refused. The list takes what each of
+/// them releases.
 fn seen_events<'a>(
     alloc: Global,
     code: &Code,
     table: &ReleaseTable,
     world: &mut World,
+    released: &mut Vec<i64>,
     events: &'a [(u32, Event)],
 ) -> Result<Seen<'a>, ReplayError>
     requires fits { WorldFits code.now world.old }
     requires fresh { HaveMade 0 world.old.hosts }
     requires own { All (λ one. HasOwnToken (world_of world.old) one.1) events.now }
+    requires none { released.old.items ≡ [] }
     ensures followed { IfOk result (λ seen.
         IsFollowed code.now (world_of world.old) events.now (run_with seen (world_of world.new))) }
-    ensures released { IfOk result (λ seen.
-        AreReleased code.now table.now (world_of world.old) (events_in events.now) seen.released.items) }
+    ensures released { OnOk result
+        (AreReleased code.now table.now (world_of world.old) (events_in events.now) released.new.items) }
     ensures refused { IfErr result (IsReplayError code.now (world_of world.old) events.now) }
     ensures fits { WorldFits code.now world.new }
 {
@@ -125,11 +143,11 @@ fn seen_events<'a>(
     let mut seen = Seen {
         events: Vec::new(alloc),
         late: None,
-        released: Vec::new(alloc),
     };
     for said in events {
-        seen.keep(alloc, code, table, world, said)?;
+        seen.keep(code, world, said)?;
         let (line, event) = said;
+        add_released(alloc, code, table, world, event, released)?;
         if let Err(error) = world.apply(code, event) {
             return Err(refused(*line, event, error));
         }

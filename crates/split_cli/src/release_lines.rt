@@ -1,6 +1,6 @@
 //! The values that two runs released, as lines.
 
-ghost use Rattle.std.specs.Prelude.{◌≡◌, ◌++◌, OnOk, option_copied};
+ghost use Rattle.std.specs.Prelude.{◌≡◌, ◌++◌, OnOk, length, max, option_copied};
 ghost use Rattle.std.specs.String.{string_bytes};
 ghost use Rattle.split_cli.specs.ReleaseLines.{release_line, release_lines, value_or_dash};
 
@@ -11,10 +11,21 @@ use std::fmt::Write;
 pub fn push_release_lines(text: &mut String, one: &[i64], other: &[i64]) -> Result<(), OutOfMemory>
     ensures { OnOk result (string_bytes text.new ≡ string_bytes text.old ++ release_lines one.now other.now) }
 {
-    for number in 0..one.len().max(other.len()) {
+    for number in 0..longer_len(one, other) {
         push_line(text, number, one.get(number), other.get(number))?;
     }
     Ok(())
+}
+
+/// The length of the longer of two lists.
+fn longer_len(one: &[i64], other: &[i64]) -> usize
+    ensures { result ≡ max (length one.now) (length other.now) }
+{
+    if one.len() < other.len() {
+        other.len()
+    } else {
+        one.len()
+    }
 }
 
 /// Adds the line of a number, with the value of each run that released so many.

@@ -105,7 +105,7 @@ fn due_for_said(
         placed,
         run.world.sent(),
         other_run.world.sent(),
-        &run.seen.released,
-        &other_run.seen.released,
+        &run.released,
+        &other_run.released,
     )?)
 }

@@ -1,8 +1,9 @@
-use Rattle.std.proofs.Common.{◌≡◌, ℕ, sym, ap, ◌∙◌, subst}
+use Rattle.std.proofs.Common.{◌≡◌, ℕ, List, ◌++◌, sym, ap, ◌∙◌, subst}
 use Rattle.std.proofs.lemmas.Result.{IfOk-weaker}
-use Rattle.js_base.specs.declared.status.Status.TheVariants.{Differ}
+use Rattle.js_base.specs.declared.status.Status.TheVariants.{Done, Differ}
 use Rattle.split_cli.specs.Compare.{Compared, agree, differ, differ_text}
 use Rattle.front_end.specs.PlacedShapes.{PlacedModel, placed_shape}
+use Rattle.split_cli.specs.ReleaseLines.{release_lines}
 use Rattle.split_cli.specs.Releases.{first_release}
 use Rattle.front_end.specs.SourceShapes.{SourceModel}
 use Rattle.front_end.specs.Verdicts.{VerdictShape, Print}
@@ -10,9 +11,13 @@ use Rattle.split_cli.proofs.comparing.compared.Goals as goal
 
 pub returns-in_default : goal.returns-in_default
 returns-in_default c =
-    let Due : VerdictShape → Type 0 = Compared (placed_shape c.args.placed.now) c.args.one.now c.args.other.now in
-    IfOk-weaker c.agreement.result _ _ (λ verdict is. subst Due (sym is) (agree c.in_default.ensures))
-    c.agreement.ensures
+    let Due : VerdictShape → Type 0 = Compared (placed_shape c.args.placed.now) c.args.one.now c.args.other.now
+    c.args.released.now c.args.released_too.now in
+    let Behind : List ℕ → VerdictShape =
+    λ line. Print Done (line ++ release_lines c.args.released.now c.args.released_too.now) in
+    IfOk-weaker c.with_release_lines.result _ _
+    (λ verdict is. subst Due (sym (is ∙ ap Behind c.in_ok-text.ensures)) (agree c.in_default.ensures))
+    c.with_release_lines.ensures
 
 pub returns : goal.returns
 returns c =
@@ -24,11 +29,14 @@ returns c =
       plan = c.placed.inside.plan;
     } in
     let same : with_source source ≡ c.args.placed.now = ap with_source c.source.view_is ∙ c.placed.view_is in
-    let released : c.in_ok-statement.statement ≡ first_release (placed_shape c.args.placed.now).source.tree =
+    let first : c.in_ok-statement.statement ≡ first_release (placed_shape c.args.placed.now).source.tree =
     c.in_ok-statement.ensures ∙ ap (λ (placed : PlacedModel). first_release (placed_shape placed).source.tree) same in
-    let Due : VerdictShape → Type 0 = Compared (placed_shape c.args.placed.now) c.args.one.now c.args.other.now in
-    IfOk-weaker c.difference.result _ _
+    let Due : VerdictShape → Type 0 = Compared (placed_shape c.args.placed.now) c.args.one.now c.args.other.now
+    c.args.released.now c.args.released_too.now in
+    let Behind : List ℕ → VerdictShape =
+    λ line. Print Differ (line ++ release_lines c.args.released.now c.args.released_too.now) in
+    IfOk-weaker c.with_release_lines-2.result _ _
     (λ verdict is. subst Due
-    (sym (is ∙ ap (λ (statement : ℕ). Print Differ (differ_text c.in-Some.place statement)) released))
+    (sym (is ∙ ap Behind (c.in_ok-text-2.ensures ∙ ap (differ_text c.in-Some.place) first)))
     (differ c.in-Some.place c.in-Some.ensures))
-    c.difference.ensures
+    c.with_release_lines-2.ensures

@@ -1,6 +1,7 @@
 use Rattle.std.proofs.Common.{◌≡◌, ℕ}
 use Rattle.std.proofs.lemmas.Result.{IfOk-weaker}
-use Rattle.split_cli.specs.Compare.{AreAlike, GoApart, holds}
+use Rattle.net_world.specs.Released.{AreAlike}
+use Rattle.split_cli.specs.Compare.{GoApart, holds}
 use Rattle.split_cli.specs.FollowedRuns.{run_with}
 use Rattle.net_world.specs.Replay.{events_in}
 use Rattle.front_end.specs.Verdicts.{events_differ}

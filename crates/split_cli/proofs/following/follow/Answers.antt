@@ -10,13 +10,16 @@ use Rattle.split_cli.proofs.following.follow.Goals as goal
 
 pub returns-in-Ok : goal.returns-in-Ok
 returns-in-Ok c = record {
-  follow = followed (run_with c.in-Ok.seen (world_of c.seen_events.new.world)) c.in-Ok.ensures.followed;
+  follow = followed (record {
+    run = run_with c.in-Ok.seen (world_of c.seen_events.new.world);
+    released = c.seen_events.new.released.items;
+  }) c.in-Ok.ensures.followed c.in-Ok.ensures.released;
 }
 
 pub returns : goal.returns
 returns c =
     let Stops : VerdictShape → Type 0 =
-    λ verdict. EventsFollowed c.args.name.now c.args.code.now (world_of c.args.from) c.args.events.now
+    λ verdict. EventsFollowed c.args.name.now c.args.code.now c.args.table.now (world_of c.args.from) c.args.events.now
     (stopped verdict) in
     record {
       follow = stops_weaker (AreRefused c.args.name.now c.args.code.now (world_of c.args.from) c.args.events.now) Stops

@@ -1,11 +1,12 @@
 use Rattle.std.proofs.Common.{◌≡◌, ℕ, refl, ap, subst, Some, Err, get_or}
 use Rattle.event_text.specs.declared.event.Event.{Event}
 use Rattle.net_world.specs.Fits.{world_of}
+use Rattle.net_world.specs.Released.{Releases}
 use Rattle.net_world.specs.Replay.{IsErrorOf}
 use Rattle.net_world.specs.World.{IsStep, refusal_of, not_bad, not_there, host_busy, no_such_token}
 use Rattle.net_world.proofs.ReplayedEvents.{stops}
 use Rattle.split_cli.specs.FollowedRuns.{IsAdded, run_with}
-use Rattle.split_cli.proofs.FollowedEvents.{followed_more, followed_ran}
+use Rattle.split_cli.proofs.FollowedEvents.{followed_more, followed_ran, released_more, released_all}
 use Rattle.split_cli.proofs.following.seen_events.Goals as goal
 
 pub returns-in-Err-clause-refused : goal.returns-in-Err-clause-refused
@@ -22,6 +23,14 @@ returns-in-Err-clause-refused c =
     (λ count same. subst (λ it. refusal it ≡ Some (no_such_token count)) here
     ((c.in-Err.ensures.no_token count).0 (ap Err same)))
 
+pub loop-said-init-clause-released : goal.loop-said-init-clause-released
+loop-said-init-clause-released c = c.requires.none
+
+pub returns-clause-released : goal.returns-clause-released
+returns-clause-released c =
+    released_all c.args.code.now c.args.table.now (world_of c.args.world.now) c.args.events.now
+    c.loop-said.said-index c.loop-said.released.items c.loop-said-test.false c.loop-said.invariant.released
+
 pub loop-said-preserved : goal.loop-said-preserved
 loop-said-preserved c = record {
   followed = followed_more c.args.code.now (world_of c.args.world.now) (world_of c.loop-said.world)
@@ -33,6 +42,11 @@ loop-said-preserved c = record {
       c.said-item.is (c.in_ok-keep.ensures (world_of c.loop-said.world)))
       (subst (λ (it : ℕ × Event). IsStep c.args.code.now (world_of c.loop-said.world) it.1 (world_of c.apply.new.self))
       c.said-item.is c.in_default.ensures.ok);
+  released = released_more c.args.code.now c.args.table.now (world_of c.args.world.now) (world_of c.loop-said.world)
+      c.args.events.now c.loop-said.said-index c.said-item.result c.loop-said.released.items c.in_ok-add_released.ensures.0
+      _ c.loop-said-test.true (followed_ran _ _ _ _ c.loop-said.invariant.followed) c.loop-said.invariant.released
+      (subst (λ (it : ℕ × Event). Releases c.args.code.now c.args.table.now (world_of c.loop-said.world) it.1
+      c.in_ok-add_released.ensures.0) c.said-item.is c.in_ok-add_released.ensures.1) c.in_ok-add_released.ensures.2;
   fits = c.apply.ensures.fits;
   made = c.in_default.ensures.made _ c.loop-said.invariant.made;
   own = λ k d less.

@@ -51,7 +51,11 @@ all_laws c = record {
 }
 
 private_laws : (c : goal.After-word_laws) → PrivateLaws
-private_laws c = record { told_alike = c.run_laws.ensures.split; one_step = c.step_laws.ensures.one }
+private_laws c = record {
+  told_alike = c.run_laws.ensures.released;
+  none_released = c.run_laws.ensures.none;
+  one_step = c.step_laws.ensures.one;
+}
 
 words : (c : goal.After-word_laws) → WordLaws
 words c = record {

@@ -9,11 +9,17 @@ use Rattle.split_cli.proofs.CompareDue.{followed_as, misbehave_as, starts_as, co
 use Rattle.front_end.proofs.Stages.{due_handed_on, memory_ran_out, stops_weaker}
 use Rattle.split_cli.proofs.commands.compare.due_for_said.Goals as goal
 
+pub returns-in_err-table : goal.returns-in_err-table
+returns-in_err-table c =
+    memory_ran_out (DueForSaid (placed_shape c.args.placed.now) c.args.name.now c.args.one.now c.args.other_name.now
+    c.args.other.now)
+    c.from_residual.result c.from_residual.ensures
+
 pub returns-in_err-world : goal.returns-in_err-world
 returns-in_err-world c =
     memory_ran_out (DueForSaid (placed_shape c.args.placed.now) c.args.name.now c.args.one.now c.args.other_name.now
     c.args.other.now)
-    c.from_residual.result c.from_residual.ensures
+    c.from_residual-in_err-world.result c.from_residual-in_err-world.ensures
 
 pub returns-in_err-run : goal.returns-in_err-run
 returns-in_err-run c =
@@ -21,14 +27,15 @@ returns-in_err-run c =
     c.args.other.now)
     c.in_err-run.field-0.0 c.from_residual-in_err-run.result
     c.from_residual-in_err-run.ensures
-    (stops_weaker (λ verdict. EventsFollowed c.args.name.now c.args.code.now (world_of c.in_ok-world.world)
+    (stops_weaker (λ verdict. EventsFollowed c.args.name.now c.args.code.now c.in_ok-table.table
+    (world_of c.in_ok-world.world)
     c.events.result.now (stopped verdict))
     (DueForSaid (placed_shape c.args.placed.now) c.args.name.now c.args.one.now c.args.other_name.now
     c.args.other.now)
     c.in_err-run.field-0.0
     (λ verdict was.
-    inr (followed_as c.args.name.now (placed_shape c.args.placed.now) c.args.code.now c.args.one.now _ _
-    (stopped verdict) c.requires.code c.in_ok-world.ensures.first c.events.ensures was))
+    inr (followed_as c.args.name.now (placed_shape c.args.placed.now) c.args.code.now c.args.one.now _ _ _
+    (stopped verdict) c.requires.code c.in_ok-table.ensures c.in_ok-world.ensures.first c.events.ensures was))
     c.in_err-run.ensures.follow)
 
 pub returns-in_err-other_world : goal.returns-in_err-other_world
@@ -43,7 +50,7 @@ returns-in_err-other_run c =
     c.args.other.now)
     c.in_err-other_run.field-0.0 c.from_residual-in_err-other_run.result
     c.from_residual-in_err-other_run.ensures
-    (stops_weaker (λ verdict. EventsFollowed c.args.other_name.now c.args.code.now
+    (stops_weaker (λ verdict. EventsFollowed c.args.other_name.now c.args.code.now c.in_ok-table.table
     (world_of c.in_ok-other_world.other_world) c.events-2.result.now (stopped verdict))
     (DueForSaid (placed_shape c.args.placed.now) c.args.name.now c.args.one.now c.args.other_name.now
     c.args.other.now)
@@ -51,11 +58,11 @@ returns-in_err-other_run c =
     (λ verdict was.
     inl (
       run_of c.in_ok-run.run',
-      followed_as c.args.name.now (placed_shape c.args.placed.now) c.args.code.now c.args.one.now _ _
-          (given (run_of c.in_ok-run.run')) c.requires.code c.in_ok-world.ensures.first c.events.ensures
+      followed_as c.args.name.now (placed_shape c.args.placed.now) c.args.code.now c.args.one.now _ _ _
+          (given (run_of c.in_ok-run.run')) c.requires.code c.in_ok-table.ensures c.in_ok-world.ensures.first c.events.ensures
           c.in_ok-run.ensures.follow,
-      inr (followed_as c.args.other_name.now (placed_shape c.args.placed.now) c.args.code.now c.args.other.now _ _
-          (stopped verdict) c.requires.code c.in_ok-other_world.ensures.first c.events-2.ensures was),
+      inr (followed_as c.args.other_name.now (placed_shape c.args.placed.now) c.args.code.now c.args.other.now _ _ _
+          (stopped verdict) c.requires.code c.in_ok-table.ensures c.in_ok-other_world.ensures.first c.events-2.ensures was),
     ))
     c.in_err-other_run.ensures.follow)
 
@@ -70,10 +77,10 @@ returns-in_err-same_misbehave c =
     c.args.other.now)
     c.in_err-same_misbehave.field-0.0
     (λ verdict was.
-    runs_due (placed_shape c.args.placed.now) c.args.code.now c.args.name.now c.args.one.now
+    runs_due (placed_shape c.args.placed.now) c.args.code.now c.in_ok-table.table c.args.name.now c.args.one.now
     (run_of c.in_ok-run.run') c.args.other_name.now c.args.other.now (run_of c.in_ok-other_run.other_run) _ _ _ _
     verdict
-    c.requires.code c.in_ok-world.ensures.first c.events.ensures c.in_ok-run.ensures.follow
+    c.requires.code c.in_ok-table.ensures c.in_ok-world.ensures.first c.events.ensures c.in_ok-run.ensures.follow
     c.in_ok-other_world.ensures.first c.events-2.ensures c.in_ok-other_run.ensures.follow
     (inr (misbehave_as c.args.one.now c.args.other.now _ _ (stopped verdict) c.bad.ensures c.bad-2.ensures
     was)))
@@ -91,10 +98,10 @@ returns-in_err-same_starts c =
     c.args.other.now)
     c.in_err-same_starts.field-0.0
     (λ verdict was.
-    runs_due (placed_shape c.args.placed.now) c.args.code.now c.args.name.now c.args.one.now
+    runs_due (placed_shape c.args.placed.now) c.args.code.now c.in_ok-table.table c.args.name.now c.args.one.now
     (run_of c.in_ok-run.run') c.args.other_name.now c.args.other.now (run_of c.in_ok-other_run.other_run) _ _ _ _
     verdict
-    c.requires.code c.in_ok-world.ensures.first c.events.ensures c.in_ok-run.ensures.follow
+    c.requires.code c.in_ok-table.ensures c.in_ok-world.ensures.first c.events.ensures c.in_ok-run.ensures.follow
     c.in_ok-other_world.ensures.first c.events-2.ensures c.in_ok-other_run.ensures.follow
     (inl (
       tt,
@@ -114,16 +121,16 @@ returns-in_err-same_events c =
     c.args.other.now)
     c.in_err-same_events.field-0.0 c.from_residual-in_err-same_events.result
     c.from_residual-in_err-same_events.ensures
-    (stops_weaker (λ verdict. SameEvents c.args.name.now (run_of c.in_ok-run.run')
-    (run_of c.in_ok-other_run.other_run) (stopped verdict))
+    (stops_weaker (λ verdict. SameEvents c.args.name.now (run_of c.in_ok-run.run').run
+    (run_of c.in_ok-other_run.other_run).run (stopped verdict))
     (DueForSaid (placed_shape c.args.placed.now) c.args.name.now c.args.one.now c.args.other_name.now
     c.args.other.now)
     c.in_err-same_events.field-0.0
     (λ verdict was.
-    runs_due (placed_shape c.args.placed.now) c.args.code.now c.args.name.now c.args.one.now
+    runs_due (placed_shape c.args.placed.now) c.args.code.now c.in_ok-table.table c.args.name.now c.args.one.now
     (run_of c.in_ok-run.run') c.args.other_name.now c.args.other.now (run_of c.in_ok-other_run.other_run) _ _ _ _
     verdict
-    c.requires.code c.in_ok-world.ensures.first c.events.ensures c.in_ok-run.ensures.follow
+    c.requires.code c.in_ok-table.ensures c.in_ok-world.ensures.first c.events.ensures c.in_ok-run.ensures.follow
     c.in_ok-other_world.ensures.first c.events-2.ensures c.in_ok-other_run.ensures.follow
     (inl (
       tt,
@@ -148,15 +155,15 @@ returns-in_err-is_prompt c =
     c.args.other.now)
     c.in_err-is_prompt.field-0.0 c.from_residual-in_err-is_prompt.result
     c.from_residual-in_err-is_prompt.ensures
-    (stops_weaker (λ verdict. IsPromptRun c.args.name.now (run_of c.in_ok-run.run') (stopped verdict))
+    (stops_weaker (λ verdict. IsPromptRun c.args.name.now (run_of c.in_ok-run.run').run (stopped verdict))
     (DueForSaid (placed_shape c.args.placed.now) c.args.name.now c.args.one.now c.args.other_name.now
     c.args.other.now)
     c.in_err-is_prompt.field-0.0
     (λ verdict was.
-    runs_due (placed_shape c.args.placed.now) c.args.code.now c.args.name.now c.args.one.now
+    runs_due (placed_shape c.args.placed.now) c.args.code.now c.in_ok-table.table c.args.name.now c.args.one.now
     (run_of c.in_ok-run.run') c.args.other_name.now c.args.other.now (run_of c.in_ok-other_run.other_run) _ _ _ _
     verdict
-    c.requires.code c.in_ok-world.ensures.first c.events.ensures c.in_ok-run.ensures.follow
+    c.requires.code c.in_ok-table.ensures c.in_ok-world.ensures.first c.events.ensures c.in_ok-run.ensures.follow
     c.in_ok-other_world.ensures.first c.events-2.ensures c.in_ok-other_run.ensures.follow
     (inl (
       tt,
@@ -185,15 +192,16 @@ returns-in_err-is_prompt-2 c =
     c.args.other.now)
     c.in_err-is_prompt-2.field-0.0 c.from_residual-in_err-is_prompt-2.result
     c.from_residual-in_err-is_prompt-2.ensures
-    (stops_weaker (λ verdict. IsPromptRun c.args.other_name.now (run_of c.in_ok-other_run.other_run) (stopped verdict))
+    (stops_weaker (λ verdict. IsPromptRun c.args.other_name.now (run_of c.in_ok-other_run.other_run).run
+    (stopped verdict))
     (DueForSaid (placed_shape c.args.placed.now) c.args.name.now c.args.one.now c.args.other_name.now
     c.args.other.now)
     c.in_err-is_prompt-2.field-0.0
     (λ verdict was.
-    runs_due (placed_shape c.args.placed.now) c.args.code.now c.args.name.now c.args.one.now
+    runs_due (placed_shape c.args.placed.now) c.args.code.now c.in_ok-table.table c.args.name.now c.args.one.now
     (run_of c.in_ok-run.run') c.args.other_name.now c.args.other.now (run_of c.in_ok-other_run.other_run) _ _ _ _
     verdict
-    c.requires.code c.in_ok-world.ensures.first c.events.ensures c.in_ok-run.ensures.follow
+    c.requires.code c.in_ok-table.ensures c.in_ok-world.ensures.first c.events.ensures c.in_ok-run.ensures.follow
     c.in_ok-other_world.ensures.first c.events-2.ensures c.in_ok-other_run.ensures.follow
     (inl (
       tt,
@@ -228,10 +236,10 @@ returns-in_err-compared c =
 
 pub returns : goal.returns
 returns c =
-    runs_due (placed_shape c.args.placed.now) c.args.code.now c.args.name.now c.args.one.now
+    runs_due (placed_shape c.args.placed.now) c.args.code.now c.in_ok-table.table c.args.name.now c.args.one.now
     (run_of c.in_ok-run.run') c.args.other_name.now c.args.other.now (run_of c.in_ok-other_run.other_run) _ _ _ _
     _
-    c.requires.code c.in_ok-world.ensures.first c.events.ensures c.in_ok-run.ensures.follow
+    c.requires.code c.in_ok-table.ensures c.in_ok-world.ensures.first c.events.ensures c.in_ok-run.ensures.follow
     c.in_ok-other_world.ensures.first c.events-2.ensures c.in_ok-other_run.ensures.follow
     (inl (
       tt,
@@ -254,8 +262,8 @@ returns c =
             inl (
               tt,
               c.in_ok-is_prompt-2.ensures (world_of c.in_ok-other_run.other_run.world),
-              compared_as (placed_shape c.args.placed.now) _ _ _ _ _ c.sent.ensures c.sent-2.ensures
-                  c.in_ok-compared.ensures,
+              compared_as (placed_shape c.args.placed.now) _ _ _ _ _ _ _ _ _ c.sent.ensures c.sent-2.ensures
+                  c.deref.ensures.value c.deref-2.ensures.value c.in_ok-compared.ensures,
             ),
           ),
         ),
