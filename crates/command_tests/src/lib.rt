@@ -28,4 +28,6 @@ mod node_services;
 #[cfg(test)]
 mod outside;
 #[cfg(test)]
+mod releases;
+#[cfg(test)]
 mod rows;
