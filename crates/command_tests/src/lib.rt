@@ -18,6 +18,8 @@ mod limits;
 #[cfg(test)]
 mod node;
 #[cfg(test)]
+mod node_beginnings;
+#[cfg(test)]
 mod node_parts;
 #[cfg(test)]
 mod node_refusals;
