@@ -61,8 +61,8 @@ ToldAlikeLaw = (placed : PlacedProgram) (bad : ℕ) (store start : List (List �
     let first = world_at_start code placed.hosts.hosts bad store in
     let second = world_at_start code placed.hosts.hosts bad start in
     IsSplittable placed → IsAllowed placed → IsHeld placed → AreResultsLabelled placed.labelled.program →
-    AreReleased code table first events values → AreReleased code table second others values_too →
-    AreAlike values values_too → AreStoresAlike code first store start → All (HasOwnToken first) seen →
+    AreStoresAlike code first store start → AreReleased code table first events values →
+    AreReleased code table second others values_too → AreAlike values values_too → All (HasOwnToken first) seen →
     IsSeenRun code first events (seen ++ more) one → IsSeenRun code second others seen other →
     IsPrompt code first events → IsPrompt code second others →
     (rest : List SentMessage) × (one.sent ≡ other.sent ++ rest)
@@ -104,8 +104,8 @@ longer_tells sets laws program hosts placed tree bad store start events others s
     set_there sets.reading sets.plans sets.granted program hosts placed is_placed.accepted tree is_placed.tree_is in
     laws.told_alike (program_of placed) bad store start events others seen more one other values values_too
     set.splittable set.allowed set.held
-    (results_there sets.reading sets.plans sets.granted program hosts placed is_placed.accepted) first.released
-    second.released same_values alike
+    (results_there sets.reading sets.plans sets.granted program hosts placed is_placed.accepted) alike first.released
+    second.released same_values
     (all_seen (HasOwnToken (first_world placed bad store)) code others seen (first_world placed bad start) other
     second.runs own)
     first.runs second.runs first.prompt second.prompt

@@ -2,7 +2,9 @@
 use Rattle.std.proofs.Common.{◌≡◌, ◌∙◌, ℕ, zero, suc, inl, inr, ◌+◌, ◌<◌, Bool, false, List, [], ◌∷◌, ◌++◌, map}
 use Rattle.std.proofs.Common.{length, refl, ap, sym, subst, arith, length-append, append_assoc}
 use Rattle.std.proofs.Common.{option_map}
-use Rattle.std.proofs.lemmas.Option.{slice_get-map}
+use Rattle.std.proofs.lemmas.Bool.{cases_lt}
+use Rattle.std.proofs.lemmas.List.FromFn.{length-map-range_with_len}
+use Rattle.std.proofs.lemmas.Option.{slice_get-map, slice_get_past}
 use Rattle.std.specs.List.{range_with_len}
 use Rattle.std.specs.Prelude.{Option, Some, None, IfSome, slice_get, unwrap_or}
 use Rattle.js_base.specs.declared.ids.HostId.{HostId}
@@ -311,19 +313,66 @@ released_there scene hosts main emissions walk me place one is =
     let P : ℕ → Type 0 = λ at. ((table_in walk).at me at).released ≡ one.released in
     subst P so.place (ap (λ shade. shade.released) at_is ∙ read.step.released_is)
 
--- and that is its row in the table of releases
-row_there : (hosts : HostsShape) (emissions : List Emission) (me : HostId) (place : ℕ) (one : Emitted) →
-    me.0 < length hosts.hosts → slice_get (emitted_on me emissions) place ≡ Some one →
-    operands_at (releases_by hosts emissions) me place ≡ one.released
-row_there hosts emissions me place one within is =
+-- and nothing, where the program releases nothing
+none_there : (scene : Scene) (hosts : HostsShape) (main : MethodTree) (emissions : List Emission)
+    (walk : Walk scene hosts main emissions) (me : HostId) (place : ℕ) (one : Emitted) → scene.may_release ≡ false →
+    slice_get (emitted_on me emissions) place ≡ Some one → one.released ≡ []
+none_there scene hosts main emissions walk me place one silent is =
+    let first = shades_start scene.basis.labelled.program in
+    let so = found me emissions place one is in
+    let read = instruction_read (Shaded scene) (shade_of scene) Goes Meet (shades_go_on scene) me first emissions
+    so.before one so.behind walk.last so.is so.own (nobody_goes me walk.last walk.ends) walk.shaded in
+    sym read.step.released_is ∙ read.step.is_shade.silent silent
+
+-- the row of a place in the table of releases
+abbrev row_of : Option Emitted → List (List Node)
+row_of found = unwrap_or (option_map (λ (it : Emitted). it.released) found) []
+
+row_at : (hosts : HostsShape) (emissions : List Emission) (me : HostId) (place : ℕ) → me.0 < length hosts.hosts →
+    operands_at (releases_by hosts emissions) me place ≡ row_of (slice_get (emitted_on me emissions) place)
+row_at hosts emissions me place within =
     let make : ℕ → List (List (List Node)) = λ number. released_on emissions (record { 0 = number }) in
     let released : Emitted → List (List Node) = λ it. it.released in
     let numbers = range_with_len 0 (length hosts.hosts) in
     let row : slice_get (releases_by hosts emissions) me.0 ≡ Some (released_on emissions me) =
     slice_get-map make numbers me.0 ∙ ap (option_map make) (number_there (length hosts.hosts) me.0 within) in
     ap (λ own. unwrap_or (slice_get (unwrap_or own []) place) []) row
-    ∙ ap (λ operands. unwrap_or operands [])
-    (slice_get-map released (emitted_on me emissions) place ∙ ap (option_map released) is)
+    ∙ ap (λ operands. unwrap_or operands []) (slice_get-map released (emitted_on me emissions) place)
+
+row_there : (hosts : HostsShape) (emissions : List Emission) (me : HostId) (place : ℕ) (one : Emitted) →
+    me.0 < length hosts.hosts → slice_get (emitted_on me emissions) place ≡ Some one →
+    operands_at (releases_by hosts emissions) me place ≡ one.released
+row_there hosts emissions me place one within is = row_at hosts emissions me place within ∙ ap row_of is
+
+-- no place has a row where no emission there releases anything
+no_row : (hosts : HostsShape) (emissions : List Emission) (me : HostId) (place : ℕ) →
+    ((one : Emitted) → slice_get (emitted_on me emissions) place ≡ Some one → one.released ≡ []) →
+    operands_at (releases_by hosts emissions) me place ≡ []
+no_row hosts emissions me place each =
+    elim (cases_lt me.0 (length hosts.hosts)) [
+      | inl within ↦ row_at hosts emissions me place within ∙ by (slice_get (emitted_on me emissions) place) refl
+      | inr past ↦ ap (λ own. unwrap_or (slice_get (unwrap_or own []) place) [])
+          (slice_get_past (releases_by hosts emissions) me.0 (omega (arith, past, long)))
+    ]
+  where
+    make : ℕ → List (List (List Node))
+    make number = released_on emissions (record { 0 = number })
+
+    long : length (releases_by hosts emissions) ≡ length hosts.hosts
+    long = length-map-range_with_len make 0 (length hosts.hosts)
+
+    by : (found : Option Emitted) → slice_get (emitted_on me emissions) place ≡ found → row_of found ≡ []
+    by None is = refl
+    by (Some one) is = each one is
+
+code_silent : (scene : Scene) (hosts : HostsShape) (main : MethodTree) (emissions : List Emission)
+    (walk : Walk scene hosts main emissions) → scene.may_release ≡ false → (me : HostId) (place : ℕ) →
+    operands_at (releases_by hosts (given scene.basis.labelled scene.planned main emissions)) me place ≡ []
+code_silent scene hosts main emissions walk silent me place =
+    let labelled = scene.basis.labelled in
+    no_row hosts (given labelled scene.planned main emissions) me place
+    (λ one is. none_there scene hosts main emissions walk me place one silent
+    (ap (λ list. slice_get list place) (sym (given_emitted me labelled scene.planned main emissions)) ∙ is))
 
 code_tabled : (scene : Scene) (hosts : HostsShape) (main : MethodTree) (emissions : List Emission)
     (walk : Walk scene hosts main emissions) →
@@ -563,17 +612,19 @@ code_shaded scene hosts main emissions walk homes = record {
 }
 
 -- The code of a split program has a table of shades, and each instruction releases by its shade what it does by its row
--- of the table of releases.
-pub split_is_tabled : (placed : PlacedProgram) (may_release : Bool) → IsSplittable placed → IsAllowed placed →
+-- of the table of releases. Where nothing may be released, no row has an operand.
+split_has_table : (placed : PlacedProgram) (may_release : Bool) → IsSplittable placed → IsAllowed placed →
     IsHeld placed → AreResultsLabelled placed.labelled.program →
     (may_release ≡ false → ReleasesNothing placed.labelled.program) →
     (shades : Shades) × IsShadedCode (scene_of placed may_release) (split_code placed) shades
     × IsTabled (split_code placed) shades (releases_of placed)
-split_is_tabled placed may_release splittable allowed held results silent =
+    × (may_release ≡ false → (host : HostId) (place : ℕ) → operands_at (releases_of placed) host place ≡ [])
+split_has_table placed may_release splittable allowed held results silent =
     subst P (sym (front_is placed.labelled planned main splittable.numbered.main.1)) (
       table_in walk,
       code_shaded scene placed.hosts main emissions walk homes,
       code_tabled scene placed.hosts main emissions walk,
+      code_silent scene placed.hosts main emissions walk,
     )
   where
     planned : PlannedShape
@@ -615,6 +666,24 @@ split_is_tabled placed may_release splittable allowed held results silent =
         × IsShadedCode scene (code_of_emissions placed.labelled placed.hosts planned (front ++ emissions)) shades
         × IsTabled (code_of_emissions placed.labelled placed.hosts planned (front ++ emissions)) shades
         (releases_by placed.hosts (front ++ emissions))
+        × (may_release ≡ false → (host : HostId) (place : ℕ) →
+        operands_at (releases_by placed.hosts (front ++ emissions)) host place ≡ [])
+
+pub split_is_tabled : (placed : PlacedProgram) (may_release : Bool) → IsSplittable placed → IsAllowed placed →
+    IsHeld placed → AreResultsLabelled placed.labelled.program →
+    (may_release ≡ false → ReleasesNothing placed.labelled.program) →
+    (shades : Shades) × IsShadedCode (scene_of placed may_release) (split_code placed) shades
+    × IsTabled (split_code placed) shades (releases_of placed)
+split_is_tabled placed may_release splittable allowed held results silent =
+    let so = split_has_table placed may_release splittable allowed held results silent in
+    (so.0, so.1, so.2)
+
+-- the table of a program that releases nothing has no operand
+pub split_is_untold : (placed : PlacedProgram) → IsSplittable placed → IsAllowed placed → IsHeld placed →
+    AreResultsLabelled placed.labelled.program → ReleasesNothing placed.labelled.program → (host : HostId)
+    (place : ℕ) → operands_at (releases_of placed) host place ≡ []
+split_is_untold placed splittable allowed held results silent =
+    (split_has_table placed false splittable allowed held results (λ none. silent)).3 refl
 
 -- The code of a split program has a table of shades.
 pub split_is_shaded : (placed : PlacedProgram) (may_release : Bool) → IsSplittable placed → IsAllowed placed →

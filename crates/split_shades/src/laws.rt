@@ -13,7 +13,7 @@ ghost use Rattle.split_shades.specs.Sites.{ReleasesNothing, scene_of};
 ghost use Rattle.split_shades.specs.Carried.{AreCarried, IsPushedFor};
 ghost use Rattle.split_shades.specs.ShadedCode.{Shades, IsShadedCode, ReleaseNothing, IsTabled, AreKnownInCode};
 ghost use Rattle.split_rules.specs.SplitCode.{split_code};
-ghost use Rattle.split_rules.specs.Releases.{releases_of};
+ghost use Rattle.split_rules.specs.Releases.{operands_at, releases_of};
 ghost use Rattle.split_shades.specs.Shades.{EntryShade};
 ghost use Rattle.split_rules.specs.Expressions.{released_by};
 ghost use Rattle.split_shades.specs.Worked.{branching, looping, scene_on, code_on, entry_words, instruction_words};
@@ -24,9 +24,10 @@ ghost use Rattle.split_shades.specs.Basis.{read_label};
 ghost use Rattle.jif_tree.specs.LabelRules.{field_label};
 ghost use Rattle.split_rules.specs.Worked.{host_id, field_id, var_id, statement_id};
 ghost use Rattle.js_base.specs.declared.ids.EntryId.{EntryId};
+ghost use Rattle.js_base.specs.declared.ids.HostId.{HostId};
 ghost use Rattle.host_code.specs.declared.instruction.Op.TheVariants as op;
 ghost use Rattle.host_code.specs.declared.code_expr.Node.TheVariants as node;
-ghost use Rattle.std.specs.Prelude.{◌≡◌, Bool, false, List, [], ◌∷◌, Some, slice_get};
+ghost use Rattle.std.specs.Prelude.{◌≡◌, ℕ, Bool, false, List, [], ◌∷◌, Some, slice_get};
 
 /// In a program that was checked and placed, each value flows to where its statement keeps it, and so does the program
 /// label under which it is evaluated. Whoever answers a read may see which element is asked for.
@@ -70,6 +71,10 @@ pub fn shade_laws()
         AreResultsLabelled placed.labelled.program → ReleasesNothing placed.labelled.program →
         (shades : Shades) × IsShadedCode (scene_of placed false)
         (split_code placed) shades × ReleaseNothing (split_code placed) shades }
+    // The table of releases of a program that releases nothing has no operand at any place.
+    ensures untold { (placed : PlacedProgram) → IsSplittable placed → IsAllowed placed → IsHeld placed →
+        AreResultsLabelled placed.labelled.program → ReleasesNothing placed.labelled.program → (host : HostId)
+        (place : ℕ) → operands_at (releases_of placed) host place ≡ [] }
     // Each instruction carries the program label of the statement that it is for, which stands on its host, or that of
     // a block where the right to go on moves. Each entry carries the label of what it is named for: its method, its
     // block, the blocks inside its branch or loop, or its call. A call enters its method.

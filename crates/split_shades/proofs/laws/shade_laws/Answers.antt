@@ -1,6 +1,6 @@
 use Rattle.split_shades.proofs.NamedCode.{split_is_carried}
 use Rattle.split_shades.proofs.KnownCode.{split_is_known}
-use Rattle.split_shades.proofs.ShadedSplit.{split_is_shaded, split_is_tabled, split_is_silent}
+use Rattle.split_shades.proofs.ShadedSplit.{split_is_shaded, split_is_tabled, split_is_silent, split_is_untold}
 use Rattle.split_shades.proofs.laws.shade_laws.Goals as goal
 
 pub returns : goal.returns
@@ -8,6 +8,7 @@ returns c = record {
   shaded = split_is_shaded;
   tabled = split_is_tabled;
   silent = split_is_silent;
+  untold = split_is_untold;
   carried = split_is_carried;
   known = split_is_known;
 }
