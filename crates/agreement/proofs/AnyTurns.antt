@@ -25,10 +25,12 @@ use Rattle.host_core.specs.Host.{HostShape, with_running}
 use Rattle.host_core.specs.Turn.{MayReturn, PassesWith, IsTurnOf, IsRunning}
 use Rattle.event_text.specs.declared.event.Event.{Event}
 use Rattle.event_text.specs.declared.event.Event.TheVariants.{Turn}
+use Rattle.net_world.specs.Released.{released_at}
 use Rattle.net_world.specs.Secret.{IsQuiet}
 use Rattle.net_world.specs.World.{WorldShape, state_at, IsStep, world_at_start}
 use Rattle.net_world.proofs.Present.{same_id}
-use Rattle.split_shades.specs.ShadedCode.{ReleaseNothing}
+use Rattle.split_rules.specs.Releases.{ReleasesShape}
+use Rattle.split_shades.specs.ShadedCode.{IsTabled}
 use Rattle.token_laws.specs.Reached.{IsReached}
 use Rattle.token_laws.proofs.Tests.{itself, some_found}
 use Rattle.token_laws.proofs.Walks.{fits_there}
@@ -199,26 +201,27 @@ turn_kind eyes rows bad store events world after host reach step =
     ]
 
 pub any_agrees : (eyes : Eyes) (rows : List declared_hosts.HostShape) (bad : ℕ) (store start : List (List ℤ))
-    (events others : List Event) (one other one_after other_after : WorldShape) (host : HostId) → AreEyes eyes →
-    ReleaseNothing eyes.code eyes.shades → Watches eyes (world_at_start eyes.code rows bad store) →
+    (events others : List Event) (one other one_after other_after : WorldShape) (host : HostId)
+    (table : ReleasesShape) → AreEyes eyes → IsTabled eyes.code eyes.shades table →
+    released_at table one host ≡ released_at table other host → Watches eyes (world_at_start eyes.code rows bad store) →
     Watches eyes (world_at_start eyes.code rows bad start) → IsReached eyes.code rows bad store events one →
     IsReached eyes.code rows bad start others other → IsStep eyes.code one (Turn host) one_after →
     IsStep eyes.code other (Turn host) other_after → IsQuiet eyes.code one → IsQuiet eyes.code other →
     Agree eyes one other → Agree eyes one_after other_after
-any_agrees eyes rows bad store start events others one other one_after other_after host are silent watch watch_other
-    reach reach_other step step_other quiet quiet_other agree =
+any_agrees eyes rows bad store start events others one other one_after other_after host table are tabled same watch
+    watch_other reach reach_other step step_other quiet quiet_other agree =
     elim (turn_kind eyes rows bad store events one one_after host reach step) [
       | inl alone ↦
-          turn_agrees eyes rows bad store start events others one other one_after other_after host are silent watch
-          watch_other reach reach_other alone step step_other quiet quiet_other agree
+          turn_agrees eyes rows bad store start events others one other one_after other_after host table are tabled same
+          watch watch_other reach reach_other alone step step_other quiet quiet_other agree
       | inr more ↦
           elim more [
             | inl hands ↦
                 hands_agree eyes rows bad store start events others one other one_after other_after host are watch
                 watch_other reach reach_other hands step step_other quiet quiet_other agree
             | inr asks ↦
-                asks_agree eyes rows bad store start events others one other one_after other_after host are silent
-                watch watch_other reach reach_other asks step step_other quiet quiet_other agree
+                asks_agree eyes rows bad store start events others one other one_after other_after host table are
+                tabled same watch watch_other reach reach_other asks step step_other quiet quiet_other agree
           ]
     ]
 

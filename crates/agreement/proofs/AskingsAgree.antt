@@ -1,6 +1,7 @@
--- Two quiet worlds that lead to one view still do after the same turn that may be seen and asks another host.
-use Rattle.std.proofs.Common.{◌≡◌, ◌∙◌, ℕ, Bool, List, [], Option, ap, sym, subst}
-use Rattle.std.specs.Prelude.{true, ℤ}
+-- Two quiet worlds that lead to one view still do after the same turn that may be seen, releases the same and asks
+-- another host.
+use Rattle.std.proofs.Common.{◌≡◌, ◌∙◌, ℕ, Bool, List, Option, ap, sym, subst}
+use Rattle.std.specs.Prelude.{true, ℤ, map}
 use Rattle.js_base.specs.declared.ids.FrameId.{FrameId}
 use Rattle.js_base.specs.declared.ids.HostId.{HostId}
 use Rattle.capability.specs.declared.token.Token.{Token}
@@ -15,10 +16,12 @@ use Rattle.host_core.specs.Host.{HostShape, value_in_thread, next_request}
 use Rattle.event_text.specs.declared.event.Event.{Event}
 use Rattle.event_text.specs.declared.event.Event.TheVariants.{Turn}
 use Rattle.net_world.specs.Fits.{ShapeFits}
+use Rattle.net_world.specs.Released.{released_at}
 use Rattle.net_world.specs.Secret.{IsQuiet}
 use Rattle.net_world.specs.World.{WorldShape, IsStep, world_at_start}
 use Rattle.token_laws.specs.Reached.{IsReached}
-use Rattle.split_shades.specs.ShadedCode.{IsShadedOp, ReleaseNothing}
+use Rattle.split_rules.specs.Releases.{ReleasesShape}
+use Rattle.split_shades.specs.ShadedCode.{IsShadedOp, IsTabled}
 use Rattle.seen_world.specs.Eyes.{Eyes, AreEyes, Watches, is_open}
 use Rattle.seen_world.proofs.SeenPlaces.{some_is}
 use Rattle.agreement.specs.Asking.{RunsAsking, carried_index, carried_asking, Question, asked, request_shown}
@@ -27,7 +30,9 @@ use Rattle.agreement.specs.Handing.{sent_view}
 use Rattle.agreement.specs.Leads.{Leads, Agree}
 use Rattle.agreement.specs.Turns.{Carried, carried_value}
 use Rattle.agreement.specs.Views.{View, masked, sees_variable, sees_read, with_host}
-use Rattle.agreement.proofs.CarriedSame.{Twins, masks_same, read_sees, index_same, operation_same}
+use Rattle.agreement.proofs.CarriedSame.{Twins, ReleaseAlike, masks_same, read_sees, index_same, operation_same}
+use Rattle.agreement.proofs.Lists.{each_same}
+use Rattle.agreement.proofs.ReleasedTurns.{turns_release}
 use Rattle.token_laws.proofs.Tests.{some_found}
 use Rattle.agreement.proofs.SeenAgree.{state_me, twins_of, reached_calm}
 use Rattle.agreement.proofs.SeenAskings.{reached_asks}
@@ -64,25 +69,25 @@ asking_once eyes now host carried first second one two =
 asking_same : (eyes : Eyes) (me : HostId) (one other : HostShape) (thread twin : ThreadShape) (count : ℕ) (it : Op) →
     AreEyes eyes → Twins eyes me one other thread twin → is_open eyes me thread.at ≡ true →
     IsShadedOp eyes.scene eyes.shades me thread.at it → OperationFits eyes.code me count it →
-    (eyes.shades.at me thread.at).released ≡ [] →
+    ReleaseAlike one other thread twin (eyes.shades.at me thread.at).released →
     carried_asking eyes one thread it ≡ carried_asking eyes other twin it
-asking_same eyes me one other thread twin count (op.Read field index) are same seen law fits none =
+asking_same eyes me one other thread twin count (op.Read field index) are same seen law fits releases =
     let number = value_in_thread one thread index in
     let mirror = value_in_thread other twin index in
     ap carried_index
     (ap (λ (b : Bool). masked b number) (read_sees eyes me one other thread twin same)
     ∙ masks_same (sees_read eyes other.me (next_request other twin.at)) number mirror
-    (index_same eyes me one other thread twin count field index are same law fits.1 none))
-asking_same eyes me one other thread twin count (op.Send x to) are same seen law fits none =
+    (index_same eyes me one other thread twin count field index are same law fits.1 releases))
+asking_same eyes me one other thread twin count (op.Send x to) are same seen law fits releases =
     ap carried_value
     (masks_same (sees_variable eyes x) (one.variables thread.frame x) (other.variables twin.frame x) (λ sees.
     same.variables thread.frame x sees ∙ ap (λ (f : FrameId). other.variables f x) (sym same.frame)))
-asking_same eyes me one other thread twin count (op.Pass x to) are same seen law fits none =
+asking_same eyes me one other thread twin count (op.Pass x to) are same seen law fits releases =
     ap carried_value
     (masks_same (sees_variable eyes x) (one.variables thread.new_frame x) (other.variables twin.new_frame x) (λ sees.
     same.variables thread.new_frame x sees ∙ ap (λ (f : FrameId). other.variables f x) (sym same.new_frame)))
-asking_same eyes me one other thread twin count it are same seen law fits none =
-    operation_same eyes me one other thread twin count it are same seen law fits none
+asking_same eyes me one other thread twin count it are same seen law fits releases =
+    operation_same eyes me one other thread twin count it are same seen law fits releases
 
 -- ---- two worlds
 
@@ -108,11 +113,13 @@ asking_too eyes one other after now host fits fits_other calm calm_other run ste
 
 calm_asking : (eyes : Eyes) (one other : WorldShape) (now : View) (host : HostId)
     (run : RunsAsking eyes.code one host) (twin : RunsAsking eyes.code other host) → AreEyes eyes →
-    IsSoundCode eyes.code → ReleaseNothing eyes.code eyes.shades → ShapeFits eyes.code one →
-    ShapeFits eyes.code other → Calm eyes one now → Calm eyes other now →
+    IsSoundCode eyes.code →
+    map (value_in_thread run.state run.thread) (eyes.shades.at host run.thread.at).released
+    ≡ map (value_in_thread twin.state twin.thread) (eyes.shades.at host run.thread.at).released →
+    ShapeFits eyes.code one → ShapeFits eyes.code other → Calm eyes one now → Calm eyes other now →
     carried_asking eyes run.state run.thread run.instruction.op
     ≡ carried_asking eyes twin.state twin.thread twin.instruction.op
-calm_asking eyes one other now host run twin are sound silent fits fits_other calm calm_other =
+calm_asking eyes one other now host run twin are sound same fits fits_other calm calm_other =
     let twins = twins_of eyes one other now host run.state twin.state run.thread twin.thread fits fits_other calm
     calm_other run.there twin.there run.running twin.running in
     let there : twin.instruction ≡ run.instruction =
@@ -123,33 +130,37 @@ calm_asking eyes one other now host run twin are sound silent fits fits_other ca
     (calm_open eyes host run.state.running run.thread run.running (calm.running host run.state run.there))
     (are.shaded.instructions host run.thread.at run.instruction run.is).law
     ((sound.parts host is_host).instructions run.thread.at run.instruction run.is).operation
-    (silent host run.thread.at run.instruction run.is)
+    (each_same (value_in_thread run.state run.thread) (value_in_thread twin.state twin.thread)
+    (eyes.shades.at host run.thread.at).released same)
     ∙ ap (λ (i : Instr). carried_asking eyes twin.state twin.thread i.op) (sym there)
 
 pub asking_carried : (eyes : Eyes) (rows : List declared_hosts.HostShape) (bad : ℕ) (store start : List (List ℤ))
     (events others : List Event) (one other : WorldShape) (host : HostId) (run : RunsAsking eyes.code one host)
-    (twin : RunsAsking eyes.code other host) → AreEyes eyes → ReleaseNothing eyes.code eyes.shades →
+    (twin : RunsAsking eyes.code other host) → AreEyes eyes →
+    map (value_in_thread run.state run.thread) (eyes.shades.at host run.thread.at).released
+    ≡ map (value_in_thread twin.state twin.thread) (eyes.shades.at host run.thread.at).released →
     Watches eyes (world_at_start eyes.code rows bad store) → Watches eyes (world_at_start eyes.code rows bad start) →
     IsReached eyes.code rows bad store events one → IsReached eyes.code rows bad start others other →
     IsQuiet eyes.code one → IsQuiet eyes.code other → Agree eyes one other →
     carried_asking eyes run.state run.thread run.instruction.op
     ≡ carried_asking eyes twin.state twin.thread twin.instruction.op
-asking_carried eyes rows bad store start events others one other host run twin are silent watch watch_other reach
+asking_carried eyes rows bad store start events others one other host run twin are same watch watch_other reach
     reach_other quiet quiet_other agree =
     let calm = reached_calm eyes rows bad store events one agree.shown are watch reach quiet agree.first in
     let calm_other =
     reached_calm eyes rows bad start others other agree.shown are watch_other reach_other quiet_other agree.second in
-    calm_asking eyes one other agree.shown host run twin are reach.sound silent calm.0 calm_other.0 calm.1 calm_other.1
+    calm_asking eyes one other agree.shown host run twin are reach.sound same calm.0 calm_other.0 calm.1 calm_other.1
 
 pub asks_agree : (eyes : Eyes) (rows : List declared_hosts.HostShape) (bad : ℕ) (store start : List (List ℤ))
-    (events others : List Event) (one other one_after other_after : WorldShape) (host : HostId) → AreEyes eyes →
-    ReleaseNothing eyes.code eyes.shades → Watches eyes (world_at_start eyes.code rows bad store) →
+    (events others : List Event) (one other one_after other_after : WorldShape) (host : HostId)
+    (table : ReleasesShape) → AreEyes eyes → IsTabled eyes.code eyes.shades table →
+    released_at table one host ≡ released_at table other host → Watches eyes (world_at_start eyes.code rows bad store) →
     Watches eyes (world_at_start eyes.code rows bad start) → IsReached eyes.code rows bad store events one →
     IsReached eyes.code rows bad start others other → RunsAsking eyes.code one host →
     IsStep eyes.code one (Turn host) one_after → IsStep eyes.code other (Turn host) other_after →
     IsQuiet eyes.code one → IsQuiet eyes.code other → Agree eyes one other → Agree eyes one_after other_after
-asks_agree eyes rows bad store start events others one other one_after other_after host are silent watch watch_other
-    reach reach_other run step step_other quiet quiet_other agree =
+asks_agree eyes rows bad store start events others one other one_after other_after host table are tabled same watch
+    watch_other reach reach_other run step step_other quiet quiet_other agree =
     let now = agree.shown in
     let calm = reached_calm eyes rows bad store events one now are watch reach quiet agree.first in
     let calm_other =
@@ -159,7 +170,11 @@ asks_agree eyes rows bad store start events others one other one_after other_aft
     agree.first in
     let second = reached_asks eyes rows bad start others other other_after host now twin are watch_other reach_other
     step_other quiet_other agree.second in
-    let carried = calm_asking eyes one other now host run twin are reach.sound silent calm.0 calm_other.0 calm.1
+    let twins = twins_of eyes one other now host run.state twin.state run.thread twin.thread calm.0 calm_other.0 calm.1
+    calm_other.1 run.there twin.there run.running twin.running in
+    let releases = turns_release eyes table one other host run.state twin.state run.thread twin.thread run.instruction
+    tabled run.there twin.there run.running twin.running run.is twins.place same in
+    let carried = calm_asking eyes one other now host run twin are reach.sound releases calm.0 calm_other.0 calm.1
     calm_other.1 in
     record {
       shown = first.0;

@@ -1,7 +1,8 @@
--- What a turn carries is the same in two worlds that show the same, where it releases nothing.
-use Rattle.std.proofs.Common.{◌≡◌, ◌≢◌, ◌∙◌, ℕ, zero, suc, ◌+◌, Bool, true, false, List, [], ◌∷◌, ◌++◌, length, arith}
+-- What a turn carries is the same in two worlds that show the same, where it releases the same in both.
+use Rattle.std.proofs.Common.{◌≡◌, ◌∙◌, ℕ, zero, suc, ◌+◌, Bool, true, false, List, [], ◌∷◌, ◌++◌, length, arith}
 use Rattle.std.proofs.Common.{Option, Some, None, inl, inr, refl, ap, sym, subst, append_assoc, append-nil}
 use Rattle.std.specs.Prelude.{ℤ, pos, not, slice_get, map}
+use Rattle.std.specs.List.{AllByRecursion}
 use Rattle.std.proofs.lemmas.Bool.{cases_Bool, false≢true}
 use Rattle.std.proofs.lemmas.List.{map-append, length-append}
 use Rattle.std.proofs.lemmas.Option.{slice_get_cases}
@@ -9,7 +10,6 @@ use Rattle.js_base.specs.declared.ids.HostId.{HostId}
 use Rattle.js_base.specs.declared.ids.FieldId.{FieldId}
 use Rattle.js_base.specs.declared.ids.FrameId.{FrameId}
 use Rattle.js_base.specs.declared.ids.VarId.{VarId}
-use Rattle.js_base.proofs.Lists.{none_in_two}
 use Rattle.label_lattice.specs.declared.label.Label.{Label}
 use Rattle.jif_tree.specs.LabelRules.{field_label}
 use Rattle.jif_tree.specs.Store.{row_of, element_at}
@@ -23,11 +23,12 @@ use Rattle.host_code.specs.Code.{variable_at, field_at}
 use Rattle.host_code.specs.Sound.{NodeFits, ExpressionFits, IsVariable, IsField, OperationFits}
 use Rattle.host_code.specs.Thread.{ThreadShape}
 use Rattle.host_core.specs.Host.{HostShape, value_in_thread, next_request}
-use Rattle.host_core.specs.Values.{temporary_at}
+use Rattle.host_core.specs.Values.{temporary_at, value_of_nodes}
 use Rattle.msg_cost.proofs.Bounds.{all_left, all_right}
 use Rattle.need_labels.specs.Needs.{label_of}
 use Rattle.split_rules.specs.Expressions.{reads_in, nodes_of, released_by}
 use Rattle.split_rules.specs.Positions.{FieldRead, field_reads}
+use Rattle.split_rules.proofs.BackedLabels.{all_first, all_second}
 use Rattle.split_rules.proofs.SeenLabels.{flows_both, flows_first, flows_second}
 use Rattle.split_rules.proofs.WalkedMoves.{at_last}
 use Rattle.split_shades.specs.Basis.{value_label, read_label}
@@ -44,12 +45,18 @@ use Rattle.agreement.proofs.Places.{variable_unseen, field_unseen}
 use Rattle.agreement.proofs.SeenOperations.{read_seen}
 use Rattle.agreement.proofs.ValueLaws.{value_same}
 
--- ---- lists
-
-some_there : {X : Type 0} (x : X) (xs : List X) → x ∷ xs ≢ []
-some_there x xs none = cc
-
 -- ---- what two threads hold
+
+-- operands have the same values over what two threads hold
+abbrev HaveSameValues : (VarId → ℤ) → (VarId → ℤ) → List ℤ → List ℤ → List (List Node) → Type 0
+HaveSameValues variables others temps held operands =
+    AllByRecursion (λ nodes. value_of_nodes variables temps nodes ≡ value_of_nodes others held nodes) operands
+
+-- two threads release the same by these operands
+abbrev pub ReleaseAlike : HostShape → HostShape → ThreadShape → ThreadShape → List (List Node) → Type 0
+ReleaseAlike one other thread twin operands =
+    HaveSameValues (one.variables thread.frame) (other.variables twin.frame) thread.temporaries twin.temporaries
+    operands
 
 -- temporaries that may be seen are the same where the same may be seen of all
 temp_same : (eyes : Eyes) (labels : List Label) (temps held : List ℤ) (n : ℕ) (label : Label) →
@@ -104,14 +111,15 @@ hold_alike : (eyes : Eyes) → AreEyes eyes → (pc : Label) (count : ℕ) (vari
     (temps held : List ℤ) (labels : List Label) → Alike eyes labels variables others temps held →
     (value : ExprTree) (front back : List Label) (first : ℕ) →
     labels ≡ front ++ (reads_tell eyes.scene pc value ++ back) → length front ≡ first →
-    ExpressionFits eyes.code count (nodes_of first value) → released_by first value ≡ [] →
+    ExpressionFits eyes.code count (nodes_of first value) →
+    HaveSameValues variables others temps held (released_by first value) →
     HoldAlike eyes pc variables others temps held first value
 hold_alike eyes are pc count variables others temps held labels alike (number value) front back first lies many fits
-    none = tt
-hold_alike eyes are pc count variables others temps held labels alike (local x) front back first lies many fits none =
+    same = tt
+hold_alike eyes are pc count variables others temps held labels alike (local x) front back first lies many fits same =
     λ seen. alike.variables_same x (variable_seen eyes are x (fits 0 (node.Var x) (omega arith)) seen)
 hold_alike eyes are pc count variables others temps held labels alike (scalar field) front back first lies many fits
-    none = λ seen.
+    same = λ seen.
     let label : Label = field_label eyes.scene.basis.labelled.program field in
     let asked : Label = value_label eyes.scene.basis pc (number (pos 0)) in
     let read : Label = read_label eyes.scene.basis pc (record { field = field; index = number (pos 0) }) in
@@ -122,7 +130,7 @@ hold_alike eyes are pc count variables others temps held labels alike (scalar fi
     (are.below read label (flows_both label asked label (flows_self label)
     (bottom_flows eyes.scene.basis.principals label)) seen)
 hold_alike eyes are pc count variables others temps held labels alike (element field index) front back first lies many
-    fits none = λ seen.
+    fits same = λ seen.
     let f = read_label eyes.scene.basis pc in
     let own : FieldRead = record { field = field; index = index } in
     let inner : List Label = map f (field_reads index) in
@@ -138,15 +146,15 @@ hold_alike eyes are pc count variables others temps held labels alike (element f
     (ap (λ all. slice_get all (length (front ++ inner))) split ∙ at_last (front ++ inner) (f own) back) in
     temp_same eyes labels temps held (first + reads_in index) (f own) alike.temps_same there seen
 hold_alike eyes are pc count variables others temps held labels alike (inverted operand) front back first lies many
-    fits none =
+    fits same =
     hold_alike eyes are pc count variables others temps held labels alike operand front back first lies many
-    (all_left (NodeFits eyes.code count) (nodes_of first operand) (node.Not ∷ []) fits) none
+    (all_left (NodeFits eyes.code count) (nodes_of first operand) (node.Not ∷ []) fits) same
 hold_alike eyes are pc count variables others temps held labels alike (negated operand) front back first lies many
-    fits none =
+    fits same =
     hold_alike eyes are pc count variables others temps held labels alike operand front back first lies many
-    (all_left (NodeFits eyes.code count) (nodes_of first operand) (node.Negate ∷ []) fits) none
+    (all_left (NodeFits eyes.code count) (nodes_of first operand) (node.Negate ∷ []) fits) same
 hold_alike eyes are pc count variables others temps held labels alike (binary operator left right) front back first
-    lies many fits none =
+    lies many fits same =
     let f = read_label eyes.scene.basis pc in
     let one : List Label = reads_tell eyes.scene pc left in
     let two : List Label = reads_tell eyes.scene pc right in
@@ -156,24 +164,26 @@ hold_alike eyes are pc count variables others temps held labels alike (binary op
     let place : length (front ++ one) ≡ first + reads_in left =
     length-append front one ∙ ap (λ n. n + length one) many
     ∙ ap (λ n. first + n) (told_many eyes.scene pc left) in
-    let parts = none_in_two (released_by first left) (released_by (first + reads_in left) right) none in
+    let P : List Node → Type 0 = λ nodes. value_of_nodes variables temps nodes ≡ value_of_nodes others held nodes in
+    let ours = released_by first left in
+    let theirs = released_by (first + reads_in left) right in
     let both = all_left (NodeFits eyes.code count) (nodes_of first left ++ nodes_of (first + reads_in left) right)
     (node.Binary operator ∷ []) fits in (
       hold_alike eyes are pc count variables others temps held labels alike left front (two ++ back) first split many
           (all_left (NodeFits eyes.code count) (nodes_of first left) (nodes_of (first + reads_in left) right) both)
-          parts.0,
+          (all_first P ours theirs same),
       hold_alike eyes are pc count variables others temps held labels alike right (front ++ one) back
           (first + reads_in left) (split ∙ sym (append_assoc front one (two ++ back))) place
           (all_right (NodeFits eyes.code count) (nodes_of first left) (nodes_of (first + reads_in left) right) both)
-          parts.1,
+          (all_second P ours theirs same),
     )
 hold_alike eyes are pc count variables others temps held labels alike (declassified operand label) front back first
-    lies many fits none =
-    let parts = none_in_two (released_by first operand) (nodes_of first operand ∷ []) none in
-    absurd (some_there (nodes_of first operand) [] parts.1)
+    lies many fits same =
+    (all_second (λ nodes. value_of_nodes variables temps nodes ≡ value_of_nodes others held nodes)
+    (released_by first operand) (nodes_of first operand ∷ []) same).0
 hold_alike eyes are pc count variables others temps held labels alike (endorsed operand label) front back first lies
-    many fits none =
-    hold_alike eyes are pc count variables others temps held labels alike operand front back first lies many fits none
+    many fits same =
+    hold_alike eyes are pc count variables others temps held labels alike operand front back first lies many fits same
 
 -- ---- what is carried
 
@@ -207,10 +217,11 @@ part_same : (eyes : Eyes) (me : HostId) (one other : HostShape) (thread twin : T
     Twins eyes me one other thread twin → nodes ≡ nodes_of first value →
     (eyes.shades.at me thread.at).temps
     ≡ front ++ (reads_tell eyes.scene (eyes.shades.at me thread.at).pc value ++ back) →
-    length front ≡ first → ExpressionFits eyes.code count nodes → released_by first value ≡ [] →
+    length front ≡ first → ExpressionFits eyes.code count nodes →
+    ReleaseAlike one other thread twin (released_by first value) →
     IsSeen eyes (eyes.shades.at me thread.at).pc value →
     value_in_thread one thread nodes ≡ value_in_thread other twin nodes
-part_same eyes me one other thread twin count value nodes front back first are same is lies many fits none seen =
+part_same eyes me one other thread twin count value nodes front back first are same is lies many fits releases seen =
     let here = eyes.shades.at me thread.at in
     let fit : ExpressionFits eyes.code count (nodes_of first value) = subst (ExpressionFits eyes.code count) is fits in
     ap (value_in_thread one thread) is
@@ -218,20 +229,22 @@ part_same eyes me one other thread twin count value nodes front back first are s
     twin.temporaries first value are
     (hold_alike eyes are here.pc count (one.variables thread.frame) (other.variables twin.frame) thread.temporaries
     twin.temporaries here.temps (twins_alike eyes me one other thread twin same) value front back first lies many fit
-    none) seen
+    releases) seen
     ∙ sym (ap (value_in_thread other twin) is)
 
 -- a value over all temporaries
 kept_same : (eyes : Eyes) (me : HostId) (one other : HostShape) (thread twin : ThreadShape) (count : ℕ)
     (nodes : List Node) (label : Label) → AreEyes eyes → Twins eyes me one other thread twin →
-    ExpressionFits eyes.code count nodes → (eyes.shades.at me thread.at).released ≡ [] →
+    ExpressionFits eyes.code count nodes →
+    ReleaseAlike one other thread twin (eyes.shades.at me thread.at).released →
     Keeps eyes.scene (eyes.shades.at me thread.at) nodes label → eyes.sees label ≡ true →
     value_in_thread one thread nodes ≡ value_in_thread other twin nodes
-kept_same eyes me one other thread twin count nodes label are same fits none keeps seen =
+kept_same eyes me one other thread twin count nodes label are same fits releases keeps seen =
     let here = eyes.shades.at me thread.at in
     let tell : List Label = reads_tell eyes.scene here.pc keeps.value in
     part_same eyes me one other thread twin count keeps.value nodes [] [] 0 are same keeps.is_value.nodes_are
-    (keeps.is_value.temps ∙ sym (append-nil tell)) refl fits (sym keeps.is_value.releases ∙ none)
+    (keeps.is_value.temps ∙ sym (append-nil tell)) refl fits
+    (subst (ReleaseAlike one other thread twin) keeps.is_value.releases releases)
     (are.below (value_label eyes.scene.basis here.pc keeps.value) label keeps.flows.value_flows seen)
 
 pub masks_same : (seen : Bool) (one other : ℤ) → (seen ≡ true → one ≡ other) → masked seen one ≡ masked seen other
@@ -262,35 +275,37 @@ field_label_seen eyes are field seen =
 
 let_same : (eyes : Eyes) (me : HostId) (one other : HostShape) (thread twin : ThreadShape) (count : ℕ)
     (x : VarId) (value : List Node) → AreEyes eyes → Twins eyes me one other thread twin →
-    ExpressionFits eyes.code count value → (eyes.shades.at me thread.at).released ≡ [] →
+    ExpressionFits eyes.code count value → ReleaseAlike one other thread twin (eyes.shades.at me thread.at).released →
     Keeps eyes.scene (eyes.shades.at me thread.at) value (label_of eyes.scene.basis.labelled x) →
     carried_value (masked (sees_variable eyes x) (value_in_thread one thread value))
     ≡ carried_value (masked (sees_variable eyes x) (value_in_thread other twin value))
-let_same eyes me one other thread twin count x value are same fits none keeps =
+let_same eyes me one other thread twin count x value are same fits releases keeps =
     ap carried_value (masks_same (sees_variable eyes x) (value_in_thread one thread value)
     (value_in_thread other twin value) (λ seen.
-    kept_same eyes me one other thread twin count value (label_of eyes.scene.basis.labelled x) are same fits none keeps
-    (variable_label_seen eyes are x seen)))
+    kept_same eyes me one other thread twin count value (label_of eyes.scene.basis.labelled x) are same fits releases
+    keeps (variable_label_seen eyes are x seen)))
 
 put_same : (eyes : Eyes) (me : HostId) (one other : HostShape) (thread twin : ThreadShape) (count : ℕ)
     (field : FieldId) (index value : List Node) → AreEyes eyes → Twins eyes me one other thread twin →
     IsShadedOp eyes.scene eyes.shades me thread.at (op.Put field index value) →
     ExpressionFits eyes.code count index → ExpressionFits eyes.code count value →
-    (eyes.shades.at me thread.at).released ≡ [] →
+    ReleaseAlike one other thread twin (eyes.shades.at me thread.at).released →
     carried_in eyes one thread (op.Put field index value) ≡ carried_in eyes other twin (op.Put field index value)
-put_same eyes me one other thread twin count field index value are same law fits_at fits none =
+put_same eyes me one other thread twin count field index value are same law fits_at fits releases =
     let here = eyes.shades.at me thread.at in
     let stores = law.1.2 in
     let label : Label = field_label eyes.scene.basis.labelled.program field in
     let at_tell : List Label = reads_tell eyes.scene here.pc stores.index in
     let tell : List Label = reads_tell eyes.scene here.pc stores.value in
-    let parts = none_in_two (released_by 0 stores.index) (released_by (reads_in stores.index) stores.value)
-    (sym stores.releases ∙ none) in
+    let P : List Node → Type 0 = λ nodes. value_in_thread one thread nodes ≡ value_in_thread other twin nodes in
+    let at_released = released_by 0 stores.index in
+    let released = released_by (reads_in stores.index) stores.value in
+    let both : AllByRecursion P (at_released ++ released) = subst (AllByRecursion P) stores.releases releases in
     let first : masked (sees_field eyes field) (value_in_thread one thread index)
     ≡ masked (sees_field eyes field) (value_in_thread other twin index) =
     masks_same (sees_field eyes field) (value_in_thread one thread index) (value_in_thread other twin index) (λ seen.
     part_same eyes me one other thread twin count stores.index index [] tell 0 are same stores.index_is stores.temps
-    refl fits_at parts.0
+    refl fits_at (all_first P at_released released both)
     (are.below (value_label eyes.scene.basis here.pc stores.index) label stores.index_flows.value_flows
     (field_label_seen eyes are field seen))) in
     let second : masked (sees_field eyes field) (value_in_thread one thread value)
@@ -298,7 +313,7 @@ put_same eyes me one other thread twin count field index value are same law fits
     masks_same (sees_field eyes field) (value_in_thread one thread value) (value_in_thread other twin value) (λ seen.
     part_same eyes me one other thread twin count stores.value value at_tell [] (reads_in stores.index) are same
     stores.nodes_are (stores.temps ∙ ap (λ all. at_tell ++ all) (sym (append-nil tell)))
-    (told_many eyes.scene here.pc stores.index) fits parts.1
+    (told_many eyes.scene here.pc stores.index) fits (all_second P at_released released both)
     (are.below (value_label eyes.scene.basis here.pc stores.value) label stores.flows.value_flows
     (field_label_seen eyes are field seen))) in
     ap (λ i. record { index = i; value = masked (sees_field eyes field) (value_in_thread one thread value) }) first
@@ -313,9 +328,9 @@ branch_same : (eyes : Eyes) (me : HostId) (one other : HostShape) (thread twin :
     (guard : List Node) (target : ℕ) → AreEyes eyes → Twins eyes me one other thread twin →
     is_open eyes me thread.at ≡ true →
     IsShadedOp eyes.scene eyes.shades me thread.at (op.Branch guard target) →
-    ExpressionFits eyes.code count guard → (eyes.shades.at me thread.at).released ≡ [] →
+    ExpressionFits eyes.code count guard → ReleaseAlike one other thread twin (eyes.shades.at me thread.at).released →
     carried_in eyes one thread (op.Branch guard target) ≡ carried_in eyes other twin (op.Branch guard target)
-branch_same eyes me one other thread twin count guard target are same seen law fits none =
+branch_same eyes me one other thread twin count guard target are same seen law fits releases =
     let here = eyes.shades.at me thread.at in
     let value = value_in_thread one thread guard in
     let others = value_in_thread other twin guard in
@@ -335,11 +350,11 @@ branch_same eyes me one other thread twin count guard target are same seen law f
         eyes.sees (eyes.shades.at me (thread.at + 1)).block ≡ true →
         value_in_thread one thread guard ≡ value_in_thread other twin guard
     by None parts block =
-        kept_same eyes me one other thread twin count guard law.0.block are same fits none parts.0
+        kept_same eyes me one other thread twin count guard law.0.block are same fits releases parts.0
         (ap eyes.sees (sym (meets_next eyes me thread.at law.0 law.4).block) ∙ block)
     by (Some loop) parts block =
-        kept_same eyes me one other thread twin count guard (eyes.shades.at me thread.at).pc are same fits none parts.0
-        seen
+        kept_same eyes me one other thread twin count guard (eyes.shades.at me thread.at).pc are same fits releases
+        parts.0 seen
 
 -- whether what is read may be seen is the same of both
 pub read_sees : (eyes : Eyes) (me : HostId) (one other : HostShape) (thread twin : ThreadShape) →
@@ -368,9 +383,10 @@ label_of_read eyes me one other thread twin field index same law seen =
 pub index_same : (eyes : Eyes) (me : HostId) (one other : HostShape) (thread twin : ThreadShape) (count : ℕ)
     (field : FieldId) (index : List Node) → AreEyes eyes → Twins eyes me one other thread twin →
     IsShadedOp eyes.scene eyes.shades me thread.at (op.Read field index) → ExpressionFits eyes.code count index →
-    (eyes.shades.at me thread.at).released ≡ [] → sees_read eyes other.me (next_request other twin.at) ≡ true →
+    ReleaseAlike one other thread twin (eyes.shades.at me thread.at).released →
+    sees_read eyes other.me (next_request other twin.at) ≡ true →
     value_in_thread one thread index ≡ value_in_thread other twin index
-index_same eyes me one other thread twin count field index are same law fits none seen =
+index_same eyes me one other thread twin count field index are same law fits releases seen =
     let here = eyes.shades.at me thread.at in
     let reads = law.1 in
     let own : Label = field_label eyes.scene.basis.labelled.program field in
@@ -378,16 +394,16 @@ index_same eyes me one other thread twin count field index are same law fits non
     let tell : List Label = reads_tell eyes.scene here.pc reads.index in
     part_same eyes me one other thread twin count reads.index index reads.before [] (length reads.before) are same
     reads.nodes_are (reads.temps ∙ ap (λ all. reads.before ++ all) (sym (append-nil tell))) refl fits
-    (sym reads.releases ∙ none)
+    (subst (ReleaseAlike one other thread twin) reads.releases releases)
     (are.below asked (read_at eyes me thread.at field reads.index) (flows_second own asked)
     (label_of_read eyes me one other thread twin field index same law seen))
 
 read_same : (eyes : Eyes) (me : HostId) (one other : HostShape) (thread twin : ThreadShape) (count : ℕ)
     (field : FieldId) (index : List Node) → AreEyes eyes → Twins eyes me one other thread twin →
     IsShadedOp eyes.scene eyes.shades me thread.at (op.Read field index) → IsField eyes.code field →
-    ExpressionFits eyes.code count index → (eyes.shades.at me thread.at).released ≡ [] →
+    ExpressionFits eyes.code count index → ReleaseAlike one other thread twin (eyes.shades.at me thread.at).released →
     carried_in eyes one thread (op.Read field index) ≡ carried_in eyes other twin (op.Read field index)
-read_same eyes me one other thread twin count field index are same law within fits none =
+read_same eyes me one other thread twin count field index are same law within fits releases =
     let here = eyes.shades.at me thread.at in
     let own : Label = field_label eyes.scene.basis.labelled.program field in
     let asked : Label = value_label eyes.scene.basis here.pc law.1.index in
@@ -400,32 +416,32 @@ read_same eyes me one other thread twin count field index are same law within fi
     (are.below own (read_at eyes me thread.at field law.1.index) (flows_first own asked)
     (label_of_read eyes me one other thread twin field index same law seen))))
     ∙ ap (element_at (row_of other.rows field.0))
-    (index_same eyes me one other thread twin count field index are same law fits none seen)))
+    (index_same eyes me one other thread twin count field index are same law fits releases seen)))
 
 pub operation_same : (eyes : Eyes) (me : HostId) (one other : HostShape) (thread twin : ThreadShape) (count : ℕ)
     (it : Op) → AreEyes eyes → Twins eyes me one other thread twin → is_open eyes me thread.at ≡ true →
     IsShadedOp eyes.scene eyes.shades me thread.at it →
-    OperationFits eyes.code me count it → (eyes.shades.at me thread.at).released ≡ [] →
+    OperationFits eyes.code me count it → ReleaseAlike one other thread twin (eyes.shades.at me thread.at).released →
     carried_in eyes one thread it ≡ carried_in eyes other twin it
-operation_same eyes me one other thread twin count (op.Let x value) are same seen law fits none =
-    let_same eyes me one other thread twin count x value are same fits.1 none law.1.2
-operation_same eyes me one other thread twin count (op.Arg x value) are same seen law fits none =
-    let_same eyes me one other thread twin count x value are same fits.1 none law.1.2
-operation_same eyes me one other thread twin count (op.Put field index value) are same seen law fits none =
-    put_same eyes me one other thread twin count field index value are same law fits.1 fits.2 none
-operation_same eyes me one other thread twin count (op.Branch guard target) are same seen law fits none =
-    branch_same eyes me one other thread twin count guard target are same seen law fits.0 none
-operation_same eyes me one other thread twin count (op.Read field index) are same seen law fits none =
-    read_same eyes me one other thread twin count field index are same law fits.0 fits.1 none
-operation_same eyes me one other thread twin count (op.Send x to) are same seen law fits none = refl
-operation_same eyes me one other thread twin count (op.Frame site) are same seen law fits none = refl
-operation_same eyes me one other thread twin count (op.Pass x to) are same seen law fits none = refl
-operation_same eyes me one other thread twin count (op.Push entry) are same seen law fits none = refl
-operation_same eyes me one other thread twin count (op.Ask entry on) are same seen law fits none = refl
-operation_same eyes me one other thread twin count (op.Go entry on) are same seen law fits none = refl
-operation_same eyes me one other thread twin count (op.Call entry on) are same seen law fits none = refl
-operation_same eyes me one other thread twin count (op.GoWith entry on riders) are same seen law fits none = refl
-operation_same eyes me one other thread twin count (op.CallWith entry on riders) are same seen law fits none = refl
-operation_same eyes me one other thread twin count (op.Ret x value) are same seen law fits none =
-    let_same eyes me one other thread twin count x value are same fits.1 none law.1.2
-operation_same eyes me one other thread twin count op.Back are same seen law fits none = refl
+operation_same eyes me one other thread twin count (op.Let x value) are same seen law fits releases =
+    let_same eyes me one other thread twin count x value are same fits.1 releases law.1.2
+operation_same eyes me one other thread twin count (op.Arg x value) are same seen law fits releases =
+    let_same eyes me one other thread twin count x value are same fits.1 releases law.1.2
+operation_same eyes me one other thread twin count (op.Put field index value) are same seen law fits releases =
+    put_same eyes me one other thread twin count field index value are same law fits.1 fits.2 releases
+operation_same eyes me one other thread twin count (op.Branch guard target) are same seen law fits releases =
+    branch_same eyes me one other thread twin count guard target are same seen law fits.0 releases
+operation_same eyes me one other thread twin count (op.Read field index) are same seen law fits releases =
+    read_same eyes me one other thread twin count field index are same law fits.0 fits.1 releases
+operation_same eyes me one other thread twin count (op.Send x to) are same seen law fits releases = refl
+operation_same eyes me one other thread twin count (op.Frame site) are same seen law fits releases = refl
+operation_same eyes me one other thread twin count (op.Pass x to) are same seen law fits releases = refl
+operation_same eyes me one other thread twin count (op.Push entry) are same seen law fits releases = refl
+operation_same eyes me one other thread twin count (op.Ask entry on) are same seen law fits releases = refl
+operation_same eyes me one other thread twin count (op.Go entry on) are same seen law fits releases = refl
+operation_same eyes me one other thread twin count (op.Call entry on) are same seen law fits releases = refl
+operation_same eyes me one other thread twin count (op.GoWith entry on riders) are same seen law fits releases = refl
+operation_same eyes me one other thread twin count (op.CallWith entry on riders) are same seen law fits releases = refl
+operation_same eyes me one other thread twin count (op.Ret x value) are same seen law fits releases =
+    let_same eyes me one other thread twin count x value are same fits.1 releases law.1.2
+operation_same eyes me one other thread twin count op.Back are same seen law fits releases = refl

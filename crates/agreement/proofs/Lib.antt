@@ -25,6 +25,7 @@ pub mod SeenLeads
 pub mod SeenSendings
 pub mod SeenHandings
 pub mod CarriedSame
+pub mod ReleasedTurns
 pub mod SeenAskings
 pub mod SeenAgree
 pub mod AskingsAgree
@@ -37,5 +38,6 @@ pub mod TakesLead
 pub mod TakesAgree
 pub mod SeenActs
 pub mod TakenWorked
+pub mod ReleasedRuns
 pub mod RunsAgree
 pub mod SplitRuns

@@ -1,10 +1,12 @@
--- Lists of which some elements are left out, and counts of which one changes.
+-- Lists of which some elements are left out, counts of which one changes, and lists that are equal as far as both go.
 use Rattle.std.proofs.Common.{◌≡◌, ◌≢◌, ◌∙◌, ℕ, zero, suc, ◌≤◌, Bool, true, false, List, [], ◌∷◌, ◌++◌, length, arith}
 use Rattle.std.proofs.Common.{Some, inl, inr, refl, ap, sym, get_or-set_other}
-use Rattle.std.specs.Prelude.{if◌then◌else◌, filter, remove, slice_get, slice_set, slice_index, not}
+use Rattle.std.specs.Prelude.{if◌then◌else◌, filter, map, remove, slice_get, slice_set, slice_index, not}
+use Rattle.std.specs.List.{AllByRecursion}
 use Rattle.std.proofs.lemmas.Bool.{cases_Bool, false≢true}
 use Rattle.std.proofs.lemmas.List.{append-nil}
 use Rattle.std.proofs.lemmas.List.Elements.{filter-append}
+use Rattle.net_world.specs.Released.{AreAlike}
 
 pub index_apart : (counts : List ℕ) (place other count : ℕ) → other ≢ place →
     slice_index (slice_set counts place count) other ≡ slice_index counts other
@@ -119,3 +121,35 @@ all_kept p x xs all = elim (cases_Bool (p x)) [
       let most = length_kept p xs in
       absurd (omega arith)
 ]
+
+-- ---- two lists
+
+-- what two functions make of a list is the same, and so it is of each element
+pub each_same : {X Y : Type 0} (f g : X → Y) (xs : List X) → map f xs ≡ map g xs →
+    AllByRecursion (λ x. f x ≡ g x) xs
+each_same f g [] same = tt
+each_same f g (x ∷ xs) same =
+    let first : f x ≡ g x = cc in
+    let others : map f xs ≡ map g xs = cc in
+    (first, each_same f g xs others)
+
+-- Lists that are equal as far as both go, and begin with parts of one length, begin with the same.
+pub same_chunk : {X : Type 0} (own other later more : List X) → length own ≡ length other →
+    AreAlike (own ++ later) (other ++ more) → (own ≡ other) × AreAlike later more
+same_chunk [] [] later more many alike = (refl, alike)
+same_chunk [] (y ∷ other) later more many alike = absurd (omega (arith, many))
+same_chunk (x ∷ own) [] later more many alike = absurd (omega (arith, many))
+same_chunk {X} (x ∷ own) (y ∷ other) later more many (inl (rest, is)) =
+    let first : y ≡ x = cc in
+    let tails : other ++ more ≡ (own ++ later) ++ rest = cc in
+    let few : length own ≡ length other = omega (arith, many) in
+    let others = same_chunk own other later more few (inl (rest, tails)) in
+    let both : x ∷ own ≡ y ∷ other = cc in
+    (both, others.1)
+same_chunk {X} (x ∷ own) (y ∷ other) later more many (inr (rest, is)) =
+    let first : x ≡ y = cc in
+    let tails : own ++ later ≡ (other ++ more) ++ rest = cc in
+    let few : length own ≡ length other = omega (arith, many) in
+    let others = same_chunk own other later more few (inr (rest, tails)) in
+    let both : x ∷ own ≡ y ∷ other = cc in
+    (both, others.1)

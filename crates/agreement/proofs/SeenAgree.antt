@@ -1,6 +1,6 @@
--- Two quiet worlds that lead to one view still do after the same turn that may be seen.
+-- Two quiet worlds that lead to one view still do after the same turn that may be seen and releases the same.
 use Rattle.std.proofs.Common.{◌≡◌, ◌∙◌, ℕ, List, [], ◌∷◌, Option, Some, None, ap, sym, subst}
-use Rattle.std.specs.Prelude.{◌==◌, true, false, ℤ, Bool, if◌then◌else◌, IfSome}
+use Rattle.std.specs.Prelude.{◌==◌, true, false, ℤ, Bool, if◌then◌else◌, IfSome, map}
 use Rattle.js_base.specs.declared.ids.HostId.{HostId}
 use Rattle.js_base.specs.declared.ids.VarId.{VarId}
 use Rattle.capability.specs.declared.token.Token.{Token}
@@ -12,15 +12,17 @@ use Rattle.host_code.specs.declared.instruction.Op.TheVariants as op
 use Rattle.host_code.specs.Code.{instruction_at, entry_at}
 use Rattle.host_code.specs.Sound.{IsSoundCode, IsHost}
 use Rattle.host_code.specs.Thread.{ThreadShape}
-use Rattle.host_core.specs.Host.{HostShape}
+use Rattle.host_core.specs.Host.{HostShape, value_in_thread}
 use Rattle.event_text.specs.declared.event.Event.{Event}
 use Rattle.event_text.specs.declared.event.Event.TheVariants.{Turn}
 use Rattle.net_world.specs.Fits.{ShapeFits, IsStateOf}
+use Rattle.net_world.specs.Released.{released_at}
 use Rattle.net_world.specs.Secret.{IsQuiet}
 use Rattle.net_world.specs.World.{WorldShape, state_at, IsStep, world_at_start}
 use Rattle.token_laws.specs.Reached.{IsReached}
 use Rattle.token_laws.proofs.Walks.{fits_there}
-use Rattle.split_shades.specs.ShadedCode.{ReleaseNothing}
+use Rattle.split_rules.specs.Releases.{ReleasesShape}
+use Rattle.split_shades.specs.ShadedCode.{IsTabled}
 use Rattle.seen_world.specs.Eyes.{Eyes, AreEyes, Watches}
 use Rattle.seen_world.proofs.SeenPlaces.{some_is}
 use Rattle.seen_world.proofs.PointsKept.{points_kept}
@@ -32,6 +34,8 @@ use Rattle.agreement.specs.Turns.{SeenTurn, host_idle}
 use Rattle.agreement.specs.Views.{gives, with_host, View, running_view, thread_view, masked_all}
 use Rattle.agreement.proofs.CarriedSame.{Twins, operation_same}
 use Rattle.agreement.proofs.Coming.{comes_once}
+use Rattle.agreement.proofs.Lists.{each_same}
+use Rattle.agreement.proofs.ReleasedTurns.{turns_release}
 use Rattle.token_laws.proofs.Tests.{some_found}
 use Rattle.agreement.proofs.ViewLaws.{completed_once}
 use Rattle.agreement.proofs.SeenHandings.{same_first, reached_hands, handing_once, handed_too}
@@ -160,11 +164,13 @@ alone_too eyes one other after now host fits fits_other calm calm_other alone st
 
 calm_carried : (eyes : Eyes) (one other : WorldShape) (now : View) (host : HostId)
     (alone : RunsAlone eyes.code one host) (twin : RunsAlone eyes.code other host) → AreEyes eyes →
-    IsSoundCode eyes.code → ReleaseNothing eyes.code eyes.shades → ShapeFits eyes.code one →
-    ShapeFits eyes.code other → Calm eyes one now → Calm eyes other now →
+    IsSoundCode eyes.code →
+    map (value_in_thread alone.state alone.thread) (eyes.shades.at host alone.thread.at).released
+    ≡ map (value_in_thread twin.state twin.thread) (eyes.shades.at host alone.thread.at).released →
+    ShapeFits eyes.code one → ShapeFits eyes.code other → Calm eyes one now → Calm eyes other now →
     carried_in eyes alone.state alone.thread alone.instruction.op
     ≡ carried_in eyes twin.state twin.thread twin.instruction.op
-calm_carried eyes one other now host alone twin are sound silent fits fits_other calm calm_other =
+calm_carried eyes one other now host alone twin are sound same fits fits_other calm calm_other =
     let twins = twins_of eyes one other now host alone.state twin.state alone.thread twin.thread fits fits_other calm
     calm_other alone.there twin.there alone.running twin.running in
     let there : twin.instruction ≡ alone.instruction =
@@ -177,7 +183,8 @@ calm_carried eyes one other now host alone twin are sound silent fits fits_other
     (calm.running host alone.state alone.there))
     (are.shaded.instructions host alone.thread.at alone.instruction alone.is).law
     ((sound.parts host is_host).instructions alone.thread.at alone.instruction alone.is).operation
-    (silent host alone.thread.at alone.instruction alone.is)
+    (each_same (value_in_thread alone.state alone.thread) (value_in_thread twin.state twin.thread)
+    (eyes.shades.at host alone.thread.at).released same)
     ∙ ap (λ (i : Instr). carried_in eyes twin.state twin.thread i.op) (sym there)
 
 -- what is known of a quiet world that events lead to
@@ -194,29 +201,32 @@ reached_calm eyes rows bad store events world now are watch reach quiet leads =
 
 pub carried_same : (eyes : Eyes) (rows : List declared_hosts.HostShape) (bad : ℕ) (store start : List (List ℤ))
     (events others : List Event) (one other : WorldShape) (host : HostId) (alone : RunsAlone eyes.code one host)
-    (twin : RunsAlone eyes.code other host) → AreEyes eyes → ReleaseNothing eyes.code eyes.shades →
+    (twin : RunsAlone eyes.code other host) → AreEyes eyes →
+    map (value_in_thread alone.state alone.thread) (eyes.shades.at host alone.thread.at).released
+    ≡ map (value_in_thread twin.state twin.thread) (eyes.shades.at host alone.thread.at).released →
     Watches eyes (world_at_start eyes.code rows bad store) → Watches eyes (world_at_start eyes.code rows bad start) →
     IsReached eyes.code rows bad store events one → IsReached eyes.code rows bad start others other →
     IsQuiet eyes.code one → IsQuiet eyes.code other → Agree eyes one other →
     carried_in eyes alone.state alone.thread alone.instruction.op
     ≡ carried_in eyes twin.state twin.thread twin.instruction.op
-carried_same eyes rows bad store start events others one other host alone twin are silent watch watch_other reach
+carried_same eyes rows bad store start events others one other host alone twin are same watch watch_other reach
     reach_other quiet quiet_other agree =
     let calm = reached_calm eyes rows bad store events one agree.shown are watch reach quiet agree.first in
     let calm_other =
     reached_calm eyes rows bad start others other agree.shown are watch_other reach_other quiet_other agree.second in
-    calm_carried eyes one other agree.shown host alone twin are reach.sound silent calm.0 calm_other.0 calm.1
+    calm_carried eyes one other agree.shown host alone twin are reach.sound same calm.0 calm_other.0 calm.1
     calm_other.1
 
 pub turn_agrees : (eyes : Eyes) (rows : List declared_hosts.HostShape) (bad : ℕ) (store start : List (List ℤ))
-    (events others : List Event) (one other one_after other_after : WorldShape) (host : HostId) → AreEyes eyes →
-    ReleaseNothing eyes.code eyes.shades → Watches eyes (world_at_start eyes.code rows bad store) →
+    (events others : List Event) (one other one_after other_after : WorldShape) (host : HostId)
+    (table : ReleasesShape) → AreEyes eyes → IsTabled eyes.code eyes.shades table →
+    released_at table one host ≡ released_at table other host → Watches eyes (world_at_start eyes.code rows bad store) →
     Watches eyes (world_at_start eyes.code rows bad start) → IsReached eyes.code rows bad store events one →
     IsReached eyes.code rows bad start others other → RunsAlone eyes.code one host →
     IsStep eyes.code one (Turn host) one_after → IsStep eyes.code other (Turn host) other_after →
     IsQuiet eyes.code one → IsQuiet eyes.code other → Agree eyes one other → Agree eyes one_after other_after
-turn_agrees eyes rows bad store start events others one other one_after other_after host are silent watch watch_other
-    reach reach_other alone step step_other quiet quiet_other agree =
+turn_agrees eyes rows bad store start events others one other one_after other_after host table are tabled same watch
+    watch_other reach reach_other alone step step_other quiet quiet_other agree =
     let now = agree.shown in
     let calm = reached_calm eyes rows bad store events one now are watch reach quiet agree.first in
     let calm_other =
@@ -226,15 +236,19 @@ turn_agrees eyes rows bad store start events others one other one_after other_af
     agree.first in
     let second = reached_leads eyes rows bad start others other other_after host now twin are watch_other reach_other
     step_other quiet_other agree.second in
-    let carried = calm_carried eyes one other now host alone twin are reach.sound silent calm.0 calm_other.0 calm.1
+    let twins = twins_of eyes one other now host alone.state twin.state alone.thread twin.thread calm.0 calm_other.0
+    calm.1 calm_other.1 alone.there twin.there alone.running twin.running in
+    let releases = turns_release eyes table one other host alone.state twin.state alone.thread twin.thread
+    alone.instruction tabled alone.there twin.there alone.running twin.running alone.is twins.place same in
+    let carried = calm_carried eyes one other now host alone twin are reach.sound releases calm.0 calm_other.0 calm.1
     calm_other.1 in
-    let same : second.0 ≡ first.0 =
+    let one_view : second.0 ≡ first.0 =
     seen_once eyes now host (carried_in eyes alone.state alone.thread alone.instruction.op) second.0 first.0
     (subst (λ (c : Carried). SeenTurn eyes now host c second.0) (sym carried) second.1) first.1 in
     record {
       shown = first.0;
       first = first.2;
-      second = subst (Leads eyes other_after) same second.2;
+      second = subst (Leads eyes other_after) one_view second.2;
     }
 
 -- ---- control that is handed over

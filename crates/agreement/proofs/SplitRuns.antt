@@ -1,5 +1,7 @@
--- Two runs of a program that releases nothing, split by a plan, tell misbehaving hosts the same.
+-- Two runs of a program, split by a plan, that release the same as far as both go tell misbehaving hosts the same, and
+-- so do two of one that releases nothing.
 use Rattle.std.proofs.Common.{◌≡◌, ◌∙◌, ℕ, zero, suc, ◌+◌, Bool, true, false, List, [], ◌∷◌, ◌++◌, Some, None, refl}
+use Rattle.std.proofs.Common.{inl, true≢false}
 use Rattle.std.specs.Prelude.{ℤ, ◌==◌, if◌then◌else◌, All, slice_get}
 use Rattle.std.specs.Int.{bit_at}
 use Rattle.host_decl.specs.Hosts as declared_hosts
@@ -7,21 +9,28 @@ use Rattle.host_code.specs.Code.{CodeShape}
 use Rattle.host_core.specs.Start.{host_at_start}
 use Rattle.event_text.specs.declared.event.Event.{Event}
 use Rattle.net_world.specs.Fits.{HasOwnToken}
+use Rattle.net_world.specs.Released.{AreAlike, AreReleased}
 use Rattle.net_world.specs.Secret.{IsSeenRun, IsPrompt}
 use Rattle.net_world.specs.Told.{SentMessage}
 use Rattle.net_world.specs.World.{WorldShape, is_absent, misbehaves, hosts_before, world_at_start}
 use Rattle.split_rules.specs.Placed.{PlacedProgram}
 use Rattle.split_rules.specs.Allowed.{IsAllowed}
 use Rattle.split_rules.specs.Held.{IsHeld}
+use Rattle.split_rules.specs.Releases.{releases_of}
 use Rattle.split_rules.specs.SplitCode.{split_code}
 use Rattle.split_rules.specs.Splittable.{IsSplittable}
+use Rattle.split_rules.proofs.AskingSplit.{split_is_granted}
 use Rattle.split_rules.proofs.SoundSplit.{split_is_sound}
 use Rattle.split_shades.specs.Flows.{AreResultsLabelled}
-use Rattle.split_shades.specs.ShadedCode.{ReleaseNothing}
+use Rattle.split_shades.specs.ShadedCode.{IsTabled}
 use Rattle.split_shades.specs.Sites.{ReleasesNothing, scene_of}
+use Rattle.split_shades.proofs.KnownCode.{split_is_known}
+use Rattle.split_shades.proofs.ShadedSplit.{split_is_tabled}
 use Rattle.seen_world.specs.Eyes.{Eyes, AreEyes, Watches}
+use Rattle.seen_world.proofs.SeeingHosts.{has_eyes}
 use Rattle.seen_world.proofs.SeenWorlds.{split_has_eyes, label_read}
 use Rattle.agreement.specs.Alike.{AreStartsAlike, AreStoresAlike}
+use Rattle.agreement.proofs.ReleasedRuns.{no_releases}
 use Rattle.agreement.proofs.RunsAgree.{told_alike}
 
 -- ---- who misbehaves at the start
@@ -43,11 +52,7 @@ same_absent code store start bad number (row ∷ rows) zero = by (bit_at bad num
 same_absent code store start bad number (row ∷ rows) (suc place) =
     same_absent code store start bad (number + 1) rows place
 
--- ---- code that releases nothing
-
-silent_code : (eyes : Eyes) → AreEyes eyes → eyes.scene.may_release ≡ false → ReleaseNothing eyes.code eyes.shades
-silent_code eyes are silent host place there is =
-    (are.shaded.instructions host place there is).is_shade.silent silent
+-- ---- stores
 
 stores_alike : (eyes : Eyes) (world : WorldShape) (store start : List (List ℤ)) → AreEyes eyes → Watches eyes world →
     AreStoresAlike eyes.code world store start → AreStartsAlike eyes store start
@@ -55,6 +60,54 @@ stores_alike eyes world store start are watch alike field there is seen obeys =
     alike field there is ((label_read eyes world there.label are watch).0 seen) (watch there.host ∙ obeys)
 
 -- ---- programs
+
+-- by their table of releases
+pub split_released : (placed : PlacedProgram) (bad : ℕ) (store start : List (List ℤ))
+    (events others seen more : List Event) (one other : WorldShape) (values others_values : List ℤ) →
+    IsSplittable placed → IsAllowed placed → IsHeld placed →
+    AreResultsLabelled placed.labelled.program →
+    AreStoresAlike (split_code placed)
+    (world_at_start (split_code placed) placed.hosts.hosts bad store) store start →
+    AreReleased (split_code placed) (releases_of placed)
+    (world_at_start (split_code placed) placed.hosts.hosts bad store) events values →
+    AreReleased (split_code placed) (releases_of placed)
+    (world_at_start (split_code placed) placed.hosts.hosts bad start) others others_values →
+    AreAlike values others_values →
+    All (HasOwnToken (world_at_start (split_code placed) placed.hosts.hosts bad store)) seen →
+    IsSeenRun (split_code placed)
+    (world_at_start (split_code placed) placed.hosts.hosts bad store) events (seen ++ more) one →
+    IsSeenRun (split_code placed)
+    (world_at_start (split_code placed) placed.hosts.hosts bad start) others seen other →
+    IsPrompt (split_code placed)
+    (world_at_start (split_code placed) placed.hosts.hosts bad store) events →
+    IsPrompt (split_code placed)
+    (world_at_start (split_code placed) placed.hosts.hosts bad start) others →
+    (rest : List SentMessage) × (one.sent ≡ other.sent ++ rest)
+split_released placed bad store start events others seen more one other values others_values splittable allowed held
+    results alike released released_other values_alike own ran ran_other prompt prompt_other =
+    let code = split_code placed in
+    let first = world_at_start code placed.hosts.hosts bad store in
+    let tabled = split_is_tabled placed true splittable allowed held results (λ never. absurd (true≢false never)) in
+    let have = has_eyes (scene_of placed true) code tabled.0 (misbehaves first) tabled.1
+    (split_is_known placed splittable allowed held) (split_is_granted placed splittable allowed held)
+    (splittable.numbered.main.0, splittable.numbered.main.1, refl) in
+    let eyes : Eyes = record {
+      scene = scene_of placed true;
+      code = code;
+      shades = tabled.0;
+      bad = misbehaves first;
+      sees = have.0;
+    } in
+    told_alike eyes placed.hosts.hosts bad store start events others seen more one other (releases_of placed) values
+    others_values have.1 (split_is_sound placed splittable) refl tabled.2 (λ host. refl)
+    (λ host. same_absent code store start bad 0 placed.hosts.hosts host.0)
+    (stores_alike eyes first store start have.1 (λ host. refl) alike) released released_other values_alike own ran
+    ran_other prompt prompt_other
+
+-- where no instruction releases anything, the table without rows is one of the code
+silent_code : (eyes : Eyes) → AreEyes eyes → eyes.scene.may_release ≡ false → IsTabled eyes.code eyes.shades []
+silent_code eyes are silent host place there is =
+    (are.shaded.instructions host place there is).is_shade.silent silent
 
 pub split_tells : (placed : PlacedProgram) (bad : ℕ) (store start : List (List ℤ))
     (events others seen more : List Event) (one other : WorldShape) →
@@ -76,6 +129,7 @@ split_tells placed bad store start events others seen more one other splittable 
     releases alike own ran ran_other prompt prompt_other =
     let code = split_code placed in
     let first = world_at_start code placed.hosts.hosts bad store in
+    let second = world_at_start code placed.hosts.hosts bad start in
     let have = split_has_eyes placed false (misbehaves first) splittable allowed held results
     (λ silent. releases) in
     let eyes : Eyes = record {
@@ -85,7 +139,9 @@ split_tells placed bad store start events others seen more one other splittable 
       bad = misbehaves first;
       sees = have.1;
     } in
-    told_alike eyes placed.hosts.hosts bad store start events others seen more one other have.2
+    told_alike eyes placed.hosts.hosts bad store start events others seen more one other [] [] [] have.2
     (split_is_sound placed splittable) refl (silent_code eyes have.2 refl) (λ host. refl)
     (λ host. same_absent code store start bad 0 placed.hosts.hosts host.0)
-    (stores_alike eyes first store start have.2 (λ host. refl) alike) own ran ran_other prompt prompt_other
+    (stores_alike eyes first store start have.2 (λ host. refl) alike)
+    (no_releases code first events (seen ++ more) one ran) (no_releases code second others seen other ran_other)
+    (inl ([], refl)) own ran ran_other prompt prompt_other

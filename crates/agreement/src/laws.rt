@@ -1,7 +1,7 @@
 //! Laws of worlds of which the same may be seen. The calls do nothing: their contracts are the laws.
 
 ghost use Rattle.std.specs.Prelude.{◌≡◌, ◌⊎◌, ℕ, ℤ, pos, true, false, List, [], ◌∷◌, ◌++◌, Some, None, IsSome, filter};
-ghost use Rattle.std.specs.Prelude.{remove, slice_get};
+ghost use Rattle.std.specs.Prelude.{map, remove, slice_get};
 ghost use Rattle.js_base.specs.declared.ids.HostId.{HostId};
 ghost use Rattle.js_base.specs.declared.ids.FrameId.{FrameId};
 ghost use Rattle.js_base.specs.declared.ids.VarId.{VarId};
@@ -22,17 +22,19 @@ ghost use Rattle.host_core.specs.Start.{main_frame};
 ghost use Rattle.host_core.specs.Taking.{Passes};
 ghost use Rattle.host_core.specs.Values.{value_of_nodes};
 ghost use Rattle.split_rules.specs.Expressions.{nodes_of};
+ghost use Rattle.split_rules.specs.Releases.{ReleasesShape};
 ghost use Rattle.event_text.specs.declared.event.Event.{Event};
 ghost use Rattle.event_text.specs.declared.event.Event.TheVariants.{Take, Turn};
 ghost use Rattle.net_world.specs.Fits.{ShapeFits};
 ghost use Rattle.net_world.specs.Flying.{Flight};
+ghost use Rattle.net_world.specs.Released.{released_at};
 ghost use Rattle.net_world.specs.Secret.{IsSecret, IsQuiet, IsSeenRun};
 ghost use Rattle.net_world.specs.World.{WorldShape, state_at, world_at_start, IsStep};
 ghost use Rattle.token_laws.specs.Reached.{IsReached};
 ghost use Rattle.token_laws.specs.Requests.{number_answered};
 ghost use Rattle.token_laws.specs.TokenExamples.{small, host_id, entry_id, a_field, first_request, first_token};
 ghost use Rattle.token_laws.specs.TokenExamples.{second_token};
-ghost use Rattle.split_shades.specs.ShadedCode.{ReleaseNothing};
+ghost use Rattle.split_shades.specs.ShadedCode.{IsTabled};
 ghost use Rattle.seen_world.specs.Eyes.{Eyes, AreEyes, Watches, sees_at, is_open, is_deep, is_hidden};
 ghost use Rattle.seen_world.specs.Points.{HostsKeep, PointsHold};
 ghost use Rattle.agreement.specs.Changes.{StaysSeen};
@@ -137,21 +139,26 @@ pub fn seen_laws()
     // That is one view.
     ensures once { (eyes : Eyes) (view : View) (host : HostId) (carried : Carried) (first second : View) →
         SeenTurn eyes view host carried first → SeenTurn eyes view host carried second → first ≡ second }
-    // In two quiet worlds that agree the turn carries the same, where the code releases nothing.
+    // In two quiet worlds that agree the turn carries the same, where it releases the same values in both.
     ensures carried { (eyes : Eyes) (rows : List declared_hosts.HostShape) (bad : ℕ) (store start : List (List ℤ))
         (events others : List Event) (one other : WorldShape) (host : HostId) (alone : RunsAlone eyes.code one host)
         (twin : RunsAlone eyes.code other host) →
-        AreEyes eyes → ReleaseNothing eyes.code eyes.shades →
+        let operands = (eyes.shades.at host alone.thread.at).released in
+        AreEyes eyes →
+        map (host_state.value_in_thread alone.state alone.thread) operands
+        ≡ map (host_state.value_in_thread twin.state twin.thread) operands →
         Watches eyes (world_at_start eyes.code rows bad store) →
         Watches eyes (world_at_start eyes.code rows bad start) →
         IsReached eyes.code rows bad store events one → IsReached eyes.code rows bad start others other →
         IsQuiet eyes.code one → IsQuiet eyes.code other → Agree eyes one other →
         carried_in eyes alone.state alone.thread alone.instruction.op
         ≡ carried_in eyes twin.state twin.thread twin.instruction.op }
-    // So they agree after it.
+    // So they agree after it, where both turns release the same by a table that has the rows of the shades.
     ensures agrees { (eyes : Eyes) (rows : List declared_hosts.HostShape) (bad : ℕ) (store start : List (List ℤ))
-        (events others : List Event) (one other one_after other_after : WorldShape) (host : HostId) →
-        AreEyes eyes → ReleaseNothing eyes.code eyes.shades →
+        (events others : List Event) (one other one_after other_after : WorldShape) (host : HostId)
+        (table : ReleasesShape) →
+        AreEyes eyes → IsTabled eyes.code eyes.shades table →
+        released_at table one host ≡ released_at table other host →
         Watches eyes (world_at_start eyes.code rows bad store) →
         Watches eyes (world_at_start eyes.code rows bad start) →
         IsReached eyes.code rows bad store events one → IsReached eyes.code rows bad start others other →
@@ -190,21 +197,26 @@ pub fn seen_laws()
     // That is one view.
     ensures asks_once { (eyes : Eyes) (view : View) (host : HostId) (carried : Carried) (first second : View) →
         SeenAsking eyes view host carried first → SeenAsking eyes view host carried second → first ≡ second }
-    // In two quiet worlds that agree the turn carries the same, where the code releases nothing.
+    // In two quiet worlds that agree the turn carries the same, where it releases the same values in both.
     ensures asks_carried { (eyes : Eyes) (rows : List declared_hosts.HostShape) (bad : ℕ) (store start : List (List ℤ))
         (events others : List Event) (one other : WorldShape) (host : HostId) (asking : RunsAsking eyes.code one host)
         (twin : RunsAsking eyes.code other host) →
-        AreEyes eyes → ReleaseNothing eyes.code eyes.shades →
+        let operands = (eyes.shades.at host asking.thread.at).released in
+        AreEyes eyes →
+        map (host_state.value_in_thread asking.state asking.thread) operands
+        ≡ map (host_state.value_in_thread twin.state twin.thread) operands →
         Watches eyes (world_at_start eyes.code rows bad store) →
         Watches eyes (world_at_start eyes.code rows bad start) →
         IsReached eyes.code rows bad store events one → IsReached eyes.code rows bad start others other →
         IsQuiet eyes.code one → IsQuiet eyes.code other → Agree eyes one other →
         carried_asking eyes asking.state asking.thread asking.instruction.op
         ≡ carried_asking eyes twin.state twin.thread twin.instruction.op }
-    // So they agree after it.
+    // So they agree after it, where both turns release the same.
     ensures asks_agree { (eyes : Eyes) (rows : List declared_hosts.HostShape) (bad : ℕ) (store start : List (List ℤ))
-        (events others : List Event) (one other one_after other_after : WorldShape) (host : HostId) →
-        AreEyes eyes → ReleaseNothing eyes.code eyes.shades →
+        (events others : List Event) (one other one_after other_after : WorldShape) (host : HostId)
+        (table : ReleasesShape) →
+        AreEyes eyes → IsTabled eyes.code eyes.shades table →
+        released_at table one host ≡ released_at table other host →
         Watches eyes (world_at_start eyes.code rows bad store) →
         Watches eyes (world_at_start eyes.code rows bad start) →
         IsReached eyes.code rows bad store events one → IsReached eyes.code rows bad start others other →
@@ -221,10 +233,12 @@ pub fn seen_laws()
         (¬ (RunsAlone code world host × RunsHanding code world host))
         × (¬ (RunsAlone code world host × RunsAsking code world host))
         × (¬ (RunsHanding code world host × RunsAsking code world host)) }
-    // So two quiet worlds that agree do after the turns of one host, where the code releases nothing.
+    // So two quiet worlds that agree do after the turns of one host, where both release the same.
     ensures any_turn { (eyes : Eyes) (rows : List declared_hosts.HostShape) (bad : ℕ) (store start : List (List ℤ))
-        (events others : List Event) (one other one_after other_after : WorldShape) (host : HostId) →
-        AreEyes eyes → ReleaseNothing eyes.code eyes.shades →
+        (events others : List Event) (one other one_after other_after : WorldShape) (host : HostId)
+        (table : ReleasesShape) →
+        AreEyes eyes → IsTabled eyes.code eyes.shades table →
+        released_at table one host ≡ released_at table other host →
         Watches eyes (world_at_start eyes.code rows bad store) →
         Watches eyes (world_at_start eyes.code rows bad start) →
         IsReached eyes.code rows bad store events one → IsReached eyes.code rows bad start others other →

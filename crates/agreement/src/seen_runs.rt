@@ -5,29 +5,34 @@ ghost use Rattle.host_decl.specs.Hosts as declared_hosts;
 ghost use Rattle.host_code.specs.Sound.{IsSoundCode};
 ghost use Rattle.event_text.specs.declared.event.Event.{Event};
 ghost use Rattle.net_world.specs.Fits.{HasOwnToken};
+ghost use Rattle.net_world.specs.Released.{AreAlike, Releases, AreReleased};
 ghost use Rattle.net_world.specs.Secret.{IsQuiet, IsSeenRun, IsPrompt};
 ghost use Rattle.net_world.specs.Told.{SentMessage};
 ghost use Rattle.net_world.specs.World.{WorldShape, AreHostsOf, world_at_start, IsStep};
 ghost use Rattle.split_rules.specs.Placed.{PlacedProgram};
 ghost use Rattle.split_rules.specs.Allowed.{IsAllowed};
 ghost use Rattle.split_rules.specs.Held.{IsHeld};
+ghost use Rattle.split_rules.specs.Releases.{ReleasesShape, releases_of};
 ghost use Rattle.split_rules.specs.SplitCode.{split_code};
 ghost use Rattle.split_rules.specs.Splittable.{IsSplittable};
 ghost use Rattle.split_shades.specs.Flows.{AreResultsLabelled};
-ghost use Rattle.split_shades.specs.ShadedCode.{ReleaseNothing};
+ghost use Rattle.split_shades.specs.ShadedCode.{IsTabled};
 ghost use Rattle.split_shades.specs.Sites.{ReleasesNothing};
 ghost use Rattle.token_laws.specs.Reached.{IsReached};
 ghost use Rattle.seen_world.specs.Eyes.{Eyes, AreEyes, Watches};
 ghost use Rattle.agreement.specs.Alike.{AreStartsAlike, AreStoresAlike};
 ghost use Rattle.agreement.specs.Leads.{Agree};
 
-/// What two runs tell misbehaving hosts of which the same may be seen, where the code releases nothing. Such hosts
-/// present tokens that they were sent, or their own.
+/// What two runs tell misbehaving hosts of which the same may be seen, where the values that one releases go on as
+/// those of the other. A table has the rows of the shades: for each instruction the operands that it releases. Such
+/// hosts present tokens that they were sent, or their own.
 pub fn run_laws()
-    // Two quiet worlds that agree do after the same event, whatever it is.
+    // Two quiet worlds that agree do after the same event, whatever it is, where it releases the same values in both.
     ensures event { (eyes : Eyes) (rows : List declared_hosts.HostShape) (bad : ℕ) (store start : List (List ℤ))
-        (events others : List Event) (one other one_after other_after : WorldShape) (event : Event) →
-        AreEyes eyes → ReleaseNothing eyes.code eyes.shades →
+        (events others : List Event) (one other one_after other_after : WorldShape) (event : Event)
+        (table : ReleasesShape) (own : List ℤ) →
+        AreEyes eyes → IsTabled eyes.code eyes.shades table →
+        Releases eyes.code table one event own → Releases eyes.code table other event own →
         Watches eyes (world_at_start eyes.code rows bad store) →
         Watches eyes (world_at_start eyes.code rows bad start) →
         IsReached eyes.code rows bad store events one → IsReached eyes.code rows bad start others other →
@@ -36,13 +41,17 @@ pub fn run_laws()
         IsQuiet eyes.code one → IsQuiet eyes.code other → Agree eyes one other → Agree eyes one_after other_after }
     // In worlds that agree misbehaving hosts were sent the same.
     ensures sent { (eyes : Eyes) (one other : WorldShape) → Agree eyes one other → one.sent ≡ other.sent }
-    // Two runs leave worlds that agree which begin alike, and of which the same events may be seen, each in a quiet
-    // world.
+    // Two runs leave worlds that agree which begin alike, of which the same events may be seen, each in a quiet world,
+    // and which release the same values as far as both go.
     ensures runs { (eyes : Eyes) (rows : List declared_hosts.HostShape) (bad : ℕ) (store start : List (List ℤ))
-        (events others seen : List Event) (one other : WorldShape) →
-        AreEyes eyes → IsSoundCode eyes.code → AreHostsOf eyes.code rows → ReleaseNothing eyes.code eyes.shades →
+        (events others seen : List Event) (one other : WorldShape) (table : ReleasesShape)
+        (values others_values : List ℤ) →
+        AreEyes eyes → IsSoundCode eyes.code → AreHostsOf eyes.code rows → IsTabled eyes.code eyes.shades table →
         Watches eyes (world_at_start eyes.code rows bad store) →
         Watches eyes (world_at_start eyes.code rows bad start) → AreStartsAlike eyes store start →
+        AreReleased eyes.code table (world_at_start eyes.code rows bad store) events values →
+        AreReleased eyes.code table (world_at_start eyes.code rows bad start) others others_values →
+        AreAlike values others_values →
         All (HasOwnToken (world_at_start eyes.code rows bad store)) seen →
         IsSeenRun eyes.code (world_at_start eyes.code rows bad store) events seen one →
         IsSeenRun eyes.code (world_at_start eyes.code rows bad start) others seen other →
@@ -51,19 +60,37 @@ pub fn run_laws()
     // Where more is seen of one of them, what misbehaving hosts were sent in it begins with all that they were sent in
     // the other.
     ensures tells { (eyes : Eyes) (rows : List declared_hosts.HostShape) (bad : ℕ) (store start : List (List ℤ))
-        (events others seen more : List Event) (one other : WorldShape) →
-        AreEyes eyes → IsSoundCode eyes.code → AreHostsOf eyes.code rows → ReleaseNothing eyes.code eyes.shades →
+        (events others seen more : List Event) (one other : WorldShape) (table : ReleasesShape)
+        (values others_values : List ℤ) →
+        AreEyes eyes → IsSoundCode eyes.code → AreHostsOf eyes.code rows → IsTabled eyes.code eyes.shades table →
         Watches eyes (world_at_start eyes.code rows bad store) →
         Watches eyes (world_at_start eyes.code rows bad start) → AreStartsAlike eyes store start →
+        AreReleased eyes.code table (world_at_start eyes.code rows bad store) events values →
+        AreReleased eyes.code table (world_at_start eyes.code rows bad start) others others_values →
+        AreAlike values others_values →
         All (HasOwnToken (world_at_start eyes.code rows bad store)) seen →
         IsSeenRun eyes.code (world_at_start eyes.code rows bad store) events (seen ++ more) one →
         IsSeenRun eyes.code (world_at_start eyes.code rows bad start) others seen other →
         IsPrompt eyes.code (world_at_start eyes.code rows bad store) events →
         IsPrompt eyes.code (world_at_start eyes.code rows bad start) others →
         (rest : List SentMessage) × (one.sent ≡ other.sent ++ rest) }
-    // So it is of the code of a program that releases nothing and was checked, placed and split, whichever hosts
-    // misbehave: in two runs from stores with the same values in all fields on obeying hosts that misbehaving hosts may
-    // read.
+    // So it is of the code of each program that was checked, placed and split, with its table of releases, whichever
+    // hosts misbehave: in two runs from stores with the same values in all fields on obeying hosts that misbehaving
+    // hosts may read.
+    ensures released { (placed : PlacedProgram) (bad : ℕ) (store start : List (List ℤ))
+        (events others seen more : List Event) (one other : WorldShape) (values others_values : List ℤ) →
+        let code = split_code placed in
+        let table = releases_of placed in
+        let first = world_at_start code placed.hosts.hosts bad store in
+        let second = world_at_start code placed.hosts.hosts bad start in
+        IsSplittable placed → IsAllowed placed → IsHeld placed → AreResultsLabelled placed.labelled.program →
+        AreStoresAlike code first store start →
+        AreReleased code table first events values → AreReleased code table second others others_values →
+        AreAlike values others_values → All (HasOwnToken first) seen →
+        IsSeenRun code first events (seen ++ more) one → IsSeenRun code second others seen other →
+        IsPrompt code first events → IsPrompt code second others →
+        (rest : List SentMessage) × (one.sent ≡ other.sent ++ rest) }
+    // Where the program releases nothing, nothing need be known of what the runs release.
     ensures split { (placed : PlacedProgram) (bad : ℕ) (store start : List (List ℤ))
         (events others seen more : List Event) (one other : WorldShape) →
         let code = split_code placed in

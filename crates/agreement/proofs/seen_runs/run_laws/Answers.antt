@@ -1,5 +1,5 @@
 use Rattle.agreement.proofs.RunsAgree.{event_agrees, agree_sent, runs_agree, told_alike}
-use Rattle.agreement.proofs.SplitRuns.{split_tells}
+use Rattle.agreement.proofs.SplitRuns.{split_released, split_tells}
 use Rattle.agreement.proofs.seen_runs.run_laws.Goals as goal
 
 pub returns : goal.returns
@@ -8,5 +8,6 @@ returns c = record {
   sent = agree_sent;
   runs = runs_agree;
   tells = told_alike;
+  released = split_released;
   split = split_tells;
 }
