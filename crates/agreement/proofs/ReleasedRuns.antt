@@ -1,6 +1,6 @@
--- What events release: those that may not be seen nothing, and one that happens in two quiet worlds which agree as many
--- values in both.
-use Rattle.std.proofs.Common.{◌≡◌, ◌∙◌, ℕ, List, [], ◌∷◌, length, inl, inr, refl, ap, sym, subst}
+-- What events release: those that may not be seen nothing, one that happens in two quiet worlds which agree as many
+-- values in both, and those of a run one list of values.
+use Rattle.std.proofs.Common.{◌≡◌, ◌∙◌, ℕ, List, [], ◌∷◌, ◌++◌, length, inl, inr, refl, ap, sym, subst}
 use Rattle.std.specs.Prelude.{ℤ, Option, Some, None, IfSome, IsSomeAnd}
 use Rattle.std.proofs.lemmas.List.{length-map}
 use Rattle.js_base.specs.declared.ids.HostId.{HostId}
@@ -89,6 +89,80 @@ as_many eyes rows bad store start events others one other one_after other_after 
     are watch watch_other reach reach_other step twin quiet quiet_other agree releases releases_other =
     ap length (releases ∙ sym releases_other)
 
+-- ---- one run
+
+hidden_releases_none : (code : CodeShape) (table : ReleasesShape) (world : WorldShape) (event : Event) →
+    IsSecret code world event → Releases code table world event []
+hidden_releases_none code table world (Take from to place) secret = refl
+hidden_releases_none code table world (Turn host) secret = inl (secret, refl)
+hidden_releases_none code table world (Act from to made) secret = refl
+
+seen_releases : (code : CodeShape) (table : ReleasesShape) (world : WorldShape) (event : Event) →
+    ¬ (IsSecret code world event) → (values : List ℤ) × Releases code table world event values
+seen_releases code table world (Take from to place) seen = ([], refl)
+seen_releases code table world (Turn host) seen = (released_at table world host, inr (seen, refl))
+seen_releases code table world (Act from to made) seen = ([], refl)
+
+pub one_release : (code : CodeShape) (table : ReleasesShape) (world : WorldShape) (event : Event)
+    (values others : List ℤ) → Releases code table world event values → Releases code table world event others →
+    values ≡ others
+one_release code table world (Take from to place) values others first second = first ∙ sym second
+one_release code table world (Turn host) values others (inl first) (inl second) = first.1 ∙ sym second.1
+one_release code table world (Turn host) values others (inl first) (inr second) = absurd (second.0 first.0)
+one_release code table world (Turn host) values others (inr first) (inl second) = absurd (first.0 second.0)
+one_release code table world (Turn host) values others (inr first) (inr second) = first.1 ∙ sym second.1
+one_release code table world (Act from to made) values others first second = first ∙ sym second
+
+-- what an event releases, and then those after the one world that it leaves
+released_more : (code : CodeShape) (table : ReleasesShape) (world : WorldShape) (event : Event) (next : WorldShape)
+    (events : List Event) (own later : List ℤ) → IsStep code world event next →
+    Releases code table world event own → AreReleased code table next events later →
+    AreReleased code table world (event ∷ events) (own ++ later)
+released_more code table world event next events own later step releases released = (
+  own,
+  later,
+  releases,
+  refl,
+  λ left happens.
+      subst (λ (w : WorldShape). AreReleased code table w events later)
+      (one_step code world next left event step happens) released,
+)
+
+pub some_released : (code : CodeShape) (table : ReleasesShape) (world : WorldShape) (events seen : List Event)
+    (after : WorldShape) → IsSeenRun code world events seen after →
+    (values : List ℤ) × AreReleased code table world events values
+some_released code table world [] seen after ran = ([], refl)
+some_released code table world (event ∷ events) seen after (next, step, inl secret) =
+    let rest = some_released code table next events seen after secret.1 in (
+      rest.0,
+      released_more code table world event next events [] rest.0 step
+          (hidden_releases_none code table world event secret.0) rest.1,
+    )
+some_released code table world (event ∷ events) seen after (next, step, inr visible) =
+    let own = seen_releases code table world event visible.0 in
+    let rest = some_released code table next events visible.1.0 after visible.1.2 in
+    (own.0 ++ rest.0, released_more code table world event next events own.0 rest.0 step own.1 rest.1)
+
+-- lists are the same of which the rests are
+same_rests : (code : CodeShape) (table : ReleasesShape) (world : WorldShape) (event : Event) (events : List Event)
+    (values others : List ℤ) (first : AreReleased code table world (event ∷ events) values)
+    (second : AreReleased code table world (event ∷ events) others) → first.1 ≡ second.1 → values ≡ others
+same_rests code table world event events values others first second rest =
+    first.3 ∙ ap (λ own. own ++ first.1) (one_release code table world event first.0 second.0 first.2 second.2)
+    ∙ ap (λ later. second.0 ++ later) rest ∙ sym second.3
+
+pub one_released : (code : CodeShape) (table : ReleasesShape) (world : WorldShape) (events seen : List Event)
+    (after : WorldShape) (values others : List ℤ) → IsSeenRun code world events seen after →
+    AreReleased code table world events values → AreReleased code table world events others → values ≡ others
+one_released code table world [] seen after values others ran first second = first ∙ sym second
+one_released code table world (event ∷ events) seen after values others (next, step, inl secret) first second =
+    same_rests code table world event events values others first second
+    (one_released code table next events seen after first.1 second.1 secret.1 (first.4 next step) (second.4 next step))
+one_released code table world (event ∷ events) seen after values others (next, step, inr visible) first second =
+    same_rests code table world event events values others first second
+    (one_released code table next events visible.1.0 after first.1 second.1 visible.1.2 (first.4 next step)
+    (second.4 next step))
+
 -- ---- a table without rows
 
 none_by_thread : (host : HostId) (state : HostShape) (running : Option ThreadShape) →
@@ -100,12 +174,6 @@ none_by_host : (host : HostId) (found : Option HostShape) → released_by_host [
 none_by_host host None = refl
 none_by_host host (Some state) = none_by_thread host state state.running
 
-hidden_releases_none : (code : CodeShape) (world : WorldShape) (event : Event) → IsSecret code world event →
-    Releases code [] world event []
-hidden_releases_none code world (Take from to place) secret = refl
-hidden_releases_none code world (Turn host) secret = inl (secret, refl)
-hidden_releases_none code world (Act from to made) secret = refl
-
 seen_releases_none : (code : CodeShape) (world : WorldShape) (event : Event) → ¬ (IsSecret code world event) →
     Releases code [] world event []
 seen_releases_none code world (Take from to place) seen = refl
@@ -116,21 +184,9 @@ seen_releases_none code world (Act from to made) seen = refl
 pub no_releases : (code : CodeShape) (world : WorldShape) (events seen : List Event) (after : WorldShape) →
     IsSeenRun code world events seen after → AreReleased code [] world events []
 no_releases code world [] seen after ran = refl
-no_releases code world (event ∷ events) seen after (next, step, inl secret) = (
-  [],
-  [],
-  hidden_releases_none code world event secret.0,
-  refl,
-  λ left happens.
-      subst (λ (w : WorldShape). AreReleased code [] w events []) (one_step code world next left event step happens)
-      (no_releases code next events seen after secret.1),
-)
-no_releases code world (event ∷ events) seen after (next, step, inr visible) = (
-  [],
-  [],
-  seen_releases_none code world event visible.0,
-  refl,
-  λ left happens.
-      subst (λ (w : WorldShape). AreReleased code [] w events []) (one_step code world next left event step happens)
-      (no_releases code next events visible.1.0 after visible.1.2),
-)
+no_releases code world (event ∷ events) seen after (next, step, inl secret) =
+    released_more code [] world event next events [] [] step (hidden_releases_none code [] world event secret.0)
+    (no_releases code next events seen after secret.1)
+no_releases code world (event ∷ events) seen after (next, step, inr visible) =
+    released_more code [] world event next events [] [] step (seen_releases_none code world event visible.0)
+    (no_releases code next events visible.1.0 after visible.1.2)

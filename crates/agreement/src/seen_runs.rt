@@ -2,6 +2,7 @@
 
 ghost use Rattle.std.specs.Prelude.{◌≡◌, ℕ, ℤ, List, ◌++◌, All};
 ghost use Rattle.host_decl.specs.Hosts as declared_hosts;
+ghost use Rattle.host_code.specs.Code.{CodeShape};
 ghost use Rattle.host_code.specs.Sound.{IsSoundCode};
 ghost use Rattle.event_text.specs.declared.event.Event.{Event};
 ghost use Rattle.net_world.specs.Fits.{HasOwnToken};
@@ -41,6 +42,14 @@ pub fn run_laws()
         IsQuiet eyes.code one → IsQuiet eyes.code other → Agree eyes one other → Agree eyes one_after other_after }
     // In worlds that agree misbehaving hosts were sent the same.
     ensures sent { (eyes : Eyes) (one other : WorldShape) → Agree eyes one other → one.sent ≡ other.sent }
+    // Events of which it is known what may be seen release one list of values.
+    ensures some_values { (code : CodeShape) (table : ReleasesShape) (world : WorldShape) (events seen : List Event)
+        (after : WorldShape) →
+        IsSeenRun code world events seen after → (values : List ℤ) × AreReleased code table world events values }
+    ensures one_values { (code : CodeShape) (table : ReleasesShape) (world : WorldShape) (events seen : List Event)
+        (after : WorldShape) (values others : List ℤ) →
+        IsSeenRun code world events seen after → AreReleased code table world events values →
+        AreReleased code table world events others → values ≡ others }
     // Two runs leave worlds that agree which begin alike, of which the same events may be seen, each in a quiet world,
     // and which release the same values as far as both go.
     ensures runs { (eyes : Eyes) (rows : List declared_hosts.HostShape) (bad : ℕ) (store start : List (List ℤ))
