@@ -39,5 +39,6 @@ pub mod TakesAgree
 pub mod SeenActs
 pub mod TakenWorked
 pub mod ReleasedRuns
+pub mod ReleasedWorked
 pub mod RunsAgree
 pub mod SplitRuns

@@ -11,3 +11,4 @@ pub mod Taken
 pub mod Worked
 pub mod AskingExamples
 pub mod TakenExamples
+pub mod ReleaseExamples

@@ -1,12 +1,13 @@
 //! Laws of two runs of which the same may be seen. The calls do nothing: their contracts are the laws.
 
-ghost use Rattle.std.specs.Prelude.{◌≡◌, ℕ, ℤ, List, ◌++◌, All};
+ghost use Rattle.std.specs.Prelude.{◌≡◌, ℕ, ℤ, pos, List, [], ◌∷◌, ◌++◌, All};
 ghost use Rattle.host_decl.specs.Hosts as declared_hosts;
 ghost use Rattle.host_code.specs.Code.{CodeShape};
 ghost use Rattle.host_code.specs.Sound.{IsSoundCode};
 ghost use Rattle.event_text.specs.declared.event.Event.{Event};
+ghost use Rattle.event_text.specs.declared.event.Event.TheVariants.{Turn};
 ghost use Rattle.net_world.specs.Fits.{HasOwnToken};
-ghost use Rattle.net_world.specs.Released.{AreAlike, Releases, AreReleased};
+ghost use Rattle.net_world.specs.Released.{AreAlike, Releases, AreReleased, released_at};
 ghost use Rattle.net_world.specs.Secret.{IsQuiet, IsSeenRun, IsPrompt};
 ghost use Rattle.net_world.specs.Told.{SentMessage};
 ghost use Rattle.net_world.specs.World.{WorldShape, AreHostsOf, world_at_start, IsStep};
@@ -20,9 +21,11 @@ ghost use Rattle.split_shades.specs.Flows.{AreResultsLabelled};
 ghost use Rattle.split_shades.specs.ShadedCode.{IsTabled};
 ghost use Rattle.split_shades.specs.Sites.{ReleasesNothing};
 ghost use Rattle.token_laws.specs.Reached.{IsReached};
+ghost use Rattle.token_laws.specs.TokenExamples.{host_id, handing, good_start, bad_start};
 ghost use Rattle.seen_world.specs.Eyes.{Eyes, AreEyes, Watches};
 ghost use Rattle.agreement.specs.Alike.{AreStartsAlike, AreStoresAlike};
 ghost use Rattle.agreement.specs.Leads.{Agree};
+ghost use Rattle.agreement.specs.ReleaseExamples.{a_table};
 
 /// What two runs tell misbehaving hosts of which the same may be seen, where the values that one releases go on as
 /// those of the other. A table has the rows of the shades: for each instruction the operands that it releases. Such
@@ -111,4 +114,21 @@ pub fn run_laws()
         IsSeenRun code first events (seen ++ more) one → IsSeenRun code second others seen other →
         IsPrompt code first events → IsPrompt code second others →
         (rest : List SentMessage) × (one.sent ≡ other.sent ++ rest) }
+{}
+
+/// What small runs release, which denies other definitions.
+pub fn release_examples()
+    // A turn that misbehaving hosts may see releases the values of the operands at its place, in order.
+    ensures seen_turn { Releases handing a_table bad_start (Turn (host_id 0)) (pos 7 ∷ pos 8 ∷ []) }
+    ensures seen_turn_less { ¬ (Releases handing a_table bad_start (Turn (host_id 0)) []) }
+    ensures run { AreReleased handing a_table bad_start (Turn (host_id 0) ∷ []) (pos 7 ∷ pos 8 ∷ []) }
+    // One that they may not see releases nothing.
+    ensures secret_turn { Releases handing a_table good_start (Turn (host_id 0)) [] }
+    ensures secret_turn_more { ¬ (Releases handing a_table good_start (Turn (host_id 0)) (pos 7 ∷ pos 8 ∷ [])) }
+    // Nor does a host that misbehaves, or that runs nothing.
+    ensures bad_host { released_at a_table bad_start (host_id 1) ≡ [] }
+    ensures idle_host { released_at a_table good_start (host_id 1) ≡ [] }
+    // Lists are alike of which one goes on where the other ends, and no others.
+    ensures alike { AreAlike (pos 7 ∷ pos 8 ∷ []) (pos 7 ∷ []) }
+    ensures alike_more { ¬ (AreAlike (pos 7 ∷ pos 8 ∷ []) (pos 8 ∷ [])) }
 {}
