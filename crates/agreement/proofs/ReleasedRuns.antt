@@ -1,10 +1,11 @@
 -- What events release: those that may not be seen nothing, one that happens in two quiet worlds which agree as many
 -- values in both, and those of a run one list of values.
-use Rattle.std.proofs.Common.{◌≡◌, ◌∙◌, ℕ, List, [], ◌∷◌, ◌++◌, length, inl, inr, refl, ap, sym, subst}
+use Rattle.std.proofs.Common.{◌≡◌, ◌∙◌, ℕ, List, [], ◌∷◌, ◌++◌, length, map, inl, inr, refl, ap, sym}
 use Rattle.std.specs.Prelude.{ℤ, Option, Some, None, IfSome, IsSomeAnd}
 use Rattle.std.proofs.lemmas.List.{length-map}
 use Rattle.js_base.specs.declared.ids.HostId.{HostId}
 use Rattle.host_decl.specs.Hosts as declared_hosts
+use Rattle.host_code.specs.declared.code_expr.Node.{Node}
 use Rattle.host_code.specs.Code.{CodeShape}
 use Rattle.host_code.specs.Thread.{ThreadShape}
 use Rattle.host_core.specs.Host.{HostShape, value_in_thread}
@@ -13,8 +14,9 @@ use Rattle.event_text.specs.declared.event.Event.{Event}
 use Rattle.event_text.specs.declared.event.Event.TheVariants.{Take, Turn, Act}
 use Rattle.net_world.specs.Released.{released_by_thread, released_by_host, released_at, Releases, AreReleased}
 use Rattle.net_world.specs.Secret.{IsReadable, IsSecret, IsQuiet, IsSeenRun}
-use Rattle.net_world.specs.World.{WorldShape, state_at, IsStep, world_at_start}
-use Rattle.net_world.proofs.StepLaws.{one_step}
+use Rattle.net_world.specs.World.{WorldShape, state_at, IsStep, IsRun, world_at_start}
+use Rattle.net_world.proofs.ReleasedValues.{secret_releases, some_released, releases_once}
+use Rattle.net_world.proofs.ReleasedValues.{released_first, released_once}
 use Rattle.split_rules.specs.Releases.{ReleasesShape, operands_at}
 use Rattle.token_laws.specs.Reached.{IsReached}
 use Rattle.token_laws.proofs.Tests.{some_found}
@@ -25,12 +27,11 @@ use Rattle.agreement.proofs.SeenAgree.{reached_calm, twins_of}
 
 -- ---- one event
 
-pub secret_releases : (code : CodeShape) (table : ReleasesShape) (world : WorldShape) (event : Event)
+-- an event that may not be seen releases nothing
+pub secret_none : (code : CodeShape) (table : ReleasesShape) (world : WorldShape) (event : Event)
     (values : List ℤ) → IsSecret code world event → Releases code table world event values → values ≡ []
-secret_releases code table world (Take from to place) values secret releases = releases
-secret_releases code table world (Turn host) values secret (inl unseen) = unseen.1
-secret_releases code table world (Turn host) values secret (inr seen) = absurd (seen.0 secret)
-secret_releases code table world (Act from to made) values secret releases = releases
+secret_none code table world event values secret releases =
+    releases_once code table world event values [] releases (secret_releases code table world event secret)
 
 -- no turn of a quiet world is secret
 quiet_turn : (code : CodeShape) (world : WorldShape) (host : HostId) → IsQuiet code world →
@@ -91,102 +92,68 @@ as_many eyes rows bad store start events others one other one_after other_after 
 
 -- ---- one run
 
-hidden_releases_none : (code : CodeShape) (table : ReleasesShape) (world : WorldShape) (event : Event) →
-    IsSecret code world event → Releases code table world event []
-hidden_releases_none code table world (Take from to place) secret = refl
-hidden_releases_none code table world (Turn host) secret = inl (secret, refl)
-hidden_releases_none code table world (Act from to made) secret = refl
+-- events of which some may be seen are a run
+seen_ran : (code : CodeShape) (world : WorldShape) (events seen : List Event) (after : WorldShape) →
+    IsSeenRun code world events seen after → IsRun code world events after
+seen_ran code world [] seen after ran = ran.1
+seen_ran code world (event ∷ events) seen after (next, step, inl secret) =
+    (next, step, seen_ran code next events seen after secret.1)
+seen_ran code world (event ∷ events) seen after (next, step, inr visible) =
+    (next, step, seen_ran code next events visible.1.0 after visible.1.2)
 
-seen_releases : (code : CodeShape) (table : ReleasesShape) (world : WorldShape) (event : Event) →
-    ¬ (IsSecret code world event) → (values : List ℤ) × Releases code table world event values
-seen_releases code table world (Take from to place) seen = ([], refl)
-seen_releases code table world (Turn host) seen = (released_at table world host, inr (seen, refl))
-seen_releases code table world (Act from to made) seen = ([], refl)
-
-pub one_release : (code : CodeShape) (table : ReleasesShape) (world : WorldShape) (event : Event)
-    (values others : List ℤ) → Releases code table world event values → Releases code table world event others →
-    values ≡ others
-one_release code table world (Take from to place) values others first second = first ∙ sym second
-one_release code table world (Turn host) values others (inl first) (inl second) = first.1 ∙ sym second.1
-one_release code table world (Turn host) values others (inl first) (inr second) = absurd (second.0 first.0)
-one_release code table world (Turn host) values others (inr first) (inl second) = absurd (first.0 second.0)
-one_release code table world (Turn host) values others (inr first) (inr second) = first.1 ∙ sym second.1
-one_release code table world (Act from to made) values others first second = first ∙ sym second
-
--- what an event releases, and then those after the one world that it leaves
-released_more : (code : CodeShape) (table : ReleasesShape) (world : WorldShape) (event : Event) (next : WorldShape)
-    (events : List Event) (own later : List ℤ) → IsStep code world event next →
-    Releases code table world event own → AreReleased code table next events later →
-    AreReleased code table world (event ∷ events) (own ++ later)
-released_more code table world event next events own later step releases released = (
-  own,
-  later,
-  releases,
-  refl,
-  λ left happens.
-      subst (λ (w : WorldShape). AreReleased code table w events later)
-      (one_step code world next left event step happens) released,
-)
-
-pub some_released : (code : CodeShape) (table : ReleasesShape) (world : WorldShape) (events seen : List Event)
+pub run_releases : (code : CodeShape) (table : ReleasesShape) (world : WorldShape) (events seen : List Event)
     (after : WorldShape) → IsSeenRun code world events seen after →
     (values : List ℤ) × AreReleased code table world events values
-some_released code table world [] seen after ran = ([], refl)
-some_released code table world (event ∷ events) seen after (next, step, inl secret) =
-    let rest = some_released code table next events seen after secret.1 in (
+run_releases code table world [] seen after ran = ([], refl)
+run_releases code table world (event ∷ events) seen after (next, step, inl secret) =
+    let rest = run_releases code table next events seen after secret.1 in (
       rest.0,
-      released_more code table world event next events [] rest.0 step
-          (hidden_releases_none code table world event secret.0) rest.1,
+      released_first code table world next event events [] rest.0 step
+          (secret_releases code table world event secret.0) rest.1,
     )
-some_released code table world (event ∷ events) seen after (next, step, inr visible) =
-    let own = seen_releases code table world event visible.0 in
-    let rest = some_released code table next events visible.1.0 after visible.1.2 in
-    (own.0 ++ rest.0, released_more code table world event next events own.0 rest.0 step own.1 rest.1)
+run_releases code table world (event ∷ events) seen after (next, step, inr visible) =
+    let own = some_released code table world event (inr visible.0) in
+    let rest = run_releases code table next events visible.1.0 after visible.1.2 in
+    (own.0 ++ rest.0, released_first code table world next event events own.0 rest.0 step own.1 rest.1)
 
--- lists are the same of which the rests are
-same_rests : (code : CodeShape) (table : ReleasesShape) (world : WorldShape) (event : Event) (events : List Event)
-    (values others : List ℤ) (first : AreReleased code table world (event ∷ events) values)
-    (second : AreReleased code table world (event ∷ events) others) → first.1 ≡ second.1 → values ≡ others
-same_rests code table world event events values others first second rest =
-    first.3 ∙ ap (λ own. own ++ first.1) (one_release code table world event first.0 second.0 first.2 second.2)
-    ∙ ap (λ later. second.0 ++ later) rest ∙ sym second.3
-
-pub one_released : (code : CodeShape) (table : ReleasesShape) (world : WorldShape) (events seen : List Event)
+pub run_releases_once : (code : CodeShape) (table : ReleasesShape) (world : WorldShape) (events seen : List Event)
     (after : WorldShape) (values others : List ℤ) → IsSeenRun code world events seen after →
     AreReleased code table world events values → AreReleased code table world events others → values ≡ others
-one_released code table world [] seen after values others ran first second = first ∙ sym second
-one_released code table world (event ∷ events) seen after values others (next, step, inl secret) first second =
-    same_rests code table world event events values others first second
-    (one_released code table next events seen after first.1 second.1 secret.1 (first.4 next step) (second.4 next step))
-one_released code table world (event ∷ events) seen after values others (next, step, inr visible) first second =
-    same_rests code table world event events values others first second
-    (one_released code table next events visible.1.0 after first.1 second.1 visible.1.2 (first.4 next step)
-    (second.4 next step))
+run_releases_once code table world events seen after values others ran first second =
+    released_once code table world after events values others (seen_ran code world events seen after ran) first second
 
--- ---- a table without rows
+-- ---- a table without operands
 
-none_by_thread : (host : HostId) (state : HostShape) (running : Option ThreadShape) →
-    released_by_thread [] host state running ≡ []
-none_by_thread host state None = refl
-none_by_thread host state (Some thread) = refl
+abbrev pub HasNoOperand : ReleasesShape → Type 0
+HasNoOperand table = (host : HostId) (place : ℕ) → operands_at table host place ≡ []
 
-none_by_host : (host : HostId) (found : Option HostShape) → released_by_host [] host found ≡ []
-none_by_host host None = refl
-none_by_host host (Some state) = none_by_thread host state state.running
+none_by_thread : (table : ReleasesShape) → HasNoOperand table → (host : HostId) (state : HostShape)
+    (running : Option ThreadShape) → released_by_thread table host state running ≡ []
+none_by_thread table none host state None = refl
+none_by_thread table none host state (Some thread) =
+    ap (λ (operands : List (List Node)). map (value_in_thread state thread) operands) (none host thread.at)
 
-seen_releases_none : (code : CodeShape) (world : WorldShape) (event : Event) → ¬ (IsSecret code world event) →
-    Releases code [] world event []
-seen_releases_none code world (Take from to place) seen = refl
-seen_releases_none code world (Turn host) seen = inr (seen, sym (none_by_host host (state_at world host)))
-seen_releases_none code world (Act from to made) seen = refl
+none_by_host : (table : ReleasesShape) → HasNoOperand table → (host : HostId) (found : Option HostShape) →
+    released_by_host table host found ≡ []
+none_by_host table none host None = refl
+none_by_host table none host (Some state) = none_by_thread table none host state state.running
 
--- no run releases anything by it
-pub no_releases : (code : CodeShape) (world : WorldShape) (events seen : List Event) (after : WorldShape) →
-    IsSeenRun code world events seen after → AreReleased code [] world events []
-no_releases code world [] seen after ran = refl
-no_releases code world (event ∷ events) seen after (next, step, inl secret) =
-    released_more code [] world event next events [] [] step (hidden_releases_none code [] world event secret.0)
-    (no_releases code next events seen after secret.1)
-no_releases code world (event ∷ events) seen after (next, step, inr visible) =
-    released_more code [] world event next events [] [] step (seen_releases_none code world event visible.0)
-    (no_releases code next events visible.1.0 after visible.1.2)
+-- what may be seen releases nothing by it
+seen_none : (code : CodeShape) (table : ReleasesShape) → HasNoOperand table → (world : WorldShape) (event : Event) →
+    ¬ (IsSecret code world event) → Releases code table world event []
+seen_none code table none world (Take from to place) seen = refl
+seen_none code table none world (Turn host) seen =
+    inr (seen, sym (none_by_host table none host (state_at world host)))
+seen_none code table none world (Act from to made) seen = refl
+
+-- and so no run does
+pub no_releases : (code : CodeShape) (table : ReleasesShape) → HasNoOperand table → (world : WorldShape)
+    (events seen : List Event) (after : WorldShape) → IsSeenRun code world events seen after →
+    AreReleased code table world events []
+no_releases code table none world [] seen after ran = refl
+no_releases code table none world (event ∷ events) seen after (next, step, inl secret) =
+    released_first code table world next event events [] [] step (secret_releases code table world event secret.0)
+    (no_releases code table none next events seen after secret.1)
+no_releases code table none world (event ∷ events) seen after (next, step, inr visible) =
+    released_first code table world next event events [] [] step (seen_none code table none world event visible.0)
+    (no_releases code table none next events visible.1.0 after visible.1.2)

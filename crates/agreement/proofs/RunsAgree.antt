@@ -27,7 +27,7 @@ use Rattle.agreement.specs.Views.{View, Owed, nothing, goes_on, gives, GivenBack
 use Rattle.agreement.proofs.AnyTurns.{any_agrees}
 use Rattle.agreement.proofs.HiddenEvents.{secret_own, no_event, run_agrees}
 use Rattle.agreement.proofs.Lists.{same_chunk}
-use Rattle.agreement.proofs.ReleasedRuns.{secret_releases, quiet_releases, as_many}
+use Rattle.agreement.proofs.ReleasedRuns.{secret_none, quiet_releases, as_many}
 use Rattle.agreement.proofs.SeenActs.{acts_agree}
 use Rattle.agreement.proofs.Starts.{starts_agree}
 use Rattle.agreement.proofs.TakesAgree.{takes_agree}
@@ -147,7 +147,7 @@ cut code table world (first ∷ events) event rest after values (next, step, inl
       more = more.more;
       releases = more.releases;
       is = released.3
-          ∙ ap (λ own. own ++ released.1) (secret_releases code table world first released.0 secret.0 released.2)
+          ∙ ap (λ own. own ++ released.1) (secret_none code table world first released.0 secret.0 released.2)
           ∙ more.is;
       released = more.released;
     }

@@ -22,13 +22,12 @@ use Rattle.split_rules.specs.Splittable.{IsSplittable}
 use Rattle.split_rules.proofs.AskingSplit.{split_is_granted}
 use Rattle.split_rules.proofs.SoundSplit.{split_is_sound}
 use Rattle.split_shades.specs.Flows.{AreResultsLabelled}
-use Rattle.split_shades.specs.ShadedCode.{IsTabled}
 use Rattle.split_shades.specs.Sites.{ReleasesNothing, scene_of}
 use Rattle.split_shades.proofs.KnownCode.{split_is_known}
-use Rattle.split_shades.proofs.ShadedSplit.{split_is_tabled}
+use Rattle.split_shades.proofs.ShadedSplit.{split_is_tabled, split_is_untold}
 use Rattle.seen_world.specs.Eyes.{Eyes, AreEyes, Watches}
 use Rattle.seen_world.proofs.SeeingHosts.{has_eyes}
-use Rattle.seen_world.proofs.SeenWorlds.{split_has_eyes, label_read}
+use Rattle.seen_world.proofs.SeenWorlds.{label_read}
 use Rattle.agreement.specs.Alike.{AreStartsAlike, AreStoresAlike}
 use Rattle.agreement.proofs.ReleasedRuns.{no_releases}
 use Rattle.agreement.proofs.RunsAgree.{told_alike}
@@ -104,10 +103,15 @@ split_released placed bad store start events others seen more one other values o
     (stores_alike eyes first store start have.1 (λ host. refl) alike) released released_other values_alike own ran
     ran_other prompt prompt_other
 
--- where no instruction releases anything, the table without rows is one of the code
-silent_code : (eyes : Eyes) → AreEyes eyes → eyes.scene.may_release ≡ false → IsTabled eyes.code eyes.shades []
-silent_code eyes are silent host place there is =
-    (are.shaded.instructions host place there is).is_shade.silent silent
+-- a run of a program that releases nothing releases no value
+pub split_releases_none : (placed : PlacedProgram) (world after : WorldShape) (events seen : List Event) →
+    IsSplittable placed → IsAllowed placed → IsHeld placed →
+    AreResultsLabelled placed.labelled.program → ReleasesNothing placed.labelled.program →
+    IsSeenRun (split_code placed) world events seen after →
+    AreReleased (split_code placed) (releases_of placed) world events []
+split_releases_none placed world after events seen splittable allowed held results nothing ran =
+    no_releases (split_code placed) (releases_of placed)
+    (split_is_untold placed splittable allowed held results nothing) world events seen after ran
 
 pub split_tells : (placed : PlacedProgram) (bad : ℕ) (store start : List (List ℤ))
     (events others seen more : List Event) (one other : WorldShape) →
@@ -126,22 +130,11 @@ pub split_tells : (placed : PlacedProgram) (bad : ℕ) (store start : List (List
     (world_at_start (split_code placed) placed.hosts.hosts bad start) others →
     (rest : List SentMessage) × (one.sent ≡ other.sent ++ rest)
 split_tells placed bad store start events others seen more one other splittable allowed held results
-    releases alike own ran ran_other prompt prompt_other =
+    nothing alike own ran ran_other prompt prompt_other =
     let code = split_code placed in
     let first = world_at_start code placed.hosts.hosts bad store in
     let second = world_at_start code placed.hosts.hosts bad start in
-    let have = split_has_eyes placed false (misbehaves first) splittable allowed held results
-    (λ silent. releases) in
-    let eyes : Eyes = record {
-      scene = scene_of placed false;
-      code = code;
-      shades = have.0;
-      bad = misbehaves first;
-      sees = have.1;
-    } in
-    told_alike eyes placed.hosts.hosts bad store start events others seen more one other [] [] [] have.2
-    (split_is_sound placed splittable) refl (silent_code eyes have.2 refl) (λ host. refl)
-    (λ host. same_absent code store start bad 0 placed.hosts.hosts host.0)
-    (stores_alike eyes first store start have.2 (λ host. refl) alike)
-    (no_releases code first events (seen ++ more) one ran) (no_releases code second others seen other ran_other)
+    split_released placed bad store start events others seen more one other [] [] splittable allowed held results alike
+    (split_releases_none placed first one events (seen ++ more) splittable allowed held results nothing ran)
+    (split_releases_none placed second other others seen splittable allowed held results nothing ran_other)
     (inl ([], refl)) own ran ran_other prompt prompt_other

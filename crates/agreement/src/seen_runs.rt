@@ -102,7 +102,12 @@ pub fn run_laws()
         IsSeenRun code first events (seen ++ more) one → IsSeenRun code second others seen other →
         IsPrompt code first events → IsPrompt code second others →
         (rest : List SentMessage) × (one.sent ≡ other.sent ++ rest) }
-    // Where the program releases nothing, nothing need be known of what the runs release.
+    // A run of a program that releases nothing releases no value, so nothing need be known of what its runs release.
+    ensures none { (placed : PlacedProgram) (world after : WorldShape) (events seen : List Event) →
+        IsSplittable placed → IsAllowed placed → IsHeld placed →
+        AreResultsLabelled placed.labelled.program → ReleasesNothing placed.labelled.program →
+        IsSeenRun (split_code placed) world events seen after →
+        AreReleased (split_code placed) (releases_of placed) world events [] }
     ensures split { (placed : PlacedProgram) (bad : ℕ) (store start : List (List ℤ))
         (events others seen more : List Event) (one other : WorldShape) →
         let code = split_code placed in

@@ -43,7 +43,7 @@ some_released code table world (Turn host) (inr seen) = (released_at table world
 some_released code table world (Act from to made) known = ([], refl)
 
 -- and no others
-releases_once : (code : CodeShape) (table : ReleasesShape) (world : WorldShape) (event : Event) (one other : List ℤ) →
+pub releases_once : (code : CodeShape) (table : ReleasesShape) (world : WorldShape) (event : Event) (one other : List ℤ) →
     Releases code table world event one → Releases code table world event other → one ≡ other
 releases_once code table world (Take from to place) one other is also = is ∙ sym also
 releases_once code table world (Turn host) one other (inl is) (inl also) = is.1 ∙ sym also.1
