@@ -35,7 +35,13 @@ fn begun_by(alloc: Global, line: &str) -> Result<String, Fail> {
     let mut links = links(alloc, "ACK", "-")?;
     let mut journal = MemJournal::new(alloc, Vec::new(alloc));
     let words = words(alloc, line)?;
-    let _status = jifhost(alloc, words.as_slice(), &mut files, &mut links, &mut journal);
+    let _status = jifhost(
+        alloc,
+        words.as_slice(),
+        &mut files,
+        &mut links,
+        &mut journal,
+    );
     begun_text(alloc, &links, &journal)
 }
 

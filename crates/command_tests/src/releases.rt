@@ -70,7 +70,13 @@ fn operand_text(alloc: Global, code: &Code, operand: &CodeExpr) -> Result<String
 }
 
 /// The line of the instruction of T at a place, and nothing where it releases nothing.
-fn line_at(alloc: Global, code: &Code, table: &ReleaseTable, at: u32, word: &str) -> Result<String, Fail> {
+fn line_at(
+    alloc: Global,
+    code: &Code,
+    table: &ReleaseTable,
+    at: u32,
+    word: &str,
+) -> Result<String, Fail> {
     let mut operands = Vec::new(alloc);
     for operand in table.operands(HostId(0), at) {
         operands.push(operand_text(alloc, code, operand)?)?;

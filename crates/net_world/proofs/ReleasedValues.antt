@@ -82,15 +82,15 @@ released_last code table world middle [] event values own ran are is = (
 )
 released_last code table world middle (first ∷ events) event values own (next, step, ran)
     (front, later, is_front, whole, rest) is = (
-  front,
-  later ++ own,
-  is_front,
-  ap (λ (all : List ℤ). all ++ own) whole ∙ append_assoc front later own,
-  λ other also.
-      subst (λ (w : WorldShape). AreReleased code table w (events ++ event ∷ []) (later ++ own))
-      (one_step code world next other first step also)
-      (released_last code table next middle events event later own ran (rest next step) is),
-)
+      front,
+      later ++ own,
+      is_front,
+      ap (λ (all : List ℤ). all ++ own) whole ∙ append_assoc front later own,
+      λ other also.
+          subst (λ (w : WorldShape). AreReleased code table w (events ++ event ∷ []) (later ++ own))
+          (one_step code world next other first step also)
+          (released_last code table next middle events event later own ran (rest next step) is),
+    )
 
 -- a run releases one list of values
 pub released_once : (code : CodeShape) (table : ReleasesShape) (world last : WorldShape) (events : List Event)

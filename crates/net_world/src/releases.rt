@@ -69,11 +69,7 @@ fn released_by(
 }
 
 /// The values of expressions in the thread that a host runs.
-fn values_of(
-    alloc: Global,
-    there: &Host,
-    expressions: &[CodeExpr],
-) -> Result<Vec<i64>, OutOfMemory>
+fn values_of(alloc: Global, there: &Host, expressions: &[CodeExpr]) -> Result<Vec<i64>, OutOfMemory>
     ensures { IfOk result (λ values. values.items
         ≡ map (value_in_running (state_of there.now) there.now.running) expressions.now) }
 {

@@ -18,9 +18,7 @@ use crate::comparing::{
 use crate::following::follow;
 use crate::scripts::{first_world, read_script};
 use event_text::Script;
-use front_end::{
-    Loaded, PlacedSource, Stop, Verdict, code_of, load_all, read_places, releases_of,
-};
+use front_end::{Loaded, PlacedSource, Stop, Verdict, code_of, load_all, read_places, releases_of};
 use host_code::Code;
 use js_base::Files;
 use std::alloc::Global;
