@@ -119,7 +119,10 @@ fewer_left code world last after journals events event places left later gone me
 
 met_none : (count : ℕ) → met (replicate count 0) ≡ 0
 met_none zero = refl
-met_none (suc count) = met_none count
+met_none (suc count) =
+    let rest : met (replicate count 0) ≡ 0 = met_none count in
+    let all : 0 + met (replicate count 0) ≡ 0 = omega (arith, rest) in
+    all
 
 -- a host that has made no more steps than so many has made no more than a higher number
 pub have_more : (hosts : List (Option HostModel)) (few many : ℕ) → few ≤ many → HaveMade few hosts → HaveMade many hosts

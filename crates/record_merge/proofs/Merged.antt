@@ -9,12 +9,9 @@ use Rattle.event_text.specs.Lines.{LineShape, words}
 use Rattle.host_code.specs.Code.{CodeShape}
 use Rattle.net_world.specs.World.{WorldShape}
 use Rattle.event_text.specs.declared.lines.Line.{Line}
-use Rattle.record_merge.specs.declared.journal.MergeError.{MergeError}
-use Rattle.record_merge.specs.declared.journal.MergeError.TheVariants as error
-use Rattle.record_merge.specs.JournalLines.{said_line, journal_of, all_of, said_of, number_at, IsNotMerged}
+use Rattle.record_merge.specs.JournalLines.{said_line, journal_of, all_of, said_of, number_at}
 use Rattle.record_merge.specs.Journals.{first_fault, journal_lines}
-use Rattle.record_merge.specs.Merging.{IsMerged, IsRefusedFor}
-use Rattle.record_merge.specs.Reading.{IsUnread}
+use Rattle.record_merge.specs.Merging.{IsMerged}
 use Rattle.record_merge.specs.Meeting.{Journal, journal_at, MeetsAt, Meets, IsAtEnd, IsFirstLeft, IsLeftAt}
 use Rattle.record_merge.specs.Meeting.{words_in}
 use Rattle.record_merge.specs.Notes.{lines_at}
@@ -90,19 +87,3 @@ merged_of code world journals lines events read meets =
     let same : all_of lines ≡ words_in (map journal_lines journals) =
     sym (said_words lines) ∙ ap words_in read.said in
     (read.sound, subst (λ (js : List Journal). Meets code world js events) same meets)
-
-pub refused_of : (code : CodeShape) (world : WorldShape) (journals : List (List ℕ)) (lines : List (Vec Line Global))
-    (why : MergeError) → HaveRead code journals lines → IsNotMerged code world lines why →
-    IsRefusedFor code world journals why
-refused_of code world journals lines error.OutOfMemory read not = tt
-refused_of code world journals lines (error.TooLong host) read not = absurd not
-refused_of code world journals lines (error.BadLine host line) read not = absurd not
-refused_of code world journals lines (error.NoMatch host line) read not =
-    (read.sound, subst (λ (said : List (List LineShape)). IsLeftAt code world said host line) read.said not)
-
-pub unread_refused : (code : CodeShape) (world : WorldShape) (journals : List (List ℕ)) (why : MergeError) →
-    IsUnread code journals why → IsRefusedFor code world journals why
-unread_refused code world journals error.OutOfMemory unread = tt
-unread_refused code world journals (error.TooLong host) unread = unread
-unread_refused code world journals (error.BadLine host line) unread = unread
-unread_refused code world journals (error.NoMatch host line) unread = absurd unread

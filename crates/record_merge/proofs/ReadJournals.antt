@@ -1,41 +1,18 @@
--- Journals that are read one after the other, and the lines of each.
-use Rattle.std.proofs.Common.{◌≡◌, ◌∙◌, ℕ, ◌+◌, ◌*◌, ◌<◌, ◌≤◌, Bool, true, false, not, List, [], ◌∷◌, ◌++◌, length}
-use Rattle.std.proofs.Common.{Some, None, refl, ap, sym, arith, get_or, drop, add-one, Vec, Global, append-nil}
-use Rattle.std.specs.Prelude.{map, if◌then◌else◌}
+-- Journals that are read one after the other.
+use Rattle.std.proofs.Common.{◌≡◌, ◌∙◌, ℕ, ◌+◌, ◌*◌, ◌<◌, ◌≤◌, List, [], ◌∷◌, ◌++◌, length}
+use Rattle.std.proofs.Common.{None, ap, sym, arith, get_or, drop, add-one, Vec, Global}
+use Rattle.std.specs.Prelude.{map}
 use Rattle.std.proofs.Math.Seq.{drop-cons}
 use Rattle.std.proofs.lemmas.List.{append_assoc, map-append, length-map}
-use Rattle.js_base.specs.declared.ids.HostId.{HostId}
 use Rattle.js_base.specs.declared.limits.TheConstants.{SCRIPT_BYTES}
 use Rattle.event_text.specs.declared.lines.Line.{Line}
-use Rattle.event_text.specs.Lines.{LineShape}
+use Rattle.event_text.specs.Lines.{LineShape, words}
 use Rattle.host_code.specs.Code.{CodeShape}
-use Rattle.record_merge.specs.declared.reading.JournalError.{JournalError}
-use Rattle.record_merge.specs.declared.reading.JournalError.TheVariants as journal_error
-use Rattle.record_merge.specs.JournalLines.{said_line, journal_of, said_of, all_of, lines_in}
-use Rattle.record_merge.specs.Journals.{Fault, too_long, bad_line, is_aside, step_lines, journal_lines, fault_of}
-use Rattle.record_merge.specs.Journals.{first_fault, or_later}
-use Rattle.record_merge.specs.Reading.{bytes_of, of_host, IsNotRead, IsUnread}
+use Rattle.record_merge.specs.JournalLines.{said_line, said_of, all_of, lines_in}
+use Rattle.record_merge.specs.Journals.{journal_lines, fault_of, first_fault, or_later}
+use Rattle.record_merge.specs.Reading.{bytes_of}
 
--- ---- the lines of a journal
-
-pub step_cons : (line : LineShape) (others : List LineShape) →
-    step_lines (line ∷ others) ≡ step_lines (line ∷ []) ++ step_lines others
-step_cons line others = by (not (is_aside line.words))
-  where
-    by : (kept : Bool) → (if kept then line ∷ step_lines others else step_lines others)
-        ≡ (if kept then line ∷ [] else []) ++ step_lines others
-    by true = refl
-    by false = refl
-
--- one line more was read
-pub line_more : (line : LineShape) (others old new whole : List LineShape) → new ≡ old ++ step_lines (line ∷ []) →
-    old ++ step_lines (line ∷ others) ≡ whole → new ++ step_lines others ≡ whole
-line_more line others old new whole added before =
-    ap (λ (lines : List LineShape). lines ++ step_lines others) added
-    ∙ append_assoc old (step_lines (line ∷ [])) (step_lines others)
-    ∙ ap (λ (lines : List LineShape). old ++ lines) (sym (step_cons line others)) ∙ before
-
--- ---- all journals
+-- ---- what they say
 
 -- what is left of journals is the next, and what is left behind that
 left_cut : (journals : List (Vec ℕ Global)) (number : ℕ) (d journal : Vec ℕ Global) → number < length journals →
@@ -73,33 +50,12 @@ sound_more code journals number d journal within is sound before =
     sym (ap (λ fault. or_later number fault later) sound)
     ∙ sym (ap (first_fault code number) (left_cut journals number d journal within is)) ∙ before
 
-fault_here : (code : CodeShape) (journals : List (Vec ℕ Global)) (number : ℕ) (d journal : Vec ℕ Global)
-    (fault : Fault) → number < length journals → journal ≡ get_or journals number d →
-    fault_of code journal.items ≡ Some fault →
-    first_fault code number (bytes_of (drop number journals)) ≡ first_fault code 0 (bytes_of journals) →
-    first_fault code 0 (bytes_of journals) ≡ Some (number, fault)
-fault_here code journals number d journal fault within is has before =
-    let later = first_fault code (number + 1) (bytes_of (drop (number + 1) journals)) in
-    sym before ∙ ap (first_fault code number) (left_cut journals number d journal within is)
-    ∙ ap (λ found. or_later number found later) has
-
-pub unread_here : (code : CodeShape) (journals : List (Vec ℕ Global)) (number : ℕ) (d journal : Vec ℕ Global)
-    (error : JournalError) → number < length journals → journal ≡ get_or journals number d →
-    IsNotRead code journal.items error →
-    first_fault code number (bytes_of (drop number journals)) ≡ first_fault code 0 (bytes_of journals) →
-    IsUnread code (bytes_of journals) (of_host error (record { 0 = number }))
-unread_here code journals number d journal journal_error.OutOfMemory within is why before = tt
-unread_here code journals number d journal journal_error.TooLong within is why before =
-    fault_here code journals number d journal too_long within is why before
-unread_here code journals number d journal (journal_error.BadLine line) within is why before =
-    fault_here code journals number d journal (bad_line line) within is why before
-
 -- ---- how many lines they have
 
 lines_more : (all : List (Vec Line Global)) (lines : Vec Line Global) →
     lines_in (all_of (all ++ lines ∷ [])) ≡ lines_in (all_of all) + length lines.items
 lines_more [] lines =
-    let count = length-map lines.items (λ (line : Line). Rattle.event_text.specs.Lines.words line.bytes.now) in
+    let count = length-map lines.items (λ (line : Line). words line.bytes.now) in
     omega (arith, count)
 lines_more (one ∷ all) lines = let rest = lines_more all lines in omega (arith, rest)
 
