@@ -1,7 +1,7 @@
 -- Before the first event a thread runs on the root host alone, and nothing is in flight.
 use Rattle.std.proofs.Common.{◌≡◌, ℕ, zero, suc, ◌+◌, ◌⊎◌, inl, inr, true, false, List, [], ◌∷◌, Option, Some, None}
 use Rattle.std.proofs.Common.{refl, ap, sym, subst, arith}
-use Rattle.std.specs.Prelude.{ℤ, IsSome, IsSomeAnd, slice_get, ◌==◌, if◌then◌else◌}
+use Rattle.std.specs.Prelude.{ℤ, IsSome, IsSomeAnd, slice_get, if◌then◌else◌}
 use Rattle.std.proofs.lemmas.Bool.Decides.{eqb_tells}
 use Rattle.js_base.specs.declared.ids.HostId.{HostId}
 use Rattle.js_base.proofs.Options.{some_or_none}

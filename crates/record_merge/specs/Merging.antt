@@ -6,7 +6,7 @@ use Rattle.host_code.specs.Code.{CodeShape}
 use Rattle.net_world.specs.World.{WorldShape}
 use Rattle.record_merge.specs.declared.journal.MergeError.{MergeError}
 use Rattle.record_merge.specs.declared.journal.MergeError.TheVariants as error
-use Rattle.record_merge.specs.Journals.{Fault, too_long, bad_line, first_fault, journal_lines}
+use Rattle.record_merge.specs.Journals.{too_long, bad_line, first_fault, journal_lines}
 use Rattle.record_merge.specs.Meeting.{Meets, IsLeftAt, words_in}
 
 -- each journal is read, and events meet them

@@ -1,7 +1,6 @@
 //! The lines that a journal may have.
 
-ghost use Rattle.std.specs.Prelude.{◌≡◌, ◌≤◌, length};
-ghost use Rattle.js_base.specs.declared.limits.TheConstants.{HOSTS};
+ghost use Rattle.std.specs.Prelude.{◌≡◌};
 ghost use Rattle.event_text.specs.Lines.{words};
 ghost use Rattle.record_merge.specs.Journals.{has_form, is_aside, is_nothing, is_of_message, is_of_reason, is_of_host};
 ghost use Rattle.record_merge.specs.Journals.{is_reason};

@@ -1,7 +1,7 @@
 //! The one list of events that journals allow.
 
 ghost use Rattle.std.specs.Prelude.{◌≡◌, ◌↔◌, ◌∷◌, ◌<◌, [], IfOk, IsTrue, Some, IfSome, IfNone, length, map};
-ghost use Rattle.std.specs.Prelude.{unwrap_or, Option, ℕ, ◌+◌};
+ghost use Rattle.std.specs.Prelude.{Option, ℕ, ◌+◌};
 ghost use Rattle.std.specs.Prelude.{◌++◌, OnOk, replicate, slice_index};
 ghost use Rattle.std.specs.Option.{option_map};
 ghost use Rattle.host_code.specs.Messages.{MessageFits};
