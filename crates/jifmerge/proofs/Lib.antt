@@ -1,5 +1,9 @@
 pub mod Completeness
+pub mod DueMerges
 pub mod DueWords
+pub mod Journals
 pub mod LoadedWords
 pub mod OneVerdict
 pub mod Printed
+pub mod Replays
+pub mod SaidEvents

@@ -90,7 +90,8 @@ no_settings : (fields : List FieldForm) → setting_lines fields [] ≡ []
 no_settings [] = refl
 no_settings (field ∷ fields) = refl
 
-drop_past : {X : Type 0} (xs : List X) (place : ℕ) → length xs ≤ place → drop place xs ≡ []
+-- nothing is left behind the end
+pub drop_past : {X : Type 0} (xs : List X) (place : ℕ) → length xs ≤ place → drop place xs ≡ []
 drop_past [] zero past = refl
 drop_past [] (suc place) past = refl
 drop_past (x ∷ xs) zero past = absurd (omega (arith, past))

@@ -82,6 +82,6 @@ names_with_most place (word ∷ words) = (word, most_of place) ∷ names_with_mo
 -- this was loaded of files that hold these bytes, of which the first has this place
 abbrev pub AreLoaded : ℕ → List (List ℕ) → List Loaded → Type 0
 AreLoaded place [] [] = ⊤
-AreLoaded place (bytes ∷ others) (loaded ∷ more) =
-    IsLoaded (most_of place) bytes loaded × AreLoaded (place + 1) others more
-AreLoaded place bytes loaded = ⊥
+AreLoaded place (bytes ∷ others) (one ∷ more) =
+    IsLoaded (most_of place) bytes one × AreLoaded (place + 1) others more
+AreLoaded place bytes all = ⊥

@@ -1,3 +1,4 @@
 pub mod Answers
 pub mod Due
 pub mod Merged
+pub mod Replays

@@ -8,8 +8,8 @@ ghost use Rattle.front_end.specs.Loading.{EndsIn, IsLoaded};
 ghost use Rattle.front_end.specs.Loads.{AreKept, files_change};
 ghost use Rattle.front_end.specs.ReadPrograms.{AreShort, IsReadDraft};
 ghost use Rattle.front_end.specs.Verdicts.{verdict_shape};
-ghost use Rattle.jifmerge.specs.Due.{AreLoaded, DueForAccepted, DueForBytes, IsDue, most_of};
-ghost use Rattle.jifmerge.specs.Due.{names_with_most};
+ghost use Rattle.jifmerge.specs.Due.{AreLoaded, DueForAccepted, DueForBytes, DueForContents};
+ghost use Rattle.jifmerge.specs.Due.{IsDue, most_of, names_with_most};
 ghost use Rattle.jifmerge.specs.declared.due.TheConstants.{FEWEST};
 
 use crate::merged::due_for_placed;
@@ -94,20 +94,40 @@ fn due_for_loaded(alloc: Global, words: &[String], loaded: &[Loaded]) -> Result<
     ensures { (bytes : List (List ℕ)) → AreLoaded 0 bytes loaded.now →
         EndsIn (DueForBytes (map string_bytes words.now) bytes) result }
 {
-    let draft = drafted(alloc, &loaded[0])?;
-    let hosts = hosts_read(alloc, &loaded[1])?;
-    if loaded.len() != hosts.hosts().len() + 3 {
-        return Ok(Verdict::Refuse(Refusal::WrongJournals));
-    }
-    due_for_accepted(
+    due_for_files(
         alloc,
         words[2].as_str(),
         &words[3..],
-        draft,
-        hosts,
+        &loaded[0],
+        &loaded[1],
         &loaded[2],
         &loaded[3..],
     )
+}
+
+/// What is due for a program, a host file, a file of starting values of this name, and journals of these names, which
+/// were loaded.
+fn due_for_files(
+    alloc: Global,
+    name: &str,
+    names: &[String],
+    program: &Loaded,
+    file: &Loaded,
+    start: &Loaded,
+    journals: &[Loaded],
+) -> Result<Verdict, Stop>
+    requires { length names.now ≡ length journals.now }
+    ensures { (p h s : List ℕ) (js : List (List ℕ)) → IsLoaded PROGRAM_BYTES p program.now →
+        IsLoaded HOSTS_BYTES h file.now → IsLoaded SCRIPT_BYTES s start.now →
+        AllZip (IsLoaded SCRIPT_BYTES) js journals.now →
+        EndsIn (DueForContents name.now (map string_bytes names.now) p h s js) result }
+{
+    let draft = drafted(alloc, program)?;
+    let hosts = hosts_read(alloc, file)?;
+    if journals.len() != hosts.hosts().len() {
+        return Ok(Verdict::Refuse(Refusal::WrongJournals));
+    }
+    due_for_accepted(alloc, name, names, draft, hosts, start, journals)
 }
 
 /// What is due for a draft and hosts that were read, a file of starting values of this name, and journals of these

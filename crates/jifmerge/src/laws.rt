@@ -1,13 +1,24 @@
 //! The laws of what is due.
 
-ghost use Rattle.std.specs.Prelude.{◌≡◌, ◌<◌, ◌∷◌, [], ℕ, List, Option, Some, None, codes};
+ghost use Rattle.std.specs.Prelude.{◌≡◌, ◌<◌, ◌+◌, ◌∷◌, [], ℕ, ℤ, List, Option, Some, None, Ok, codes, length};
 ghost use Rattle.js_base.specs.Counts.{last_count};
+ghost use Rattle.event_text.specs.declared.event.Event.{Event};
+ghost use Rattle.event_text.specs.Script.{script_of};
+ghost use Rattle.event_text.specs.ScriptText.{front_lines, on_lines, script_text};
 ghost use Rattle.front_end.specs.Loads.{FilesChange};
 ghost use Rattle.front_end.specs.Verdicts.{VerdictShape, no_such_file};
+ghost use Rattle.host_code.specs.Code.{CodeShape};
+ghost use Rattle.host_code.specs.Sound.{IsSoundCode};
+ghost use Rattle.host_decl.specs.Hosts.{HostShape};
+ghost use Rattle.net_world.specs.World.{WorldShape, AreHostsOf, IsRun, world_at_start};
+ghost use Rattle.record_merge.specs.Merging.{IsMerged};
 ghost use Rattle.jifmerge.specs.Due.{Due, IsDue, usage};
+ghost use Rattle.jifmerge.specs.Replays.{CanBeSaid};
 
+use event_text::script_laws;
 use front_end::source_laws;
-use record_merge::merge_laws;
+use net_world::laws::fits_laws;
+use record_merge::{merge_laws, single_laws};
 
 /// Laws of what is due, for who reasons about it. The call does nothing.
 pub fn merged_laws()
@@ -23,12 +34,33 @@ pub fn merged_laws()
         files.held ≡ Some holds → files.faults_before < last_count →
         IsDue words files first → IsDue words files second → first ≡ second }
 
-    // Worked: no words are due the usage line after no load, and where no file is held, four are due the line that the
-    // program is absent, after one load.
+    // A script that is due is read again, as `jifsplit replay` reads it: no host misbehaves, the fields start with these
+    // values, and the events are these.
+    ensures replays { (code : CodeShape) (rows : List HostShape) (values : List (List ℤ)) (journals : List (List ℕ))
+        (events : List Event) →
+        IsSoundCode code → AreHostsOf code rows → CanBeSaid code values →
+        IsMerged code (world_at_start code rows 0 values) journals events →
+        script_of code (script_text code 0 values events) ≡ Ok (record {
+          bad = 0;
+          start = values;
+          events = on_lines (length (front_lines code 0 values) + 1) events;
+        }) }
+
+    // These events happen, so the replay refuses none of them.
+    ensures happens { (code : CodeShape) (world : WorldShape) (journals : List (List ℕ)) (events : List Event) →
+        IsMerged code world journals events → (last : WorldShape) × IsRun code world events last }
+
+    // Worked: no words and three are due the usage line after no load, and where no file is held, four are due the line
+    // that the program is absent, after one load.
     ensures worked_no_words { (held : Option (List ℕ → Option (List ℕ))) → Due [] held 0 usage }
+    ensures worked_three_words { (held : Option (List ℕ → Option (List ℕ))) →
+        Due (codes "P" ∷ codes "H" ∷ codes "S" ∷ []) held 0 usage }
     ensures worked_absent { Due (codes "P" ∷ codes "H" ∷ codes "S" ∷ codes "J" ∷ []) (Some (λ name. None)) 1
         (no_such_file (codes "P")) }
 {
     source_laws();
+    script_laws();
+    fits_laws();
+    single_laws();
     merge_laws();
 }

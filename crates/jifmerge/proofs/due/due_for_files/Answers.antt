@@ -1,0 +1,52 @@
+use Rattle.std.proofs.Common.{◌∙◌, inl, inr, map, sym}
+use Rattle.std.specs.Prelude.{string_bytes}
+use Rattle.js_base.specs.declared.limits.TheConstants.{SCRIPT_BYTES}
+use Rattle.jif_grammar.specs.DraftShapes.{DraftShape, draft_shape}
+use Rattle.front_end.specs.Loading.{IsLoaded}
+use Rattle.front_end.specs.Sources.{Drafted, HostsRead}
+use Rattle.front_end.specs.Stages.{DueThen, stopped}
+use Rattle.front_end.proofs.Stages.{due_handed_on, due_stops, ends_weaker, stops_weaker}
+use Rattle.jifmerge.specs.Due.{DueForAccepted, DueForContents, DueForCount, counted, wrong_count}
+use Rattle.jifmerge.proofs.LoadedWords.{zip_length}
+use Rattle.jifmerge.proofs.due.due_for_files.Goals as goal
+
+pub returns-in_err-draft : goal.returns-in_err-draft
+returns-in_err-draft c = λ p h s js loaded_p loaded_h loaded_s loaded_js.
+    due_handed_on (DueForContents c.args.name.now (map string_bytes c.args.names.now) p h s js)
+    c.in_err-draft.field-0.0 c.from_residual.result c.from_residual.ensures
+    (due_stops (Drafted p) (λ (draft : DraftShape). DueThen (HostsRead h)
+    (DueForCount c.args.name.now (map string_bytes c.args.names.now) s js draft)) c.in_err-draft.field-0.0
+    (c.in_err-draft.ensures.drafted p loaded_p))
+
+pub returns-in_err-hosts : goal.returns-in_err-hosts
+returns-in_err-hosts c = λ p h s js loaded_p loaded_h loaded_s loaded_js.
+    due_handed_on (DueForContents c.args.name.now (map string_bytes c.args.names.now) p h s js)
+    c.in_err-hosts.field-0.0 c.from_residual-in_err-hosts.result c.from_residual-in_err-hosts.ensures
+    (stops_weaker (λ verdict. HostsRead h (stopped verdict))
+    (DueForContents c.args.name.now (map string_bytes c.args.names.now) p h s js) c.in_err-hosts.field-0.0
+    (λ verdict stops. inl (
+      draft_shape c.in_ok-draft.draft,
+      c.in_ok-draft.ensures.drafted p loaded_p,
+      inr stops,
+    ))
+    (c.in_err-hosts.ensures.read h loaded_h))
+
+pub returns-then-len-journals-neq : goal.returns-then-len-journals-neq
+returns-then-len-journals-neq c = λ p h s js loaded_p loaded_h loaded_s loaded_js. ?
+
+pub returns : goal.returns
+returns c = λ p h s js loaded_p loaded_h loaded_s loaded_js.
+    ends_weaker
+    (DueForAccepted c.args.name.now (map string_bytes c.args.names.now) s js c.in_ok-hosts.hosts
+    (draft_shape c.in_ok-draft.draft))
+    (DueForContents c.args.name.now (map string_bytes c.args.names.now) p h s js) c.due_for_accepted.result
+    (λ verdict due. inl (
+      draft_shape c.in_ok-draft.draft,
+      c.in_ok-draft.ensures.drafted p loaded_p,
+      inl (
+        c.in_ok-hosts.hosts,
+        c.in_ok-hosts.ensures.read h loaded_h,
+        counted verdict ? due,
+      ),
+    ))
+    (c.due_for_accepted.ensures s js loaded_s loaded_js)
