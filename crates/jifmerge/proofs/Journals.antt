@@ -1,9 +1,12 @@
 -- Journals that stand for what was loaded, and what they are merged into.
 use Rattle.std.proofs.Common.{◌≡◌, ◌∙◌, ℕ, ◌+◌, ◌<◌, List, [], ◌∷◌, length, refl, sym, ap, subst, inl, inr, ⊎_elim}
 use Rattle.std.proofs.Common.{Option, Some, None, Bool, true, false, arith, map, Vec, Global}
-use Rattle.std.specs.Prelude.{◌⊎◌, nat_lt, if◌then◌else◌}
+use Rattle.std.proofs.Common.{◌++◌, get_or}
+use Rattle.std.specs.Prelude.{◌⊎◌, nat_lt, if◌then◌else◌, take}
+use Rattle.std.proofs.lemmas.List.{take_more}
 use Rattle.std.specs.List.{AllZip}
 use Rattle.std.specs.Option.{option_map}
+use Rattle.js_base.proofs.Lists.{zip_push}
 use Rattle.js_base.specs.declared.limits.TheConstants.{SCRIPT_BYTES}
 use Rattle.event_text.specs.declared.event.Event.{Event}
 use Rattle.event_text.specs.Lines.{said_lines}
@@ -93,6 +96,17 @@ refused_as code world firsts seconds (error.NoMatch host number) all refused =
 -- the bytes of these journals
 abbrev pub AllStandFor : List Loaded → List (Vec ℕ Global) → Type 0
 AllStandFor journals all = AllZip (λ journal (bytes : Vec ℕ Global). StandsFor journal bytes.items) journals all
+
+-- one more journal
+pub one_more_stands : (journals : List Loaded) (place : ℕ) (default : Loaded) (all : List (Vec ℕ Global))
+    (bytes : Vec ℕ Global) → place < length journals → AllStandFor (take place journals) all →
+    StandsFor (get_or journals place default) bytes.items →
+    AllStandFor (take (place + 1) journals) (all ++ bytes ∷ [])
+one_more_stands journals place default all bytes within so_far last =
+    subst (λ (front : List Loaded). AllStandFor front (all ++ bytes ∷ []))
+    (sym (take_more journals place default within))
+    (zip_push (λ (journal : Loaded) (one : Vec ℕ Global). StandsFor journal one.items) (take place journals) all
+    (get_or journals place default) bytes so_far last)
 
 one_alike : (journal : Loaded) (held bytes : List ℕ) → IsLoaded SCRIPT_BYTES held journal → StandsFor journal bytes →
     Alike bytes held

@@ -1,6 +1,6 @@
 -- The files of words that were loaded, and what they hold.
 use Rattle.std.proofs.Common.{◌≡◌, ◌∙◌, ℕ, zero, suc, ◌+◌, ◌≤◌, ◌<◌, List, [], ◌∷◌, length, get_or, drop, Option, Some}
-use Rattle.std.proofs.Common.{refl, sym, ap, subst, arith, add-one, String, Global, Result}
+use Rattle.std.proofs.Common.{refl, sym, ap, subst, arith, String, Global, Result}
 use Rattle.std.specs.Prelude.{◌++◌, map, string_bytes}
 use Rattle.std.proofs.lemmas.List.{append_assoc, append-nil, length-map, map-append}
 use Rattle.std.specs.List.{AllZip}
@@ -36,7 +36,7 @@ pair_more words place word asked one whole within is name most was =
     ∙ append_assoc (pairs_of asked) (pairs_of (one ∷ [])) rest
     ∙ ap (λ (pairs : List (List ℕ × ℕ)). pairs_of asked ++ (pairs ++ rest)) pair
     ∙ sym (ap (λ (left : List (String Global)). pairs_of asked ++ names_with_most place (map string_bytes left))
-    (left_cut words place word within is))
+    (left_cut words place word word within is))
     ∙ was
 
 -- all were asked for
@@ -55,7 +55,8 @@ names_same place [] [] is = refl
 names_same place [] (one ∷ asked) is = let no : ⊥ = cc in absurd no
 names_same place (word ∷ words) [] is = let no : ⊥ = cc in absurd no
 names_same place (word ∷ words) (one ∷ asked) is =
-    let name : one.name.now ≡ word = cc in
+    let pair : (one.name.now, one.most) ≡ (word, most_of place) = cc in
+    let name : one.name.now ≡ word = ap (λ (it : List ℕ × ℕ). it.0) pair in
     let rest : pairs_of asked ≡ names_with_most (place + 1) words = cc in
     ap (λ (first : List ℕ). first ∷ names_asked asked) name
     ∙ ap (λ (others : List (List ℕ)). word ∷ others) (names_same (place + 1) words asked rest)
@@ -82,11 +83,12 @@ contents_of held place [] (one ∷ asked) given is all = let no : ⊥ = cc in ab
 contents_of held place (word ∷ words) [] given is all = let no : ⊥ = cc in absurd no
 contents_of held place (word ∷ words) (one ∷ asked) [] is all = absurd all
 contents_of held place (word ∷ words) (one ∷ asked) (first ∷ given) is all =
-    let name : one.name.now ≡ word = cc in
-    let most : one.most ≡ most_of place = cc in
+    let pair : (one.name.now, one.most) ≡ (word, most_of place) = cc in
+    let name : one.name.now ≡ word = ap (λ (it : List ℕ × ℕ). it.0) pair in
+    let most : one.most ≡ most_of place = ap (λ (it : List ℕ × ℕ). it.1) pair in
     let rest : pairs_of asked ≡ names_with_most (place + 1) words = cc in
     let here = given_file held one word (most_of place) first name most all.0 in
-    let others = contents_of held (suc place) words asked given (rw (← add-one) rest) all.1 in
+    let others = contents_of held (place + 1) words asked given rest all.1 in
     record {
       bytes = here.0 ∷ others.bytes;
       told = (here.1, others.told);
@@ -96,13 +98,20 @@ contents_of held place (word ∷ words) (one ∷ asked) (first ∷ given) is all
 -- ---- words, and what was loaded for them
 
 -- behind a program and a host file all are scripts
-scripts_loaded : (place : ℕ) (bytes : List (List ℕ)) (loaded : List Loaded) → AreLoaded (suc (suc place)) bytes loaded →
-    AllZip (IsLoaded SCRIPT_BYTES) bytes loaded
-scripts_loaded place [] [] all = tt
-scripts_loaded place [] (one ∷ loaded) all = absurd all
-scripts_loaded place (first ∷ bytes) [] all = absurd all
-scripts_loaded place (first ∷ bytes) (one ∷ loaded) all =
-    (all.0, scripts_loaded (suc place) bytes loaded all.1)
+most_of_script : (place : ℕ) → 2 ≤ place → most_of place ≡ SCRIPT_BYTES
+most_of_script zero behind = absurd (omega (arith, behind))
+most_of_script (suc zero) behind = absurd (omega (arith, behind))
+most_of_script (suc (suc place)) behind = refl
+
+scripts_loaded : (place : ℕ) (bytes : List (List ℕ)) (loaded : List Loaded) → 2 ≤ place →
+    AreLoaded place bytes loaded → AllZip (IsLoaded SCRIPT_BYTES) bytes loaded
+scripts_loaded place [] [] behind all = tt
+scripts_loaded place [] (one ∷ loaded) behind all = absurd all
+scripts_loaded place (first ∷ bytes) [] behind all = absurd all
+scripts_loaded place (first ∷ bytes) (one ∷ loaded) behind all = (
+  subst (λ (most : ℕ). IsLoaded most first one) (most_of_script place behind) all.0,
+  scripts_loaded (place + 1) bytes loaded (omega (arith, behind)) all.1,
+)
 
 pub zip_length : {X Y : Type 0} (R : X → Y → Type 0) (xs : List X) (ys : List Y) → AllZip R xs ys →
     length xs ≡ length ys
@@ -160,4 +169,4 @@ contents_due (a ∷ b ∷ c ∷ words) (x ∷ y ∷ z ∷ bytes) (p ∷ h ∷ s 
     (due x y z bytes (subst (IsLoaded PROGRAM_BYTES x) (sym files.program_is) all.0)
     (subst (IsLoaded HOSTS_BYTES y) (sym files.hosts_is) all.1.0)
     (subst (IsLoaded SCRIPT_BYTES z) (sym files.start_is) all.1.1.0)
-    (subst (AllZip (IsLoaded SCRIPT_BYTES) bytes) (sym files.journals_are) (scripts_loaded 1 bytes js all.1.1.1))))
+    (subst (AllZip (IsLoaded SCRIPT_BYTES) bytes) (sym files.journals_are) (scripts_loaded 3 bytes js (omega arith) all.1.1.1))))

@@ -1,11 +1,12 @@
 -- Scripts that are printed line by line.
 use Rattle.std.proofs.Common.{◌≡◌, ◌∙◌, ℕ, zero, suc, ◌+◌, ◌<◌, ◌≤◌, Bool, true, false, List, [], ◌∷◌, ◌++◌, length}
 use Rattle.std.proofs.Common.{get_or, drop, map, refl, sym, ap, arith, add-one}
-use Rattle.std.specs.Prelude.{ℤ, if◌then◌else◌, ◌==◌}
+use Rattle.std.specs.Prelude.{ℤ, if◌then◌else◌, ◌==◌, codes}
 use Rattle.std.specs.Int.{bit_at}
 use Rattle.std.specs.Ordering.{int_eq}
 use Rattle.std.proofs.Math.Seq.{drop-cons}
-use Rattle.std.proofs.lemmas.List.{append_assoc, append-nil, flat_map-append}
+use Rattle.std.proofs.lemmas.List.{append_assoc, append-nil}
+use Rattle.std.proofs.lemmas.List.Concat.{flat_map-append}
 use Rattle.std.proofs.lemmas.Nat.Bits.{bit_at-zero}
 use Rattle.host_code.specs.Code.{CodeShape, CodeHostShape, CodeFieldShape}
 use Rattle.event_text.specs.declared.event.Event.{Event}
@@ -19,10 +20,11 @@ pub lines_both : (first second : List (List ℕ)) →
 lines_both first second = flat_map-append (λ (line : List ℕ). line ++ 10 ∷ []) first second
 
 -- what is left of a list is its next element, and what is left behind that
-pub left_cut : {X : Type 0} (xs : List X) (place : ℕ) (x : X) → place < length xs → x ≡ get_or xs place x →
-    drop place xs ≡ x ∷ drop (place + 1) xs
-left_cut {X} xs place x within is =
-    let cut : drop place xs ≡ get_or xs place x ∷ drop (place + 1) xs = rw add-one (drop-cons xs place x within) in
+pub left_cut : {X : Type 0} (xs : List X) (place : ℕ) (default x : X) → place < length xs →
+    x ≡ get_or xs place default → drop place xs ≡ x ∷ drop (place + 1) xs
+left_cut {X} xs place default x within is =
+    let cut : drop place xs ≡ get_or xs place default ∷ drop (place + 1) xs =
+    rw add-one (drop-cons xs place default within) in
     cut ∙ ap (λ (y : X). y ∷ drop (place + 1) xs) (sym is)
 
 -- one more piece was put
@@ -45,16 +47,16 @@ row_cons field index value values = by (int_eq value field.first)
     by true = refl
     by false = refl
 
-pub element_more : (field : FieldForm) (values : List ℤ) (index : ℕ) (value : ℤ) (whole before after : List ℕ) →
-    index < length values → value ≡ get_or values index value →
+pub element_more : (field : FieldForm) (values : List ℤ) (index : ℕ) (default value : ℤ)
+    (whole before after : List ℕ) → index < length values → value ≡ get_or values index default →
     before ++ text_of_lines (row_lines field index (drop index values)) ≡ whole →
     after ≡ before ++ text_of_lines (row_lines field index (value ∷ [])) →
     after ++ text_of_lines (row_lines field (index + 1) (drop (index + 1) values)) ≡ whole
-element_more field values index value whole before after within is was put =
+element_more field values index default value whole before after within is was put =
     let rest = drop (index + 1) values in
     let cut : text_of_lines (row_lines field index (drop index values))
     ≡ text_of_lines (row_lines field index (value ∷ [])) ++ text_of_lines (row_lines field (index + 1) rest) =
-    ap (λ (left : List ℤ). text_of_lines (row_lines field index left)) (left_cut values index value within is)
+    ap (λ (left : List ℤ). text_of_lines (row_lines field index left)) (left_cut values index default value within is)
     ∙ ap text_of_lines (row_cons field index value rest)
     ∙ lines_both (row_lines field index (value ∷ [])) (row_lines field (index + 1) rest) in
     piece_more whole before (text_of_lines (row_lines field index (value ∷ [])))
@@ -78,9 +80,9 @@ row_more fields rows place field row whole before after within is there row_is w
     let cut : text_of_lines (setting_lines (forms_of (drop place fields)) (drop place rows))
     ≡ text_of_lines (row_lines (form_of field) 0 row) ++ text_of_lines (setting_lines others rest) =
     ap (λ (left : List CodeFieldShape). text_of_lines (setting_lines (forms_of left) (drop place rows)))
-    (left_cut fields place field within is)
+    (left_cut fields place field field within is)
     ∙ ap (λ (left : List (List ℤ)). text_of_lines (setting_lines (form_of field ∷ others) left))
-    (left_cut rows place row there row_is)
+    (left_cut rows place row row there row_is)
     ∙ lines_both (row_lines (form_of field) 0 row) (setting_lines others rest) in
     piece_more whole before (text_of_lines (row_lines (form_of field) 0 row))
     (text_of_lines (setting_lines (forms_of (drop place fields)) (drop place rows)))
@@ -128,7 +130,7 @@ event_more code events place event whole before after within is was put =
     let rest = map (event_text code) (drop (place + 1) events) in
     let cut : text_of_lines (map (event_text code) (drop place events))
     ≡ text_of_lines (event_text code event ∷ []) ++ text_of_lines rest =
-    ap (λ (left : List Event). text_of_lines (map (event_text code) left)) (left_cut events place event within is)
+    ap (λ (left : List Event). text_of_lines (map (event_text code) left)) (left_cut events place event event within is)
     ∙ lines_both (event_text code event ∷ []) rest in
     piece_more whole before (text_of_lines (event_text code event ∷ []))
     (text_of_lines (map (event_text code) (drop place events))) (text_of_lines rest) after was cut put
@@ -138,7 +140,8 @@ event_more code events place event whole before after within is was put =
 no_bad_lines : (number : ℕ) (hosts : List CodeHostShape) → bad_lines 0 number hosts ≡ []
 no_bad_lines number [] = refl
 no_bad_lines number (host ∷ hosts) =
-    ap (λ (bit : ℕ). if bit == 1 then _ else bad_lines 0 (number + 1) hosts) (bit_at-zero number)
+    ap (λ (bit : ℕ). if bit == 1 then (codes "bad " ++ host.name) ∷ bad_lines 0 (number + 1) hosts
+    else bad_lines 0 (number + 1) hosts) (bit_at-zero number)
     ∙ no_bad_lines (number + 1) hosts
 
 pub script_put : (code : CodeShape) (start : List (List ℤ)) (events : List Event) (empty between text : List ℕ) →

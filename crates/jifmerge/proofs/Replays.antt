@@ -45,7 +45,7 @@ read_again laws code rows values journals events sound same can merged =
       fields = can.fields;
       among = λ number set. absurd (omega (arith, bit_at-zero number, set));
       sizes = can.sizes;
-      values = can.values;
+      values = can.fit;
       said = all_said laws.steps code (world_at_start code rows 0 values) meets.last events meets.notes sound can.hosts
           (laws.start code rows values) (laws.fits code rows 0 values sound same) meets.run;
     })

@@ -1,6 +1,7 @@
 -- What journals tell of a world in which at most one thing goes on: each event is said by the line that it is printed
 -- as.
-use Rattle.std.proofs.Common.{◌≡◌, ◌≢◌, ◌∙◌, ◌<◌, ◌^◌, ℕ, zero, suc, ℤ, List, [], ◌∷◌, length, map, refl, sym, ap, subst}
+use Rattle.std.proofs.Common.{◌≡◌, ◌≢◌, ◌∙◌, ◌<◌, ◌≤◌, ◌^◌, ℕ, zero, suc, ℤ, List, [], ◌∷◌, length, map, refl, sym, ap}
+use Rattle.std.proofs.Common.{subst}
 use Rattle.std.proofs.Common.{Option, Some, None, get_or, slice_get, arith, codes, All}
 use Rattle.std.specs.List.{IsDistinct, AllByRecursion}
 use Rattle.std.specs.Option.{option_map}
@@ -100,8 +101,9 @@ there_within world host state is = by (slice_get world.hosts host.0) refl is
 some_flies : (world : WorldShape) (from to : HostId) (place : ℕ) (flight : Flight) →
     slice_get (world.flying from to) place ≡ Some flight → Flies world from to
 some_flies world from to place flight there = λ none.
-    let no : slice_get {T = Flight} [] place ≡ Some flight =
-    subst (λ (queue : List Flight). slice_get queue place ≡ Some flight) none there in absurd cc
+    let within = slice_get_within (world.flying from to) place flight there in
+    let empty : length (world.flying from to) ≡ 0 = ap length none in
+    absurd (omega (arith, within, empty))
 
 few_fly : (world : WorldShape) (from to : HostId) (active : Active) → IsOnly world active → Flies world from to →
     length (world.flying from to) ≤ 1

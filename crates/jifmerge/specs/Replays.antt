@@ -12,4 +12,4 @@ pub record CanBeSaid (code : CodeShape) (values : List (List ℤ)) : Type 0 wher
   pub hosts : IsDistinct bytes_eq (map (λ host. host.name) code.hosts)
   pub fields : IsDistinct bytes_eq (map (λ field. field.name) code.fields)
   pub sizes : HasRows (map form_of code.fields) values
-  pub values : All (All (FitsSigned w64)) values
+  pub fit : All (All (FitsSigned w64)) values

@@ -1,4 +1,5 @@
-use Rattle.std.proofs.Common.{◌∙◌, inl, inr, map, sym}
+use Rattle.std.proofs.Common.{◌≡◌, ◌≢◌, ◌∙◌, length, inl, inr, map, sym, arith, rules}
+use Rattle.std.proofs.lemmas.Grind.{common_steps}
 use Rattle.std.specs.Prelude.{string_bytes}
 use Rattle.js_base.specs.declared.limits.TheConstants.{SCRIPT_BYTES}
 use Rattle.jif_grammar.specs.DraftShapes.{DraftShape, draft_shape}
@@ -31,11 +32,25 @@ returns-in_err-hosts c = λ p h s js loaded_p loaded_h loaded_s loaded_js.
     ))
     (c.in_err-hosts.ensures.read h loaded_h))
 
-pub returns-then-len-journals-neq : goal.returns-then-len-journals-neq
-returns-then-len-journals-neq c = λ p h s js loaded_p loaded_h loaded_s loaded_js. ?
+pub returns-then-journals-hosts : goal.returns-then-journals-hosts
+returns-then-journals-hosts c = λ p h s js loaded_p loaded_h loaded_s loaded_js.
+    let other : length c.args.journals.now ≢ length c.in_ok-hosts.hosts.hosts =
+    first_of (search rules, grind (arith, common_steps), grind arith) in
+    inl (
+      draft_shape c.in_ok-draft.draft,
+      c.in_ok-draft.ensures.drafted p loaded_p,
+      inl (
+        c.in_ok-hosts.hosts,
+        c.in_ok-hosts.ensures.read h loaded_h,
+        wrong_count (λ same. other
+            (sym (zip_length (IsLoaded SCRIPT_BYTES) js c.args.journals.now loaded_js) ∙ same)),
+      ),
+    )
 
 pub returns : goal.returns
 returns c = λ p h s js loaded_p loaded_h loaded_s loaded_js.
+    let as_many : length c.args.journals.now ≡ length c.in_ok-hosts.hosts.hosts =
+    first_of (search rules, grind (arith, common_steps), grind arith) in
     ends_weaker
     (DueForAccepted c.args.name.now (map string_bytes c.args.names.now) s js c.in_ok-hosts.hosts
     (draft_shape c.in_ok-draft.draft))
@@ -46,7 +61,7 @@ returns c = λ p h s js loaded_p loaded_h loaded_s loaded_js.
       inl (
         c.in_ok-hosts.hosts,
         c.in_ok-hosts.ensures.read h loaded_h,
-        counted verdict ? due,
+        counted verdict (zip_length (IsLoaded SCRIPT_BYTES) js c.args.journals.now loaded_js ∙ as_many) due,
       ),
     ))
     (c.due_for_accepted.ensures s js loaded_s loaded_js)
