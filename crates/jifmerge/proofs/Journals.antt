@@ -3,6 +3,7 @@ use Rattle.std.proofs.Common.{◌≡◌, ◌∙◌, ℕ, ◌+◌, ◌<◌, List,
 use Rattle.std.proofs.Common.{Option, Some, None, Bool, true, false, arith, map, Vec, Global}
 use Rattle.std.proofs.Common.{◌++◌, get_or}
 use Rattle.std.specs.Prelude.{◌⊎◌, nat_lt, if◌then◌else◌, take}
+use Rattle.std.proofs.lemmas.Bool.Decides.{nat_tests}
 use Rattle.std.proofs.lemmas.List.{take_more}
 use Rattle.std.specs.List.{AllZip}
 use Rattle.std.specs.Option.{option_map}
@@ -29,9 +30,9 @@ Alike first second = (first ≡ second) ⊎ ((SCRIPT_BYTES < length first) × (S
 -- why a journal that is too long is not read
 long_fault : (code : CodeShape) (bytes : List ℕ) → SCRIPT_BYTES < length bytes → fault_of code bytes ≡ Some too_long
 long_fault code bytes long =
+    let test : nat_lt SCRIPT_BYTES (length bytes) ≡ true = grind (arith, nat_tests) in
     ap (λ (first : Bool).
-    if first then Some too_long else option_map (λ number. bad_line number) (first_bad code (said_lines bytes)))
-    (search (arith, long))
+    if first then Some too_long else option_map (λ number. bad_line number) (first_bad code (said_lines bytes))) test
 
 alike_fault : (code : CodeShape) (first second : List ℕ) → Alike first second →
     fault_of code first ≡ fault_of code second
@@ -59,7 +60,7 @@ alike_read : (code : CodeShape) (first second : List ℕ) → Alike first second
     first ≡ second
 alike_read code first second alike reads =
     ⊎_elim (λ same. same)
-    (λ long. absurd (let no : Some too_long ≡ None {T = Fault} = sym (long_fault code first long.0) ∙ reads in cc))
+    (λ long. absurd (let no : Some too_long ≡ None = sym (long_fault code first long.0) ∙ reads in cc))
     alike
 
 journals_same : (code : CodeShape) (number : ℕ) (firsts seconds : List (List ℕ)) → AllZip Alike firsts seconds →

@@ -161,12 +161,13 @@ contents_due (a ∷ b ∷ c ∷ words) (x ∷ []) (p ∷ h ∷ s ∷ js) text na
     due = absurd all.1
 contents_due (a ∷ b ∷ c ∷ words) (x ∷ y ∷ []) (p ∷ h ∷ s ∷ js) text name names program hosts start journals result files
     all due = absurd all.1.1
-contents_due (a ∷ b ∷ c ∷ words) (x ∷ y ∷ z ∷ bytes) (p ∷ h ∷ s ∷ js) text name names program hosts start journals result
-    files all due =
+contents_due (a ∷ b ∷ c ∷ words) (x ∷ y ∷ z ∷ bytes) (p ∷ h ∷ s ∷ js) text name names program hosts start journals
+    result files all due =
     let P : List ℕ → List (List ℕ) → Type 0 = λ first others. EndsIn (DueForContents first others x y z bytes) result in
     subst (λ (first : List ℕ). P first (map string_bytes words)) (files.text_is ∙ ap string_bytes files.name_is)
     (subst (λ (others : List (String Global)). P text (map string_bytes others)) files.names_are
     (due x y z bytes (subst (IsLoaded PROGRAM_BYTES x) (sym files.program_is) all.0)
     (subst (IsLoaded HOSTS_BYTES y) (sym files.hosts_is) all.1.0)
     (subst (IsLoaded SCRIPT_BYTES z) (sym files.start_is) all.1.1.0)
-    (subst (AllZip (IsLoaded SCRIPT_BYTES) bytes) (sym files.journals_are) (scripts_loaded 3 bytes js (omega arith) all.1.1.1))))
+    (subst (AllZip (IsLoaded SCRIPT_BYTES) bytes) (sym files.journals_are)
+    (scripts_loaded 3 bytes js (omega arith) all.1.1.1))))

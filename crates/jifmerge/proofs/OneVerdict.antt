@@ -101,7 +101,8 @@ count_once : MergeLaws → (name : List ℕ) (names : List (List ℕ)) (program 
     Drafted program (given draft) → HostsRead hosts (given file) →
     DueForCount name names start journals draft file first →
     DueForCount name names start journals draft file second → first ≡ second
-count_once laws name names program hosts start journals draft file _ _ drafted read (wrong_count not) (wrong_count also) =
+count_once laws name names program hosts start journals draft file _ _ drafted read (wrong_count not)
+    (wrong_count also) =
     refl
 count_once laws name names program hosts start journals draft file _ _ drafted read (wrong_count not)
     (counted verdict same due) = absurd (not same)

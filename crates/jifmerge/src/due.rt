@@ -1,6 +1,7 @@
 //! What is due for the words: from files to a script, or to a refusal.
 
-ghost use Rattle.std.specs.Prelude.{◌≡◌, ◌≤◌, ◌+◌, ℕ, List, length, map, string_bytes, IfOk};
+ghost use Rattle.std.specs.Prelude.{◌≡◌, ◌≤◌, ◌+◌, ℕ, List, drop, length, map, string_bytes};
+ghost use Rattle.std.specs.Prelude.{IfOk};
 ghost use Rattle.std.specs.List.{AllZip};
 ghost use Rattle.js_base.specs.declared.limits.TheConstants.{HOSTS_BYTES, PROGRAM_BYTES, SCRIPT_BYTES};
 ghost use Rattle.jif_grammar.specs.DraftShapes.{draft_shape};
@@ -97,12 +98,28 @@ fn due_for_loaded(alloc: Global, words: &[String], loaded: &[Loaded]) -> Result<
     due_for_files(
         alloc,
         words[2].as_str(),
-        &words[3..],
+        journal_names(words),
         &loaded[0],
         &loaded[1],
         &loaded[2],
-        &loaded[3..],
+        journals_of(loaded),
     )
+}
+
+/// The words that name journals.
+fn journal_names(words: &[String]) -> &[String]
+    requires { FEWEST ≤ length words.now }
+    ensures { result.now ≡ drop 3 words.now }
+{
+    &words[3..]
+}
+
+/// The journals of what was loaded.
+fn journals_of(loaded: &[Loaded]) -> &[Loaded]
+    requires { FEWEST ≤ length loaded.now }
+    ensures { result.now ≡ drop 3 loaded.now }
+{
+    &loaded[3..]
 }
 
 /// What is due for a program, a host file, a file of starting values of this name, and journals of these names, which

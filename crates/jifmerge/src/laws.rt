@@ -34,8 +34,8 @@ pub fn merged_laws()
         files.held ≡ Some holds → files.faults_before < last_count →
         IsDue words files first → IsDue words files second → first ≡ second }
 
-    // A script that is due is read again, as `jifsplit replay` reads it: no host misbehaves, the fields start with these
-    // values, and the events are these.
+    // A script that is due is read again, as `jifsplit replay` reads it: no host misbehaves, the fields start with
+    // these values, and the events are these.
     ensures replays { (code : CodeShape) (rows : List HostShape) (values : List (List ℤ)) (journals : List (List ℕ))
         (events : List Event) →
         IsSoundCode code → AreHostsOf code rows → CanBeSaid code values →

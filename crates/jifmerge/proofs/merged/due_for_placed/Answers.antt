@@ -35,7 +35,8 @@ returns c = λ s js loaded_s loaded_js.
     let one = ap (λ (source : SourceModel). program_tree source.checked.program) c.source.view_is in
     let two = ap (λ (placed : PlacedModel). program_tree placed.source.checked.program) c.placed.view_is in
     let tree : program_tree c.source.inside.checked.program ≡ (placed_shape c.args.placed.now).source.tree = cc in
-    ends_weaker (DueForValues (map string_bytes c.args.names.now) js (placed_shape c.args.placed.now) c.in_ok-store.store)
+    ends_weaker
+    (DueForValues (map string_bytes c.args.names.now) js (placed_shape c.args.placed.now) c.in_ok-store.store)
     (DueForPlaced c.args.name.now (map string_bytes c.args.names.now) s js (placed_shape c.args.placed.now))
     c.due_for_values.result
     (λ verdict due. (
@@ -44,8 +45,8 @@ returns c = λ s js loaded_s loaded_js.
       inl (
         c.in_ok-store.store,
         subst (λ (fields : List Field).
-            StartingValues c.args.name.now s (map program_form fields) (given c.in_ok-store.store)) c.deref.ensures.value
-            (c.in_ok-store.ensures s loaded_s),
+            StartingValues c.args.name.now s (map program_form fields) (given c.in_ok-store.store))
+            c.deref.ensures.value (c.in_ok-store.ensures s loaded_s),
         due,
       ),
     ))

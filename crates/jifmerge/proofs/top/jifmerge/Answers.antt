@@ -5,7 +5,8 @@ use Rattle.jifmerge.proofs.top.jifmerge.Goals as goal
 
 pub returns-clause-answer : goal.returns-clause-answer
 returns-clause-answer g c =
-    answers_to (codes "jifmerge") _ _ c.due-found.result _ _ _ tt c.due-found.ensures.due c.answer.ensures.due c.answer.ensures.undue
+    answers_to (codes "jifmerge") _ _ c.due-found.result _ _ _ tt c.due-found.ensures.due
+    c.answer.ensures.due c.answer.ensures.undue
 
 pub returns-clause-complete : goal.returns-clause-complete
 returns-clause-complete g c = λ holds number status text tells due calm below quiet under.
