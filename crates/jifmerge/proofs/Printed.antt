@@ -4,9 +4,7 @@ use Rattle.std.proofs.Common.{get_or, drop, map, refl, sym, ap, arith, add-one}
 use Rattle.std.specs.Prelude.{ℤ, if◌then◌else◌, ◌==◌, codes}
 use Rattle.std.specs.Int.{bit_at}
 use Rattle.std.specs.Ordering.{int_eq}
-use Rattle.std.proofs.Common.{Some, slice_get}
 use Rattle.std.proofs.Math.Seq.{drop-cons}
-use Rattle.std.proofs.lemmas.Option.{get_or_from_slice_get, slice_get_within}
 use Rattle.std.proofs.lemmas.List.{append_assoc, append-nil}
 use Rattle.std.proofs.lemmas.List.Concat.{flat_map-append}
 use Rattle.std.proofs.lemmas.Nat.Bits.{bit_at-zero}
@@ -72,12 +70,11 @@ forms_of fields = map form_of fields
 
 pub row_more : (fields : List CodeFieldShape) (rows : List (List ℤ)) (place : ℕ) (field : CodeFieldShape)
     (row : List ℤ) (whole before after : List ℕ) → place < length fields → field ≡ get_or fields place field →
-    slice_get rows place ≡ Some row →
+    place < length rows → row ≡ get_or rows place row →
     before ++ text_of_lines (setting_lines (forms_of (drop place fields)) (drop place rows)) ≡ whole →
     after ≡ before ++ text_of_lines (row_lines (form_of field) 0 row) →
     after ++ text_of_lines (setting_lines (forms_of (drop (place + 1) fields)) (drop (place + 1) rows)) ≡ whole
-row_more fields rows place field row whole before after within is there was put =
-    let row_is : row ≡ get_or rows place row = sym (get_or_from_slice_get rows place row row there) in
+row_more fields rows place field row whole before after within is there row_is was put =
     let others = forms_of (drop (place + 1) fields) in
     let rest = drop (place + 1) rows in
     let cut : text_of_lines (setting_lines (forms_of (drop place fields)) (drop place rows))
@@ -85,7 +82,7 @@ row_more fields rows place field row whole before after within is there was put 
     ap (λ (left : List CodeFieldShape). text_of_lines (setting_lines (forms_of left) (drop place rows)))
     (left_cut fields place field field within is)
     ∙ ap (λ (left : List (List ℤ)). text_of_lines (setting_lines (form_of field ∷ others) left))
-    (left_cut rows place row row (slice_get_within rows place row there) row_is)
+    (left_cut rows place row row there row_is)
     ∙ lines_both (row_lines (form_of field) 0 row) (setting_lines others rest) in
     piece_more whole before (text_of_lines (row_lines (form_of field) 0 row))
     (text_of_lines (setting_lines (forms_of (drop place fields)) (drop place rows)))

@@ -8,4 +8,4 @@ loop-index-preserved c =
     let value = get_or c.args.elements.now c.loop-index.index (pos 0) in
     let fits : SFits w64 value = search rules in
     element_more (form_of c.args.field.now) c.args.elements.now c.loop-index.index (pos 0) value _ _ _
-    c.loop-index-test.true refl c.loop-index.invariant (rw (to_z-of_z w64 value fits) at c.in_ok-push_element.ensures)
+    c.loop-index-test.true refl c.loop-index.invariant (rw (to_z-of_z fits) at c.in_ok-push_element.ensures)
