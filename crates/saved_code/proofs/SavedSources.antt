@@ -138,6 +138,7 @@ module _ (sources : ReadingLaws) (plans : PlanLaws) (program hosts : List ℕ) (
   splits_there =
       splittable placed.source placed.needs placed.plan (record {
         numbered = numbered;
+        statements = sources.statements placed.source.file.principals read.draft placed.source.tree read.resolved;
         sites = sources.sites placed.source.file.principals read.draft placed.source.tree read.resolved;
         named = sources.named program read.list placed.source.file.principals read.draft placed.source.tree read.few
             read.read read.parsed read.resolved;
