@@ -1,6 +1,7 @@
 -- The lines of the values that two runs released: one line more.
 use Rattle.std.proofs.Common.{◌≡◌, ◌∙◌, ℕ, suc, ◌+◌, ℤ, List, [], ◌∷◌, ◌++◌, ap, sym, append_assoc, append-nil, slice_get}
 use Rattle.std.proofs.Common.{add-one, arith}
+use Rattle.std.specs.Prelude.{Option}
 use Rattle.std.specs.List.{flat_map, range_with_len}
 use Rattle.std.proofs.lemmas.Grind.{flat_map-append}
 use Rattle.split_cli.specs.ReleaseLines.{first_lines, release_line}
@@ -14,12 +15,13 @@ first_lines_more one other n =
     ap (flat_map line) (range_push 0 n n (omega arith)) ∙ flat_map-append line (range_with_len 0 n) (n ∷ [])
     ∙ ap (λ (last : List ℕ). flat_map line (range_with_len 0 n) ++ last) (append-nil (line n))
 
-pub lines_more : (one other : List ℤ) (n : ℕ) (before so_far after : List ℕ) →
-    so_far ≡ before ++ first_lines one other n →
-    after ≡ so_far ++ release_line n (slice_get one n) (slice_get other n) →
-    after ≡ before ++ first_lines one other (n + 1)
-lines_more one other n before so_far after is more =
+pub lines_more : (one other : List ℤ) (n : ℕ) (found found_too : Option ℤ) (before so_far after : List ℕ) →
+    found ≡ slice_get one n → found_too ≡ slice_get other n → so_far ≡ before ++ first_lines one other n →
+    after ≡ so_far ++ release_line n found found_too → after ≡ before ++ first_lines one other (n + 1)
+lines_more one other n found found_too before so_far after here here_too is more =
     let line = release_line n (slice_get one n) (slice_get other n) in
     rw add-one
-    (more ∙ ap (λ (all : List ℕ). all ++ line) is ∙ append_assoc before (first_lines one other n) line
+    (more ∙ ap (λ (it : Option ℤ). so_far ++ release_line n it found_too) here
+    ∙ ap (λ (it : Option ℤ). so_far ++ release_line n (slice_get one n) it) here_too
+    ∙ ap (λ (all : List ℕ). all ++ line) is ∙ append_assoc before (first_lines one other n) line
     ∙ ap (λ (all : List ℕ). before ++ all) (sym (first_lines_more one other n)))

@@ -23,9 +23,6 @@ returns-in-Err-clause-refused c =
     (λ count same. subst (λ it. refusal it ≡ Some (no_such_token count)) here
     ((c.in-Err.ensures.no_token count).0 (ap Err same)))
 
-pub loop-said-init-clause-released : goal.loop-said-init-clause-released
-loop-said-init-clause-released c = c.requires.none
-
 pub returns-clause-released : goal.returns-clause-released
 returns-clause-released c =
     released_all c.args.code.now c.args.table.now (world_of c.args.world.now) c.args.events.now
