@@ -1,6 +1,6 @@
 //! The values that two runs released, as lines.
 
-ghost use Rattle.std.specs.Prelude.{◌≡◌, ◌++◌, OnOk, length, max, option_copied};
+ghost use Rattle.std.specs.Prelude.{◌≡◌, ◌++◌, OnOk, length, max, option_copied, slice_get};
 ghost use Rattle.std.specs.String.{string_bytes};
 ghost use Rattle.split_cli.specs.ReleaseLines.{release_line, release_lines, value_or_dash};
 
@@ -12,7 +12,7 @@ pub fn push_release_lines(text: &mut String, one: &[i64], other: &[i64]) -> Resu
     ensures { OnOk result (string_bytes text.new ≡ string_bytes text.old ++ release_lines one.now other.now) }
 {
     for number in 0..longer_len(one, other) {
-        push_line(text, number, one.get(number), other.get(number))?;
+        push_line(text, number, value_at(one, number), value_at(other, number))?;
     }
     Ok(())
 }
@@ -26,6 +26,13 @@ fn longer_len(one: &[i64], other: &[i64]) -> usize
     } else {
         one.len()
     }
+}
+
+/// The value of a number, none where a run released no more.
+fn value_at(values: &[i64], number: usize) -> Option<&i64>
+    ensures { option_copied result ≡ slice_get values.now number }
+{
+    values.get(number)
 }
 
 /// Adds the line of a number, with the value of each run that released so many.

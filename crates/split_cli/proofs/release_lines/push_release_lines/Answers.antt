@@ -1,6 +1,6 @@
-use Rattle.std.proofs.Common.{rules, ◌≡◌, ◌∙◌, ◌++◌, ap, arith, length, sym, slice_get}
+use Rattle.std.proofs.Common.{◌≡◌, ◌∙◌, ◌++◌, ap, arith, length, sym}
 use Rattle.std.proofs.Common.{append-nil}
-use Rattle.std.specs.Prelude.{max, option_copied}
+use Rattle.std.specs.Prelude.{max}
 use Rattle.std.specs.String.{string_bytes}
 use Rattle.split_cli.specs.ReleaseLines.{first_lines}
 use Rattle.split_cli.proofs.ReleasedLines.{lines_more}
@@ -10,15 +10,11 @@ pub loop-number-init : goal.loop-number-init
 loop-number-init c = (sym (append-nil (string_bytes c.args.text.now)), omega arith)
 
 pub loop-number-preserved : goal.loop-number-preserved
-loop-number-preserved c =
-    let found : option_copied c.get.result ≡ slice_get c.args.one.now c.loop-number.number = search rules in
-    let found_too : option_copied c.get-in-loop-number.result ≡ slice_get c.args.other.now c.loop-number.number =
-    search rules in (
-      lines_more c.args.one.now c.args.other.now c.loop-number.number (option_copied c.get.result)
-          (option_copied c.get-in-loop-number.result) _ _ _ found found_too c.loop-number.invariant.0
-          c.in_ok-push_line.ensures,
-      omega (arith, c.loop-number-test.true, c.longer_len-number-end.ensures),
-    )
+loop-number-preserved c = (
+  lines_more c.args.one.now c.args.other.now c.loop-number.number _ _ _ _ _ c.value_at.ensures
+      c.value_at-in-loop-number.ensures c.loop-number.invariant.0 c.in_ok-push_line.ensures,
+  omega (arith, c.loop-number-test.true, c.longer_len-number-end.ensures),
+)
 
 pub returns : goal.returns
 returns c =
