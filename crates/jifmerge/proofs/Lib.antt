@@ -7,3 +7,4 @@ pub mod OneVerdict
 pub mod Printed
 pub mod Replays
 pub mod SaidEvents
+pub mod StartNumbers
