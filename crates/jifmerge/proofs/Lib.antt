@@ -1,3 +1,4 @@
+pub mod AcceptedNames
 pub mod Completeness
 pub mod DueMerges
 pub mod DueWords
