@@ -1,3 +1,4 @@
+pub mod AcceptedCode
 pub mod AcceptedNames
 pub mod Completeness
 pub mod DueMerges

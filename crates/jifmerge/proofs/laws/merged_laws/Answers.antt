@@ -1,6 +1,7 @@
 use Rattle.std.proofs.Common.{codes, refl, arith}
 use Rattle.front_end.specs.Verdicts.{no_such_file}
 use Rattle.jifmerge.specs.Due.{absent, few_words}
+use Rattle.jifmerge.proofs.AcceptedCode.{AcceptedLaws, accepted_again, can_be_said}
 use Rattle.jifmerge.proofs.OneVerdict.{MergeLaws, answer_once, due_once}
 use Rattle.jifmerge.proofs.Replays.{ReplayLaws, noted_run, read_again}
 use Rattle.jifmerge.proofs.laws.merged_laws.Goals as goal
@@ -31,6 +32,18 @@ replay_laws c = record {
 
 pub returns-clause-replays : goal.returns-clause-replays
 returns-clause-replays c = read_again (replay_laws c)
+
+accepted_laws : (c : goal.After-merge_laws) → AcceptedLaws
+accepted_laws c = record {
+  real = λ program hosts placed accepted. (c.saved_laws.ensures.saved_again program hosts placed accepted).0;
+  hosts = c.host_file_laws.ensures.sound;
+}
+
+pub returns-clause-can_be_said : goal.returns-clause-can_be_said
+returns-clause-can_be_said c = can_be_said (accepted_laws c)
+
+pub returns-clause-read_again : goal.returns-clause-read_again
+returns-clause-read_again c = accepted_again (accepted_laws c) (replay_laws c)
 
 pub returns-clause-happens : goal.returns-clause-happens
 returns-clause-happens c = λ code world journals events merged.
