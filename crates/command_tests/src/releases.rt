@@ -92,6 +92,9 @@ fn line_at(
 fn released_lines(alloc: Global, code: &Code, table: &ReleaseTable) -> Result<String, Fail> {
     let mut lines = String::new(alloc);
     for (at, instruction) in code.part(HostId(0)).iter().enumerate() {
+        if at > 100 {
+            return Err(Fail::from("more instructions than these programs have"));
+        }
         let text = instruction_text(alloc, code, &instruction.op)?;
         let (word, _) = text.as_str().split_once(" ").unwrap_or((text.as_str(), ""));
         let line = line_at(alloc, code, table, at as u32, word)?;
