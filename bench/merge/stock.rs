@@ -9,47 +9,18 @@ mod message;
 mod printed;
 mod script;
 mod sha256;
+mod split_loop;
 mod world;
 
-use code::{A, B, Code, CodeField, CodeHost, Entry, EntryId, HostId, Label};
-use lent_loop::lent_loop;
+use code::{Code, HostId};
 use printed::put_message;
 use script::HOSTS;
+use split_loop::split_loop;
 use std::env;
 use std::fs;
 use std::io::{self, BufWriter, Write};
 use std::process::ExitCode;
 use world::{Event, World};
-
-/// The bit of Alice.
-const ALICE: u64 = 1;
-
-fn entry(host: HostId, at: u32, need: u64) -> Entry {
-    Entry { host, at, label: 0, need }
-}
-
-/// The code of the loop, on hosts T and A. Fields start with 1 in this world.
-fn split_loop(rounds: i64) -> Code {
-    let trusted = Label::trusted(ALICE);
-    let owned = Label::owned(0, ALICE);
-    Code {
-        hosts: vec![CodeHost { label: trusted.clone() }, CodeHost { label: owned.clone() }],
-        labels: vec![trusted, owned],
-        fields: vec![CodeField { label: 0, host: A }, CodeField { label: 1, host: B }],
-        vars: vec![],
-        entries: vec![
-            entry(A, 0, 0),
-            entry(A, 0, ALICE),
-            entry(A, 0, ALICE),
-            entry(A, 5, ALICE),
-            entry(B, 0, 0),
-        ],
-        sites: vec![],
-        parts: lent_loop(rounds),
-        root: A,
-        main: EntryId(1),
-    }
-}
 
 /// The lines of a journal that tell of steps, of which the first ones are met.
 struct Journal {

@@ -9,12 +9,13 @@ mod message;
 mod printed;
 mod script;
 mod sha256;
+mod split_loop;
 mod world;
 
-use code::{A, B, Code, CodeField, CodeHost, Entry, EntryId, FieldId, HostId, Label};
-use lent_loop::lent_loop;
+use code::{Code, FieldId, HostId};
 use printed::put_message;
 use script::{FIELDS, HOSTS, Script, read_script};
+use split_loop::split_loop;
 use std::env;
 use std::fs;
 use std::io::{self, BufWriter, Write};
@@ -23,36 +24,6 @@ use world::{Event, EventError, World};
 
 /// The most bytes of a script.
 const SCRIPT_BYTES: usize = 1 << 24;
-
-/// The bit of Alice.
-const ALICE: u64 = 1;
-
-fn entry(host: HostId, at: u32, need: u64) -> Entry {
-    Entry { host, at, label: 0, need }
-}
-
-/// The code of the loop of four rounds, on hosts T and A. Fields start with 1 in this world.
-fn split_loop() -> Code {
-    let trusted = Label::trusted(ALICE);
-    let owned = Label::owned(0, ALICE);
-    Code {
-        hosts: vec![CodeHost { label: trusted.clone() }, CodeHost { label: owned.clone() }],
-        labels: vec![trusted, owned],
-        fields: vec![CodeField { label: 0, host: A }, CodeField { label: 1, host: B }],
-        vars: vec![],
-        entries: vec![
-            entry(A, 0, 0),
-            entry(A, 0, ALICE),
-            entry(A, 0, ALICE),
-            entry(A, 5, ALICE),
-            entry(B, 0, 0),
-        ],
-        sites: vec![],
-        parts: lent_loop(4),
-        root: A,
-        main: EntryId(1),
-    }
-}
 
 fn put_report(out: &mut impl Write, code: &Code, world: &World) -> io::Result<()> {
     let obeying = || (0..HOSTS.len() as u8).map(HostId).filter_map(|me| Some((me, world.host(me)?)));
@@ -173,7 +144,7 @@ fn compare(code: &Code, one: &str, other: &str) -> Result<String, String> {
 
 fn main() -> ExitCode {
     let names: Vec<String> = env::args().skip(1).collect();
-    let code = split_loop();
+    let code = split_loop(4);
     if let [one, other] = names.as_slice() {
         return match compare(&code, one, other) {
             Ok(line) => {
