@@ -11,6 +11,11 @@ is_built() {
     \( -name '*.rt' -o -name '*.antt' -o -name crates.txt \) -newer "$1" -print -quit)" ]
 }
 
+# `jifrun` starts the node that stands beside it: a copy, since `rt ci` takes no link there
+lay_node() {
+  cp -u "$node" "$(dirname "$runner")/jifhost"
+}
+
 is_current() {
   is_built "$program"
 }
