@@ -7,7 +7,7 @@ use Rattle.wire_msg.specs.declared.frame.Frame.TheVariants as frame
 use Rattle.wire_msg.specs.Spelling.{frame_bytes}
 use Rattle.node_engine.specs.declared.node_error.NodeError.{NodeError}
 use Rattle.node_engine.specs.NodeWorlds.{Part}
-use Rattle.node_engine.specs.Seals.{SealsShape, after_sealing}
+use Rattle.node_seals.specs.Seals.{SealsShape, after_sealing}
 use Rattle.node_engine.specs.Serving.{after_telling, closing_from, telling}
 use Rattle.node_engine.specs.Told.{Seen, Does, Stops}
 use Rattle.node_engine.specs.Units.{frame_parts}

@@ -4,7 +4,6 @@ pub mod Closing
 pub mod Complete
 pub mod Ends
 pub mod Fronts
-pub mod KeyLines
 pub mod LoadedNodes
 pub mod NodeStages
 pub mod Noting

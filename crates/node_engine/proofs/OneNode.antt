@@ -27,14 +27,14 @@ use Rattle.front_end.specs.Starting.{StartingValues}
 use Rattle.front_end.specs.Verdicts.{VerdictShape, too_long}
 use Rattle.front_end.proofs.OneStart.{start_once}
 use Rattle.front_end.proofs.Stages.{IsOne, give, one_then, stop_with}
-use Rattle.node_engine.specs.declared.seals_file.SealsError.{SealsError}
-use Rattle.node_engine.specs.declared.seals_file.SealsError.TheVariants as error
+use Rattle.node_seals.specs.declared.seals_file.SealsError.{SealsError}
+use Rattle.node_seals.specs.declared.seals_file.SealsError.TheVariants as error
 use Rattle.node_engine.specs.NodeSources.{AreHostsOf, CodeRead, HostFound, IsNamed, NodeSource, NodeSources, NodeStart}
 use Rattle.node_engine.specs.NodeSources.{NodeStarts, OfHost, PartChecked, PartRefused, PlacedNode, ReadyNode}
 use Rattle.node_engine.specs.NodeSources.{ReadyNodes, Sealed, SealedBy, Valued, bad_code, no_host, other_hosts}
 use Rattle.node_engine.specs.Nodes.{LoadedNode, TellsKeys}
-use Rattle.node_engine.specs.Seals.{SealsShape}
-use Rattle.node_engine.specs.SealsFile.{seals_of}
+use Rattle.node_seals.specs.Seals.{SealsShape}
+use Rattle.node_seals.specs.SealsFile.{seals_of}
 use Rattle.node_engine.specs.Options.{Asked, SourceName, Program as from_program, Code as from_code, name_of}
 
 -- what is known of programs, host files and parts

@@ -14,13 +14,13 @@ use Rattle.front_end.specs.Verdicts.{VerdictShape, Refuse, Print}
 use Rattle.std.specs.Prelude.{ℤ, ⊤}
 use Rattle.part_verify.specs.declared.errors.VerifyError.{VerifyError}
 use Rattle.part_verify.specs.declared.errors.VerifyError.TheVariants as unsound
-use Rattle.node_engine.specs.declared.seals_file.SealsError.{SealsError}
-use Rattle.node_engine.specs.declared.seals_file.SealsError.TheVariants as error
+use Rattle.node_seals.specs.declared.seals_file.SealsError.{SealsError}
+use Rattle.node_seals.specs.declared.seals_file.SealsError.TheVariants as error
 use Rattle.node_engine.specs.NodeSources.{CodeRead, HostFound, NodeSource, NodeSources, NodeStart, NodeStarts, OfHost}
 use Rattle.node_engine.specs.NodeSources.{PartChecked, PartRefused, PlacedNode, ReadyNode, ReadyNodes, Sealed}
 use Rattle.node_engine.specs.NodeSources.{SealedBy, Valued}
-use Rattle.node_engine.specs.Seals.{SealsShape}
-use Rattle.node_engine.specs.SealsFile.{seals_of}
+use Rattle.node_seals.specs.Seals.{SealsShape}
+use Rattle.node_seals.specs.SealsFile.{seals_of}
 use Rattle.node_engine.specs.Options.{Asked, SourceName, Program as from_program, Code as from_code, name_of}
 
 abbrev pub IsRefusal : VerdictShape → Type 0

@@ -14,13 +14,13 @@ use Rattle.link_seal.specs.declared.errors.OpenError.TheVariants as refusal
 use Rattle.link_seal.specs.Links.{CanSeal, LinkShape, after_one, next_sealed, sealed}
 use Rattle.link_seal.specs.Opening.{opens}
 use Rattle.event_text.specs.Lines.{said_lines}
-use Rattle.node_engine.specs.declared.seals_file.SealsError.{SealsError}
-use Rattle.node_engine.specs.declared.seals_file.SealsError.TheVariants as error
-use Rattle.node_engine.specs.declared.seals_file.TheConstants.{SEALS_BYTES}
-use Rattle.node_engine.specs.Seals.{SealedLinks, SealsShape, after_opening, link_in, link_of, opened_as, opened_by}
-use Rattle.node_engine.specs.Seals.{opened_from, opened_of, raised, refused, unsealed}
-use Rattle.node_engine.specs.SealsFile.{behind_lines, first_lacking, lacks, no_links, seals_of, unless_lacking}
-use Rattle.node_engine.specs.SealsFile.{whole_links}
+use Rattle.node_seals.specs.declared.seals_file.SealsError.{SealsError}
+use Rattle.node_seals.specs.declared.seals_file.SealsError.TheVariants as error
+use Rattle.node_seals.specs.declared.seals_file.TheConstants.{SEALS_BYTES}
+use Rattle.node_seals.specs.Seals.{SealedLinks, SealsShape, after_opening, link_in, link_of, opened_as, opened_by}
+use Rattle.node_seals.specs.Seals.{opened_from, opened_of, raised, refused, unsealed}
+use Rattle.node_seals.specs.SealsFile.{behind_lines, first_lacking, lacks, no_links, seals_of, unless_lacking}
+use Rattle.node_seals.specs.SealsFile.{whole_links}
 
 -- ---- sending
 

@@ -26,15 +26,15 @@ use Rattle.front_end.specs.Starting.{StartingValues}
 use Rattle.front_end.specs.Verdicts.{VerdictShape, too_long}
 use Rattle.front_end.proofs.SomeStages.{HasOutcome, some_then}
 use Rattle.front_end.proofs.SomeStart.{SomeStart, start_some}
-use Rattle.node_engine.specs.declared.seals_file.SealsError.{SealsError}
-use Rattle.node_engine.specs.declared.seals_file.SealsError.TheVariants as error
-use Rattle.node_engine.specs.declared.seals_file.TheConstants.{SEALS_BYTES}
+use Rattle.node_seals.specs.declared.seals_file.SealsError.{SealsError}
+use Rattle.node_seals.specs.declared.seals_file.SealsError.TheVariants as error
+use Rattle.node_seals.specs.declared.seals_file.TheConstants.{SEALS_BYTES}
 use Rattle.node_engine.specs.NodeSources.{CodeRead, HostFound, NodeSource, NodeSources, NodeStart, NodeStarts, OfHost}
 use Rattle.node_engine.specs.NodeSources.{PartChecked, PartRefused, PlacedNode, ReadyNodes, Sealed, SealedBy, Valued}
 use Rattle.node_engine.specs.NodeSources.{bad_code, named_host, no_host, other_hosts, reveals, weak_entry}
-use Rattle.node_engine.specs.Seals.{SealedLinks, SealsShape}
-use Rattle.node_engine.specs.SealsFile.{behind_line, behind_lines, first_lacking, no_links, or_bad_line, seals_of}
-use Rattle.node_engine.specs.SealsFile.{unless_lacking, whole_links, with_line}
+use Rattle.node_seals.specs.Seals.{SealedLinks, SealsShape}
+use Rattle.node_seals.specs.SealsFile.{behind_line, behind_lines, first_lacking, no_links, or_bad_line, seals_of}
+use Rattle.node_seals.specs.SealsFile.{unless_lacking, whole_links, with_line}
 use Rattle.node_engine.specs.Options.{Asked, SourceName, Program as from_program, Code as from_code, name_of}
 
 -- what is known of programs, host files, files of starting values and parts

@@ -1,4 +1,3 @@
-pub mod Arrivals
 pub mod Beginnings
 pub mod JournalLines
 pub mod NodeSources
@@ -7,8 +6,6 @@ pub mod Nodes
 pub mod Notes
 pub mod Options
 pub mod Said
-pub mod Seals
-pub mod SealsFile
 pub mod Serving
 pub mod Statuses
 pub mod Told

@@ -26,10 +26,10 @@ use Rattle.front_end.specs.Verdicts.{VerdictShape, Refuse, no_form, too_long}
 use Rattle.node_engine.specs.declared.node_source.NodeSource as native
 use Rattle.node_engine.specs.declared.node_start.NodeStart as native_start
 use Rattle.node_engine.specs.declared.node_files.ReadyNode as native_ready
-use Rattle.node_engine.specs.declared.seals_file.SealsError.{SealsError}
-use Rattle.node_engine.specs.declared.seals_file.SealsError.TheVariants as error
-use Rattle.node_engine.specs.Seals.{SealsShape}
-use Rattle.node_engine.specs.SealsFile.{seals_of}
+use Rattle.node_seals.specs.declared.seals_file.SealsError.{SealsError}
+use Rattle.node_seals.specs.declared.seals_file.SealsError.TheVariants as error
+use Rattle.node_seals.specs.Seals.{SealsShape}
+use Rattle.node_seals.specs.SealsFile.{seals_of}
 use Rattle.node_engine.specs.Options.{SourceName, Program as from_program, Code as from_code, Asked, name_of}
 
 -- ---- what a node alone refuses

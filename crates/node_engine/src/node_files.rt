@@ -15,12 +15,11 @@ use crate::node_part::part_checked;
 use crate::node_source::{NodeSource, code_source, program_source};
 use crate::node_start::{NodeStart, copies, of_host};
 use crate::options::{Options, SourceWord};
-use crate::seals::Seals;
-use crate::seals_file::{SEALS_BYTES, SealsError};
 use front_end::{Asked as File, LineCause, Loaded, Refusal, Stop, Verdict, load_all, stopped};
 use host_code::{Code, host_name};
 use js_base::Files;
 use js_base::limits::{HOSTS_BYTES, PROGRAM_BYTES, SCRIPT_BYTES, SPLIT_FILE_BYTES};
+use node_seals::{SEALS_BYTES, Seals, SealsError};
 use std::alloc::{AllocError, Global};
 
 /// A node that is ready to run: what it is, and its seals.
