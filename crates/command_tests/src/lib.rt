@@ -24,7 +24,7 @@ mod node_parts;
 #[cfg(test)]
 mod node_refusals;
 #[cfg(test)]
-mod node_seals;
+mod seals_of_nodes;
 #[cfg(test)]
 mod node_services;
 #[cfg(test)]
