@@ -4,7 +4,7 @@ use Rattle.std.proofs.Common.{Bool, true, false, refl, sym, ap, arith}
 use Rattle.std.specs.Prelude.{◌==◌, if◌then◌else◌}
 use Rattle.std.proofs.lemmas.List.{take_more, length-take-le}
 use Rattle.jif_lex.specs.Tokens.{line_feeds}
-use Rattle.jiftokens.specs.Places.{column_from, column_behind, line_behind}
+use Rattle.text_places.specs.Places.{column_from, column_behind, line_behind}
 
 column_more : (column : ℕ) (front : List ℕ) (byte : ℕ) →
     column_from column (front ++ byte ∷ []) ≡ (if byte == 10 then 1 else column_from column front + 1)

@@ -4,7 +4,7 @@ ghost use Rattle.std.specs.Prelude.{◌≡◌, ◌++◌, ◌+◌, ◌≤◌, ◌
 ghost use Rattle.std.specs.String.{string_bytes};
 ghost use Rattle.js_base.specs.declared.limits.TheConstants.{PROGRAM_BYTES};
 ghost use Rattle.js_base.specs.declared.text.TheConstants.{LINE_FEED};
-ghost use Rattle.jiftokens.specs.Places.{column_behind, line_behind, place_text};
+ghost use Rattle.text_places.specs.Places.{column_behind, line_behind, place_text};
 
 use js_base::OutOfMemory;
 use js_base::text::LINE_FEED;

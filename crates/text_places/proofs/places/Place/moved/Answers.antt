@@ -1,7 +1,7 @@
 use Rattle.std.proofs.Common.{◌≡◌, ◌≤◌, ◌<◌, take, length, sym, subst, arith}
-use Rattle.jiftokens.specs.Places.{column_behind, line_behind}
-use Rattle.jiftokens.proofs.Columns.{line_small, column_small, line_next, column_next}
-use Rattle.jiftokens.proofs.places.Place.moved.Goals as goal
+use Rattle.text_places.specs.Places.{column_behind, line_behind}
+use Rattle.text_places.proofs.Columns.{line_small, column_small, line_next, column_next}
+use Rattle.text_places.proofs.places.Place.moved.Goals as goal
 
 pub behind-here-requires-clause-line : goal.behind-here-requires-clause-line
 behind-here-requires-clause-line c =

@@ -1,6 +1,6 @@
 use Rattle.std.proofs.Common.{◌≡◌, ◌≤◌, ◌-◌, take}
-use Rattle.jiftokens.specs.Places.{column_behind, line_behind}
-use Rattle.jiftokens.proofs.places.Place.moved.Given as goal
+use Rattle.text_places.specs.Places.{column_behind, line_behind}
+use Rattle.text_places.proofs.places.Place.moved.Given as goal
 
 -- the line and the column are those of the place come to, which is not past the one to come to
 abbrev pub invariant-loop-here : goal.invariant-loop-here
