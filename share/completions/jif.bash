@@ -84,9 +84,20 @@ _jiftokens() {
   [ "$COMP_CWORD" -ne 1 ] || _jif_files .jif "${COMP_WORDS[1]}"
 }
 
+_jifkeys() {
+  local word=${COMP_WORDS[COMP_CWORD]}
+  COMPREPLY=()
+  case $COMP_CWORD in
+    1) _jif_files .toml "$word" ;;
+    2) [ ! -f "${COMP_WORDS[1]}" ] || _jif_words "$(_jif_hosts "${COMP_WORDS[1]}")" "$word" ;;
+    3) _jif_files '' "$word" ;;
+  esac
+}
+
 complete -F _jifsplit jifsplit
 complete -F _jifhost jifhost
 complete -F _jifrun jifrun
 complete -F _jifmerge jifmerge
 complete -F _jifpicture jifpicture
 complete -F _jiftokens jiftokens
+complete -F _jifkeys jifkeys
