@@ -51,9 +51,9 @@ example() {
 
 # starts the nodes of an example in a copy of its folder, and compares how each ends and its journal with what is wanted;
 # a node whose program is done says so on standard error, and nothing else; one that has a file of keys, HOST.seals, seals
-# what it sends
+# what it sends, and one that has a copy of the host file, HOST.toml, reads that
 nodes() {
-  local folder=$1 copy=$scratch/nodes host at code
+  local folder=$1 copy=$scratch/nodes host at code own
   local hosts=() processes=() seals=()
   rm -rf "$copy"
   cp -r "$folder" "$copy"
@@ -63,7 +63,9 @@ nodes() {
     esac
     seals=()
     [ ! -f "$folder/$host.seals" ] || seals=(--seals "$host.seals")
-    (cd "$copy" && exec timeout 60 "$node" --program program.jif --hosts hosts.toml --start start.txt --turns 1000 \
+    own=hosts.toml
+    [ ! -f "$folder/$host.toml" ] || own=$host.toml
+    (cd "$copy" && exec timeout 60 "$node" --program program.jif --hosts "$own" --start start.txt --turns 1000 \
       --host "$host" "${seals[@]}") >"$copy/$host.out" 2>"$copy/$host.err" </dev/null &
     processes+=($!)
     hosts+=("$host")
