@@ -30,7 +30,7 @@ is_unchanged() {
   if [ -z "$unchanged" ]; then
     unchanged=no
     [ -f "$top/.git/index" ] && GIT_INDEX_FILE=.git/index git -C "$top" --git-dir=.git --work-tree=. \
-      diff-files --quiet -- 'crates/*.rt' 'crates/*.antt' crates.txt 2>/dev/null && unchanged=yes
+      -c core.preloadIndex=false diff-files --quiet -- 'crates/*.rt' 'crates/*.antt' crates.txt 2>/dev/null && unchanged=yes
   fi
   [ "$unchanged" = yes ]
 }
