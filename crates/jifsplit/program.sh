@@ -57,7 +57,7 @@ build() {
     return 1
   fi
   log=$(mktemp) || return 1
-  echo "$crate: it is built now: some minutes for jiftokens, and from nothing about an hour for all on four processors" >&2
+  echo "$crate: it is built now: some minutes for jiftokens, and from nothing up to an hour for all on four processors" >&2
   (cd "$top/crates/$crate" && rt run -- "$@") 2>&1 | tee "$log" | said_so_far "$crate" "$(count_below "$crate")"
   if is_built "$built"; then
     rm -f "$log"
