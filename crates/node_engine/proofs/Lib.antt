@@ -5,13 +5,11 @@ pub mod Complete
 pub mod Ends
 pub mod Fronts
 pub mod LoadedNodes
-pub mod NodeStages
 pub mod Noting
 pub mod OneNode
 pub mod OneUnit
 pub mod OnlyRefusals
 pub mod Ready
-pub mod Rows
 pub mod SealedFrames
 pub mod Sealing
 pub mod Served

@@ -1,6 +1,5 @@
 pub mod Beginnings
 pub mod JournalLines
-pub mod NodeSources
 pub mod NodeWorlds
 pub mod Nodes
 pub mod Notes
@@ -10,3 +9,4 @@ pub mod Serving
 pub mod Statuses
 pub mod Told
 pub mod Units
+pub mod ReadyNodes

@@ -1,4 +1,4 @@
-use Rattle.std.proofs.Common.{◌∙◌, Ok, Err, arith}
+use Rattle.std.proofs.Common.{Ok, Err, arith}
 use Rattle.link_seal.specs.declared.errors.OpenError.TheVariants as refusal
 use Rattle.link_seal.specs.Links.{after_one}
 use Rattle.node_seals.specs.Seals.{link_of, raised}

@@ -5,8 +5,8 @@ ghost use Rattle.host_code.specs.Code.{CodeShape};
 ghost use Rattle.std.specs.String.{string_bytes};
 ghost use Rattle.front_end.specs.Loading.{EndsAs, StopsWith};
 ghost use Rattle.js_base.specs.declared.limits.TheConstants.{HOSTS};
-ghost use Rattle.node_engine.specs.NodeSources.{IsNamed, IsStarted, OfHost, named_host, no_host, node_source};
-ghost use Rattle.node_engine.specs.NodeSources.{node_start, other_hosts};
+ghost use Rattle.node_starts.specs.NodeSources.{IsNamed, IsStarted, OfHost, named_host, no_host, node_source};
+ghost use Rattle.node_starts.specs.NodeSources.{node_start, other_hosts};
 
 use crate::node_source::NodeSource;
 use front_end::{Refusal, Stop, Verdict};
@@ -65,7 +65,7 @@ fn other_hosts(alloc: Global, code: &str, hosts: &str) -> Stop
 }
 
 /// Two texts again.
-pub(crate) fn copies(alloc: Global, one: &str, other: &str) -> Result<(String, String), AllocError>
+pub fn copies(alloc: Global, one: &str, other: &str) -> Result<(String, String), AllocError>
     ensures { IfOk result (λ both. (string_bytes both.0 ≡ one.now) × (string_bytes both.1 ≡ other.now)) }
 {
     let first = String::from_str(alloc, one)?;

@@ -1,8 +1,8 @@
 use Rattle.front_end.specs.Stages.{stopped}
 use Rattle.front_end.proofs.Stages.{stops_weaker}
-use Rattle.node_engine.specs.NodeSources.{PartChecked, PartRefused, node_start}
-use Rattle.node_engine.specs.Options.{Code as from_code}
-use Rattle.node_engine.proofs.node_part.sound_node.Goals as goal
+use Rattle.node_starts.specs.NodeSources.{PartChecked, PartRefused, node_start}
+use Rattle.node_starts.specs.SourceNames.{Code as from_code}
+use Rattle.node_starts.proofs.node_part.sound_node.Goals as goal
 
 pub returns-in-Err-clause-due : goal.returns-in-Err-clause-due
 returns-in-Err-clause-due c =

@@ -2,11 +2,11 @@
 
 ghost use Rattle.std.specs.Prelude.{IfOk, string_bytes};
 ghost use Rattle.front_end.specs.Loading.{EndsAs, StopsWith};
-ghost use Rattle.node_engine.specs.NodeSources.{IsStarted, PartChecked, PartRefused, node_start};
-ghost use Rattle.node_engine.specs.Options.{Code as from_code, source_name};
+ghost use Rattle.node_starts.specs.NodeSources.{IsStarted, PartChecked, PartRefused, node_start};
+ghost use Rattle.node_starts.specs.SourceNames.{Code as from_code, source_name};
 
 use crate::node_start::NodeStart;
-use crate::options::SourceWord;
+use crate::source_word::SourceWord;
 use front_end::{Refusal, Stop, Verdict};
 use part_verify::{VerifyError, verify};
 use std::alloc::{AllocError, Global};

@@ -1,4 +1,4 @@
-use Rattle.node_engine.proofs.node_source.placed_node.Goals as goal
+use Rattle.node_starts.proofs.node_source.placed_node.Goals as goal
 
 pub returns : goal.returns
 returns c = λ s loaded.

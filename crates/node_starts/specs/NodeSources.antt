@@ -1,13 +1,12 @@
 -- What a node begins with: the code of all hosts, the hosts of a host file, and starting values. The code comes from a
 -- program, which is placed on the hosts, or from a split file.
-use Rattle.std.specs.Prelude.{◌≡◌, ◌≢◌, ◌⊎◌, ℕ, ◌<◌, ◌≤◌, ℤ, List, length, map, Option, Some, None}
-use Rattle.std.specs.Prelude.{Result, Ok, Err, All}
+use Rattle.std.specs.Prelude.{◌≡◌, ◌≢◌, ◌⊎◌, ℕ, ◌<◌, ◌≤◌, ℤ, List, length, map, Some}
+use Rattle.std.specs.Prelude.{Ok, Err, All}
 use Rattle.std.specs.Prelude.{slice_get, take}
 use Rattle.js_base.specs.declared.ids.HostId.{HostId}
 use Rattle.js_base.specs.declared.ids.EntryId.{EntryId}
 use Rattle.js_base.specs.declared.limits.TheConstants.{SPLIT_FILE_BYTES}
 use Rattle.host_code.specs.Code.{CodeShape, CodeHostShape}
-use Rattle.host_code.specs.MessageText.{host_text}
 use Rattle.host_decl.specs.Hosts.{HostsShape, HostShape}
 use Rattle.event_text.specs.Settings.{form_of}
 use Rattle.part_verify.specs.declared.errors.VerifyError.{VerifyError}
@@ -22,15 +21,10 @@ use Rattle.front_end.specs.Sources.{HostsRead}
 use Rattle.front_end.specs.Stages.{Outcome, given, stopped, Then}
 use Rattle.front_end.specs.Starting.{StartingValues}
 use Rattle.front_end.specs.Refusals as refusals
-use Rattle.front_end.specs.Verdicts.{VerdictShape, Refuse, no_form, too_long}
-use Rattle.node_engine.specs.declared.node_source.NodeSource as native
-use Rattle.node_engine.specs.declared.node_start.NodeStart as native_start
-use Rattle.node_engine.specs.declared.node_files.ReadyNode as native_ready
-use Rattle.node_seals.specs.declared.seals_file.SealsError.{SealsError}
-use Rattle.node_seals.specs.declared.seals_file.SealsError.TheVariants as error
-use Rattle.node_seals.specs.Seals.{SealsShape}
-use Rattle.node_seals.specs.SealsFile.{seals_of}
-use Rattle.node_engine.specs.Options.{SourceName, Program as from_program, Code as from_code, Asked, name_of}
+use Rattle.front_end.specs.Verdicts.{VerdictShape, Refuse, too_long}
+use Rattle.node_starts.specs.declared.node_source.NodeSource as native
+use Rattle.node_starts.specs.declared.node_start.NodeStart as native_start
+use Rattle.node_starts.specs.SourceNames.{SourceName, Program as from_program, Code as from_code}
 
 -- ---- what a node alone refuses
 
@@ -48,9 +42,6 @@ weak_entry file entry place = Refuse (refusals.WeakEntry file entry place)
 
 abbrev pub reveals : (file : List ℕ) (place : ℕ) → VerdictShape
 reveals file place = Refuse (refusals.Reveals file place)
-
-abbrev pub no_key : (file host : List ℕ) → VerdictShape
-no_key file host = Refuse (refusals.NoKey file host)
 
 pub record NodeSource : Type 0 where
   pub code : CodeShape
@@ -136,38 +127,6 @@ abbrev pub NodeSources : SourceName → (source hosts file start : List ℕ) →
 NodeSources (from_program name) source hosts file start = FromProgram source hosts file start
 NodeSources (from_code name) source hosts file start = FromCode name source hosts file start
 
--- with the number of the node's host, before this has looked at its part
-abbrev pub HostFound : Asked → (source hosts start : List ℕ) → Outcome NodeStart → Type 0
-HostFound asked source hosts start =
-    Then (NodeSources asked.source source hosts asked.start start)
-    (OfHost asked.host (name_of asked.source) asked.hosts)
-
-abbrev pub NodeStarts : Asked → (source hosts start : List ℕ) → Outcome NodeStart → Type 0
-NodeStarts asked source hosts start = Then (HostFound asked source hosts start) (PartChecked asked.source)
-
--- ---- the seals
-
--- a node that is ready to run: what it is, and its seals
-pub record ReadyNode : Type 0 where
-  pub start : NodeStart
-  pub seals : SealsShape
-
--- by what a file of keys gives
-abbrev pub SealedBy : (file : List ℕ) → NodeStart → Result SealsShape SealsError → Outcome ReadyNode → Type 0
-SealedBy file node (Ok seals) end = end ≡ given (record { start = node; seals = seals })
-SealedBy file node (Err error.TooLong) end = end ≡ stopped (too_long file)
-SealedBy file node (Err (error.BadLine line)) end = end ≡ stopped (no_form file line)
-SealedBy file node (Err (error.NoKey host)) end = end ≡ stopped (no_key file (host_text node.source.code host))
-SealedBy file node (Err error.OutOfMemory) end = ⊥
-
--- the file of keys gives the seals where one is asked for, and otherwise nothing is sealed
-abbrev pub Sealed : Option (List ℕ) → (keys : List ℕ) → NodeStart → Outcome ReadyNode → Type 0
-Sealed None keys node end = end ≡ given (record { start = node; seals = None })
-Sealed (Some file) keys node end = SealedBy file node (seals_of node.source.code node.me keys) end
-
-abbrev pub ReadyNodes : Asked → (source hosts start keys : List ℕ) → Outcome ReadyNode → Type 0
-ReadyNodes asked source hosts start keys = Then (NodeStarts asked source hosts start) (Sealed asked.seals keys)
-
 -- ---- in the program
 
 abbrev pub node_source : native.NodeSource → NodeSource
@@ -175,9 +134,6 @@ node_source source = record { code = source.code; hosts = source.hosts; values =
 
 abbrev pub node_start : native_start.NodeStart → NodeStart
 node_start node = record { source = node_source node.source; me = node.me }
-
-abbrev pub ready_node : native_ready.ReadyNode → ReadyNode
-ready_node node = record { start = node_start node.start; seals = node.seals }
 
 -- the node's host is one of the code's
 abbrev pub IsStarted : native_start.NodeStart → Type 0

@@ -3,8 +3,8 @@ use Rattle.host_decl.specs.Hosts.{HostsShape}
 use Rattle.front_end.specs.Sources.{HostsRead}
 use Rattle.front_end.specs.Stages.{Then}
 use Rattle.front_end.proofs.Stages.{handed_on, then_ends, then_stops}
-use Rattle.node_engine.specs.NodeSources.{CodeRead, FromCode, Valued, node_source}
-use Rattle.node_engine.proofs.node_source.code_source.Goals as goal
+use Rattle.node_starts.specs.NodeSources.{CodeRead, FromCode, Valued, node_source}
+use Rattle.node_starts.proofs.node_source.code_source.Goals as goal
 
 pub returns-in_err-code : goal.returns-in_err-code
 returns-in_err-code c = λ k h s loaded_k loaded_h loaded_s.

@@ -1,8 +1,8 @@
 use Rattle.std.proofs.Common.{inl, refl}
 use Rattle.front_end.proofs.Stages.{handed_on}
-use Rattle.node_engine.specs.NodeSources.{Valued, node_source}
-use Rattle.node_engine.proofs.NodeStages.{values_stop}
-use Rattle.node_engine.proofs.node_source.valued.Goals as goal
+use Rattle.node_starts.specs.NodeSources.{Valued, node_source}
+use Rattle.node_starts.proofs.NodeStages.{values_stop}
+use Rattle.node_starts.proofs.node_source.valued.Goals as goal
 
 pub returns-in_err-store : goal.returns-in_err-store
 returns-in_err-store c = λ s loaded.

@@ -5,8 +5,8 @@ ghost use Rattle.js_base.specs.declared.limits.TheConstants.{HOSTS_BYTES, PROGRA
 ghost use Rattle.js_base.specs.declared.limits.TheConstants.{SPLIT_FILE_BYTES};
 ghost use Rattle.front_end.specs.Loading.{EndsAs, IsLoaded, StopsWith};
 ghost use Rattle.front_end.specs.PlacedShapes.{placed_shape};
-ghost use Rattle.node_engine.specs.NodeSources.{CodeRead, FromCode, FromProgram, PlacedNode, Valued, bad_code};
-ghost use Rattle.node_engine.specs.NodeSources.{node_source};
+ghost use Rattle.node_starts.specs.NodeSources.{CodeRead, FromCode, FromProgram, PlacedNode, Valued, bad_code};
+ghost use Rattle.node_starts.specs.NodeSources.{node_source};
 
 use front_end::{
     Loaded, PlacedSource, Refusal, Stop, Verdict, code_of, hosts_read, read_places,

@@ -8,7 +8,7 @@ use Rattle.front_end.specs.Loading.{StopsWith}
 use Rattle.front_end.specs.Stages.{stopped}
 use Rattle.front_end.specs.Starting.{StartingValues}
 use Rattle.front_end.proofs.Stages.{stops_weaker}
-use Rattle.node_engine.specs.NodeSources.{Valued}
+use Rattle.node_starts.specs.NodeSources.{Valued}
 
 -- it is refused
 pub values_stop : (file start : List ℕ) (code : CodeShape) (hosts : HostsShape) (why : Stop) →

@@ -1,8 +1,8 @@
 use Rattle.std.proofs.Common.{sym, ◌∙◌, ◌≢◌, arith}
 use Rattle.std.proofs.lemmas.Bool.{false≢true}
 use Rattle.std.proofs.lemmas.Slice.Eq.{bytes_eq-Decides}
-use Rattle.node_engine.proofs.Rows.{all_more, all_of_them, row_at}
-use Rattle.node_engine.proofs.node_start.host_named.Goals as goal
+use Rattle.node_starts.proofs.Rows.{all_more, all_of_them, row_at}
+use Rattle.node_starts.proofs.node_start.host_named.Goals as goal
 
 pub returns-then-eq-clause-found : goal.returns-then-eq-clause-found
 returns-then-eq-clause-found c = (

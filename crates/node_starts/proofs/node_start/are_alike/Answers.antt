@@ -1,7 +1,7 @@
 use Rattle.std.proofs.Common.{arith}
-use Rattle.node_engine.specs.NodeSources.{named_host}
-use Rattle.node_engine.proofs.Rows.{same_more}
-use Rattle.node_engine.proofs.node_start.are_alike.Goals as goal
+use Rattle.node_starts.specs.NodeSources.{named_host}
+use Rattle.node_starts.proofs.Rows.{same_more}
+use Rattle.node_starts.proofs.node_start.are_alike.Goals as goal
 
 pub loop-place-preserved : goal.loop-place-preserved
 loop-place-preserved c =

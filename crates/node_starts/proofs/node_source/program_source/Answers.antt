@@ -1,8 +1,8 @@
 use Rattle.front_end.specs.PlacedShapes.{placed_shape}
 use Rattle.front_end.specs.PlacedSources.{PlacedSources}
 use Rattle.front_end.proofs.Stages.{handed_on, then_ends, then_stops}
-use Rattle.node_engine.specs.NodeSources.{FromProgram, PlacedNode, node_source}
-use Rattle.node_engine.proofs.node_source.program_source.Goals as goal
+use Rattle.node_starts.specs.NodeSources.{FromProgram, PlacedNode, node_source}
+use Rattle.node_starts.proofs.node_source.program_source.Goals as goal
 
 pub returns-in_err-placed : goal.returns-in_err-placed
 returns-in_err-placed c = λ p h s loaded_p loaded_h loaded_s.

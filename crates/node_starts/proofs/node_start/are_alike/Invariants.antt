@@ -1,6 +1,6 @@
 use Rattle.std.proofs.Common.{◌≡◌, map, take}
-use Rattle.node_engine.specs.NodeSources.{named_host}
-use Rattle.node_engine.proofs.node_start.are_alike.Given as goal
+use Rattle.node_starts.specs.NodeSources.{named_host}
+use Rattle.node_starts.proofs.node_start.are_alike.Given as goal
 
 -- the rows so far are those of the hosts
 abbrev pub invariant-loop-place : goal.invariant-loop-place

@@ -1,6 +1,6 @@
 use Rattle.std.proofs.Common.{◌≢◌, take}
 use Rattle.std.specs.Prelude.{All}
-use Rattle.node_engine.proofs.node_start.host_named.Given as goal
+use Rattle.node_starts.proofs.node_start.host_named.Given as goal
 
 -- no row so far has the name
 abbrev pub invariant-loop-number : goal.invariant-loop-number
