@@ -1,3 +1,6 @@
 pub mod Traits
 pub mod Causes
 pub mod CauseExamples
+pub mod Listed
+pub mod Asks
+pub mod Reasons

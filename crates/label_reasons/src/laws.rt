@@ -11,10 +11,13 @@ ghost use Rattle.label_lattice.specs.PrintedExamples.{keeps_bob_out};
 ghost use Rattle.jif_tree.specs.Trees.{ExprTree, BlockTree, local, number, scalar};
 ghost use Rattle.jif_tree.specs.LabelRules.{MethodSetting, VariableLabels, expr_label, guarded, labels_after};
 ghost use Rattle.jif_tree.specs.ValueLabels.{IsExprLabelled, AreValuesLabelled};
-ghost use Rattle.label_reasons.specs.Traits.{Trait, has, IsTrait, IsDeclaredTrait, Fails};
-ghost use Rattle.label_reasons.specs.Causes.{Cause, of_begin, of_field, of_variable, written, itself, by_local};
-ghost use Rattle.label_reasons.specs.Causes.{by_guard, begin_cause, declared_causes, expr_cause, guarded_cause};
-ghost use Rattle.label_reasons.specs.Causes.{causes_after, Tells, TellsVariables, IsMadeOfLabels, IsBlockOfLabels};
+ghost use Rattle.label_reasons.specs.declared.reason.Trait.{Trait};
+ghost use Rattle.label_reasons.specs.declared.reason.Source.TheVariants.{OfBegin, OfField, OfVariable, Written};
+ghost use Rattle.label_reasons.specs.declared.reason.Via.TheVariants.{Itself, ByLocal, ByGuard};
+ghost use Rattle.label_reasons.specs.declared.reason.Cause.{Cause};
+ghost use Rattle.label_reasons.specs.Traits.{has, IsTrait, IsDeclaredTrait, Fails};
+ghost use Rattle.label_reasons.specs.Causes.{begin_cause, declared_causes, expr_cause, guarded_cause, causes_after};
+ghost use Rattle.label_reasons.specs.Causes.{Tells, TellsVariables, IsMadeOfLabels, IsBlockOfLabels};
 ghost use Rattle.label_reasons.specs.CauseExamples.{from_bob, not_by_alice, not_by_bob, a, q, x, y, main};
 ghost use Rattle.label_reasons.specs.CauseExamples.{statement, caused, cause_under, cause_of, cause_inside};
 ghost use Rattle.label_reasons.specs.CauseExamples.{cause_behind, told_before, sum, chosen, released, endorsed_again};
@@ -78,34 +81,34 @@ pub fn cause_examples()
     ensures distrusted { Fails not_by_alice empty_label keeps_bob_out }
     // A number has no cause, a field is its own, and a variable with a label too.
     ensures number_alone { (value : ℤ) → cause_of from_bob (number value) ≡ None }
-    ensures secret_field { cause_of from_bob (scalar a) ≡ caused (of_field a) itself }
+    ensures secret_field { cause_of from_bob (scalar a) ≡ caused (OfField a) Itself }
     ensures public_field { cause_of from_bob (scalar q) ≡ None }
-    ensures declared_variable { cause_of from_bob (local y) ≡ caused (of_variable y) itself }
+    ensures declared_variable { cause_of from_bob (local y) ≡ caused (OfVariable y) Itself }
     // So is the label under which a method begins.
-    ensures begin_label { begin_cause from_bob main keeps_bob_out ≡ caused (of_begin main) itself }
+    ensures begin_label { begin_cause from_bob main keeps_bob_out ≡ caused (OfBegin main) Itself }
     // The cause of a sum is the first part that has the trait, and an index comes before its array.
-    ensures first_of_sum { cause_of from_bob (sum (local y) (scalar a)) ≡ caused (of_variable y) itself }
-    ensures second_of_sum { cause_of from_bob (sum (scalar q) (scalar a)) ≡ caused (of_field a) itself }
-    ensures index_first { cause_of from_bob chosen ≡ caused (of_field a) itself }
+    ensures first_of_sum { cause_of from_bob (sum (local y) (scalar a)) ≡ caused (OfVariable y) Itself }
+    ensures second_of_sum { cause_of from_bob (sum (scalar q) (scalar a)) ≡ caused (OfField a) Itself }
+    ensures index_first { cause_of from_bob chosen ≡ caused (OfField a) Itself }
     // A release takes away what its operand keeps from Bob, and not what the program label does, before which the label
     // that is written comes. Whoever does not trust the operand does not trust what is released.
     ensures release { cause_of from_bob released ≡ None }
     ensures release_inside { cause_under told_before from_bob released ≡ told_before }
-    ensures written_first { cause_under told_before from_bob released_again ≡ caused (written (statement 1)) itself }
-    ensures release_trust { cause_of not_by_bob released ≡ caused (of_field a) itself }
+    ensures written_first { cause_under told_before from_bob released_again ≡ caused (Written (statement 1)) Itself }
+    ensures release_trust { cause_of not_by_bob released ≡ caused (OfField a) Itself }
     // An endorsed value keeps from Bob what its operand does. Whoever does not trust the label that is written does not
     // trust it, and Alice does.
-    ensures endorse_keeps { cause_of from_bob endorsed_again ≡ caused (of_field a) itself }
-    ensures endorse_trust { cause_of not_by_bob endorsed_again ≡ caused (written (statement 1)) itself }
+    ensures endorse_keeps { cause_of from_bob endorsed_again ≡ caused (OfField a) Itself }
+    ensures endorse_trust { cause_of not_by_bob endorsed_again ≡ caused (Written (statement 1)) Itself }
     ensures endorsed_for { cause_of not_by_alice endorsed_again ≡ None }
     // Inside a guard, and in a local without a label, it is the same field, through the guard or the local. What the
     // local is declared with comes before the guard.
-    ensures through_guard { cause_inside None from_bob (scalar a) ≡ caused (of_field a) (by_guard (statement 1)) }
-    ensures through_local { cause_behind from_bob copied x ≡ caused (of_field a) (by_local x (statement 1)) }
-    ensures local_inside { cause_behind from_bob told x ≡ caused (of_field a) (by_local x (statement 2)) }
-    ensures value_first { cause_behind from_bob copied_inside x ≡ caused (of_field a) (by_local x (statement 2)) }
+    ensures through_guard { cause_inside None from_bob (scalar a) ≡ caused (OfField a) (ByGuard (statement 1)) }
+    ensures through_local { cause_behind from_bob copied x ≡ caused (OfField a) (ByLocal x (statement 1)) }
+    ensures local_inside { cause_behind from_bob told x ≡ caused (OfField a) (ByLocal x (statement 2)) }
+    ensures value_first { cause_behind from_bob copied_inside x ≡ caused (OfField a) (ByLocal x (statement 2)) }
     // An outer guard comes first.
     ensures outer_guard { cause_inside told_before from_bob (scalar a) ≡ told_before }
     // A variable with a label keeps its cause, whatever is assigned to it.
-    ensures labelled_kept { cause_behind from_bob overwritten y ≡ caused (of_variable y) itself }
+    ensures labelled_kept { cause_behind from_bob overwritten y ≡ caused (OfVariable y) Itself }
 {}

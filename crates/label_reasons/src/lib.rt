@@ -2,5 +2,7 @@
 #![tactic(auto)]
 
 mod laws;
+mod reason;
 
 pub use laws::{cause_examples, cause_laws, trait_laws};
+pub use reason::{Cause, Source, Trait, Via};

@@ -1,0 +1,69 @@
+-- Why a constraint does not hold: what is listed of what fails, each with what brings it in.
+use Rattle.std.specs.Prelude.{ℕ, ◌≡◌, ◌≢◌, ◌==◌, ◌&&◌, Bool, false, not, IsTrue, List, [], ◌∷◌, ◌++◌, Option, Some, None}
+use Rattle.std.specs.List.{filter_map, list_any}
+use Rattle.std.specs.Option.{option_map}
+use Rattle.js_base.specs.declared.ids.PrincipalId.{PrincipalId}
+use Rattle.principals.specs.ActsFor.{Declared}
+use Rattle.label_lattice.specs.declared.label.Label.{Label}
+use Rattle.jif_tree.specs.LabelRules.{Constraint, may_release, trusted, may_endorse, may_begin, may_flow}
+use Rattle.label_reasons.specs.declared.reason.Trait.{Trait}
+use Rattle.label_reasons.specs.declared.reason.Trait.TheVariants.{Keeps, Distrusts}
+use Rattle.label_reasons.specs.declared.reason.Cause.{Cause}
+use Rattle.label_reasons.specs.declared.reason.Reason.{Reason}
+use Rattle.label_reasons.specs.Traits.{has}
+use Rattle.label_reasons.specs.Listed.{acts_for, listed}
+use Rattle.label_reasons.specs.Asks.{Ask}
+
+-- ---- what fails of a constraint
+
+-- the first label has it, and the second has not
+abbrev pub fails : Trait → Label → Label → Bool
+fails trait from to = has trait from && not (has trait to)
+
+-- a member may release to the reader what the owner keeps
+abbrev pub may_tell : Declared → ℕ → ℕ → PrincipalId → Bool
+may_tell principals owner reader member =
+    acts_for principals member.0 owner && not (acts_for principals reader member.0)
+
+abbrev pub release_fails : Declared → List PrincipalId → Label → Label → Trait → Bool
+release_fails principals authority from to (Keeps owner reader) =
+    fails (Keeps owner reader) from to && not (list_any (may_tell principals owner reader) authority)
+release_fails principals authority from to (Distrusts principal) = false
+
+-- a member does not trust the program label
+abbrev pub trust_fails : List PrincipalId → Label → Trait → Bool
+trust_fails authority pc (Keeps owner reader) = false
+trust_fails authority pc (Distrusts principal) =
+    list_any (λ member. member.0 == principal) authority && has (Distrusts principal) pc
+
+abbrev pub endorse_fails : Declared → List PrincipalId → Label → Label → Trait → Bool
+endorse_fails principals authority from to (Keeps owner reader) = false
+endorse_fails principals authority from to (Distrusts principal) =
+    fails (Distrusts principal) from to
+    && not (list_any (λ member. acts_for principals member.0 principal) authority)
+
+-- whether it fails where this is asked for
+abbrev pub fails_in : Declared → Constraint → Trait → Bool
+fails_in principals (may_release authority from to) trait = release_fails principals authority from to trait
+fails_in principals (trusted authority pc) trait = trust_fails authority pc trait
+fails_in principals (may_endorse authority from to) trait = endorse_fails principals authority from to trait
+fails_in principals (may_begin pc begin) trait = fails trait pc begin
+fails_in principals (may_flow from to) trait = fails trait from to
+
+-- the label that is asked about
+abbrev pub asked_label : Constraint → Label
+asked_label (may_release authority from to) = from
+asked_label (trusted authority pc) = pc
+asked_label (may_endorse authority from to) = from
+asked_label (may_begin pc begin) = pc
+asked_label (may_flow from to) = from
+
+-- ---- reasons
+
+abbrev pub reason_of : (Trait → Option Cause) → Trait → Option Reason
+reason_of cause trait = option_map (λ found. record { held = trait; cause = found }) (cause trait)
+
+-- why what is asked for fails: none where it holds
+abbrev pub label_reasons : Declared → Ask → List Reason
+label_reasons principals ask =
+    filter_map (reason_of ask.cause) (listed principals (fails_in principals ask.constraint))
