@@ -1,3 +1,5 @@
 pub mod TraitTests
 pub mod ExpressionCauses
 pub mod BlockCauses
+pub mod ActsTests
+pub mod Listing

@@ -1,9 +1,10 @@
 //! Laws of what is held against labels, and of what brings it in. The calls do nothing: their contracts are the laws.
 
-ghost use Rattle.std.specs.Prelude.{◌≡◌, ◌↔◌, ◌⊎◌, ℤ, Option, None, IsTrue};
+ghost use Rattle.std.specs.Prelude.{◌≡◌, ◌≢◌, ◌↔◌, ◌⊎◌, ℕ, ℤ, Bool, List, [], All, Option, None, IsTrue};
 ghost use Rattle.js_base.specs.declared.ids.MethodId.{MethodId};
 ghost use Rattle.js_base.specs.declared.ids.StmtId.{StmtId};
 ghost use Rattle.js_base.specs.declared.ids.VarId.{VarId};
+ghost use Rattle.principals.specs.ActsFor.{Declared, ActsFor};
 ghost use Rattle.label_lattice.specs.declared.label.Label.{Label};
 ghost use Rattle.label_lattice.specs.Label.{IsLabel, Flows};
 ghost use Rattle.label_lattice.specs.Lattice.{empty_label, join_of};
@@ -22,8 +23,10 @@ ghost use Rattle.label_reasons.specs.CauseExamples.{from_bob, not_by_alice, not_
 ghost use Rattle.label_reasons.specs.CauseExamples.{statement, caused, cause_under, cause_of, cause_inside};
 ghost use Rattle.label_reasons.specs.CauseExamples.{cause_behind, told_before, sum, chosen, released, endorsed_again};
 ghost use Rattle.label_reasons.specs.CauseExamples.{copied, copied_inside, told, overwritten, released_again};
+ghost use Rattle.label_reasons.specs.Listed.{acts_for, failing, listed};
 
 use label_lattice::{label_laws, text_laws};
+use principals::acts_for_laws;
 
 /// Laws of what is held against labels.
 pub fn trait_laws()
@@ -112,3 +115,18 @@ pub fn cause_examples()
     // A variable with a label keeps its cause, whatever is assigned to it.
     ensures labelled_kept { cause_behind from_bob overwritten y ≡ caused (OfVariable y) Itself }
 {}
+
+/// Laws of what is listed of what fails.
+pub fn listing_laws()
+    // The test of who acts for whom tells of chains of declared pairs.
+    ensures acts { (principals : Declared) (first second : ℕ) →
+        (IsTrue (acts_for principals first second) ↔ ActsFor principals first second) }
+    // What is listed fails.
+    ensures listed_fails { (principals : Declared) (test : Trait → Bool) →
+        All (λ trait. IsTrue (test trait)) (listed principals test) }
+    // Something is listed where something fails.
+    ensures listed_some { (principals : Declared) (test : Trait → Bool) →
+        failing principals test ≢ [] → listed principals test ≢ [] }
+{
+    acts_for_laws();
+}
