@@ -3,3 +3,5 @@ pub mod ExpressionCauses
 pub mod BlockCauses
 pub mod ActsTests
 pub mod Listing
+pub mod SameAsks
+pub mod Failing

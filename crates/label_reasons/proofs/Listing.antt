@@ -74,7 +74,7 @@ cons_some x xs none = not_none x (x ∷ xs) (inl refl) none
 
 -- ---- what is listed fails
 
-unless_none_passes : (P : Trait → Type 0) (first all : List Trait) → All P first → All P all →
+pub unless_none_passes : (P : Trait → Type 0) (first all : List Trait) → All P first → All P all →
     All P (unless_none first all)
 unless_none_passes P [] all one other = other
 unless_none_passes P (trait ∷ first) all one other = one

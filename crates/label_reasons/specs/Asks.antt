@@ -6,6 +6,7 @@
 -- asked expression in the statement once more. Here each constraint is made together with its cause.
 use Rattle.std.specs.Prelude.{ℕ, ◌+◌, List, [], ◌∷◌, ◌++◌, Option, Some, None}
 use Rattle.std.specs.List.{flat_map}
+use Rattle.js_base.specs.declared.ids.FieldId.{FieldId}
 use Rattle.js_base.specs.declared.ids.VarId.{VarId}
 use Rattle.js_base.specs.declared.ids.MethodId.{MethodId}
 use Rattle.js_base.specs.declared.ids.StmtId.{StmtId}
@@ -126,11 +127,17 @@ flow_ask spot here wanted from cause to = record {
 abbrev pub value_ask : Spot → StmtId → Wanted → ExprTree → Label → Ask
 value_ask spot here wanted value to = flow_ask spot here wanted (label_at spot value) (cause_at spot here value) to
 
--- an element of an array, whose index comes before its value
-abbrev pub element_ask : Spot → StmtId → Wanted → ExprTree → ExprTree → Label → Ask
-element_ask spot here wanted index value to =
-    flow_ask spot here wanted (join_of (label_at spot index) (label_at spot value))
-    (λ trait. or_else (cause_at spot here index trait) (cause_at spot here value trait)) to
+-- the flow of a value, behind what it asks for itself
+abbrev pub value_asks : Spot → StmtId → Wanted → ExprTree → Label → List Ask
+value_asks spot here wanted value to = expr_asks spot here value ++ value_ask spot here wanted value to ∷ []
+
+-- the flow of an element of an array, whose index comes before its value
+abbrev pub element_asks : Spot → StmtId → FieldId → ExprTree → ExprTree → List Ask
+element_asks spot here field index value =
+    expr_asks spot here index ++ expr_asks spot here value
+    ++ flow_ask spot here (KeptInElement field) (join_of (label_at spot index) (label_at spot value))
+    (λ trait. or_else (cause_at spot here index trait) (cause_at spot here value trait))
+    (field_label spot.setting.program field) ∷ []
 
 -- the arguments from a place on
 abbrev pub argument_asks : Spot → StmtId → MethodId → ℕ → List ExprTree → List VarId → List Ask
@@ -149,9 +156,9 @@ result_asks spot here method (Some result) (Some into) =
     ∷ []
 result_asks spot here method result into = []
 
--- a call whose arguments are asked for
-abbrev pub call_asks : Spot → StmtId → MethodId → List ExprTree → Option VarId → List Ask
-call_asks spot here method arguments into =
+-- what a call asks for behind what its arguments ask for themselves
+abbrev pub call_flows : Spot → StmtId → MethodId → List ExprTree → Option VarId → List Ask
+call_flows spot here method arguments into =
     let called = method_at spot.setting.program method in
     record {
       statement = here;
@@ -161,10 +168,17 @@ call_asks spot here method arguments into =
     } ∷ argument_asks spot here method 0 arguments (params_of called)
     ++ result_asks spot here method (result_of called) into
 
-abbrev pub return_asks : Spot → StmtId → Option VarId → ExprTree → List Ask
-return_asks spot here None value = []
-return_asks spot here (Some result) value =
+abbrev pub call_asks : Spot → StmtId → MethodId → List ExprTree → Option VarId → List Ask
+call_asks spot here method arguments into =
+    flat_map (expr_asks spot here) arguments ++ call_flows spot here method arguments into
+
+abbrev pub return_flows : Spot → StmtId → Option VarId → ExprTree → List Ask
+return_flows spot here None value = []
+return_flows spot here (Some result) value =
     value_ask spot here (GivenBack result) value (variable_label spot.labels result) ∷ []
+
+abbrev pub return_asks : Spot → StmtId → ExprTree → List Ask
+return_asks spot here value = expr_asks spot here value ++ return_flows spot here spot.setting.result value
 
 -- ---- blocks
 
@@ -172,30 +186,24 @@ abbrev pub block_asks : Spot → BlockTree → List Ask
 block_asks spot done = []
 block_asks spot (set_local heading x value rest) =
     let after = spot_assigned spot heading.id x value in
-    expr_asks spot heading.id value
-    ++ value_ask spot heading.id (KeptInLocal x) value (variable_label after.labels x) ∷ block_asks after rest
+    value_asks spot heading.id (KeptInLocal x) value (variable_label after.labels x) ++ block_asks after rest
 block_asks spot (set_field heading field value rest) =
-    expr_asks spot heading.id value
-    ++ value_ask spot heading.id (KeptInField field) value (field_label spot.setting.program field)
-    ∷ block_asks spot rest
+    value_asks spot heading.id (KeptInField field) value (field_label spot.setting.program field)
+    ++ block_asks spot rest
 block_asks spot (set_element heading field index value rest) =
-    expr_asks spot heading.id index ++ expr_asks spot heading.id value
-    ++ element_ask spot heading.id (KeptInElement field) index value (field_label spot.setting.program field)
-    ∷ block_asks spot rest
+    element_asks spot heading.id field index value ++ block_asks spot rest
 block_asks spot (branch heading guard first second rest) =
     let inside = spot_inside spot heading.id guard in
     let between = spot_after inside first in
-    expr_asks spot heading.id guard ++ block_asks inside first ++ block_asks between second
-    ++ block_asks (spot_with spot (spot_after between second)) rest
+    expr_asks spot heading.id guard ++ (block_asks inside first ++ block_asks between second
+    ++ block_asks (spot_with spot (spot_after between second)) rest)
 block_asks spot (loop heading guard body rest) =
     let inside = spot_inside spot heading.id guard in
-    expr_asks spot heading.id guard ++ expr_asks inside heading.id guard ++ block_asks inside body
-    ++ block_asks (spot_with spot (spot_after inside body)) rest
+    expr_asks spot heading.id guard ++ expr_asks inside heading.id guard ++ (block_asks inside body
+    ++ block_asks (spot_with spot (spot_after inside body)) rest)
 block_asks spot (call heading site method arguments into rest) =
-    flat_map (expr_asks spot heading.id) arguments ++ call_asks spot heading.id method arguments into
-    ++ block_asks spot rest
-block_asks spot (give_back heading value rest) =
-    expr_asks spot heading.id value ++ return_asks spot heading.id spot.setting.result value ++ block_asks spot rest
+    call_asks spot heading.id method arguments into ++ block_asks spot rest
+block_asks spot (give_back heading value rest) = return_asks spot heading.id value ++ block_asks spot rest
 
 -- ---- methods and programs
 

@@ -1,16 +1,21 @@
 -- Why a constraint does not hold: what is listed of what fails, each with what brings it in.
-use Rattle.std.specs.Prelude.{ℕ, ◌≡◌, ◌≢◌, ◌==◌, ◌&&◌, Bool, false, not, IsTrue, List, [], ◌∷◌, ◌++◌, Option, Some, None}
-use Rattle.std.specs.List.{filter_map, list_any}
+use Rattle.std.specs.Prelude.{ℕ, ◌≡◌, ◌==◌, ◌&&◌, Bool, false, not, IsTrue, List, [], ◌∷◌}
+use Rattle.std.specs.Prelude.{Any, Option, Some, None}
+use Rattle.std.specs.List.{filter, filter_map, list_any}
 use Rattle.std.specs.Option.{option_map}
 use Rattle.js_base.specs.declared.ids.PrincipalId.{PrincipalId}
-use Rattle.principals.specs.ActsFor.{Declared}
+use Rattle.js_base.specs.declared.ids.StmtId.{StmtId}
+use Rattle.principals.specs.ActsFor.{Declared, ActsFor, AreDeclared}
 use Rattle.label_lattice.specs.declared.label.Label.{Label}
+use Rattle.label_lattice.specs.Label.{Trusts, PolicyForbids}
+use Rattle.label_lattice.specs.Over.{IsLabelOver}
 use Rattle.jif_tree.specs.LabelRules.{Constraint, may_release, trusted, may_endorse, may_begin, may_flow}
 use Rattle.label_reasons.specs.declared.reason.Trait.{Trait}
 use Rattle.label_reasons.specs.declared.reason.Trait.TheVariants.{Keeps, Distrusts}
 use Rattle.label_reasons.specs.declared.reason.Cause.{Cause}
 use Rattle.label_reasons.specs.declared.reason.Reason.{Reason}
-use Rattle.label_reasons.specs.Traits.{has}
+use Rattle.label_reasons.specs.Traits.{has, Fails, IsDeclaredTrait}
+use Rattle.label_reasons.specs.Causes.{Tells}
 use Rattle.label_reasons.specs.Listed.{acts_for, listed}
 use Rattle.label_reasons.specs.Asks.{Ask}
 
@@ -67,3 +72,64 @@ reason_of cause trait = option_map (λ found. record { held = trait; cause = fou
 abbrev pub label_reasons : Declared → Ask → List Reason
 label_reasons principals ask =
     filter_map (reason_of ask.cause) (listed principals (fails_in principals ask.constraint))
+
+-- ---- what reasons say
+
+-- What is held fails: the first label has it and the second has not, or authority is missing.
+abbrev pub ReleaseFails : Declared → List PrincipalId → Label → Label → Trait → Type 0
+ReleaseFails principals authority from to (Keeps owner reader) =
+    Fails (Keeps owner reader) from to × ¬ Any (λ member. PolicyForbids principals member [] owner reader) authority
+ReleaseFails principals authority from to (Distrusts principal) = ⊥
+
+abbrev pub TrustFails : List PrincipalId → Label → Trait → Type 0
+TrustFails authority pc (Keeps owner reader) = ⊥
+TrustFails authority pc (Distrusts principal) = Any (λ member. member.0 ≡ principal) authority × ¬ Trusts pc principal
+
+abbrev pub EndorseFails : Declared → List PrincipalId → Label → Label → Trait → Type 0
+EndorseFails principals authority from to (Keeps owner reader) = ⊥
+EndorseFails principals authority from to (Distrusts principal) =
+    Fails (Distrusts principal) from to × ¬ Any (λ member. ActsFor principals member.0 principal) authority
+
+abbrev pub FailsIn : Declared → Constraint → Trait → Type 0
+FailsIn principals (may_release authority from to) trait = ReleaseFails principals authority from to trait
+FailsIn principals (trusted authority pc) trait = TrustFails authority pc trait
+FailsIn principals (may_endorse authority from to) trait = EndorseFails principals authority from to trait
+FailsIn principals (may_begin pc begin) trait = Fails trait pc begin
+FailsIn principals (may_flow from to) trait = Fails trait from to
+
+-- A reason for what is asked: a trait of declared principals fails in it, and the cause is what brings that in.
+pub record IsLabelReason (principals : Declared) (ask : Ask) (reason : Reason) : Type 0 where
+  pub within : IsDeclaredTrait principals reason.held
+  pub fails : FailsIn principals ask.constraint reason.held
+  pub cause : ask.cause reason.held ≡ Some reason.cause
+
+-- ---- what is asked of labels over the declared principals
+
+-- there is a cause exactly where the label that is asked about has the trait
+abbrev pub IsTold : Declared → Ask → Type 0
+IsTold principals ask = (trait : Trait) → IsDeclaredTrait principals trait →
+    Tells trait (ask.cause trait) (asked_label ask.constraint)
+
+-- its labels are over the declared principals, and so is its authority
+abbrev pub IsOver : Declared → Constraint → Type 0
+IsOver principals (may_release authority from to) = AreDeclared principals authority × IsLabelOver principals from
+IsOver principals (trusted authority pc) = AreDeclared principals authority
+IsOver principals (may_endorse authority from to) = AreDeclared principals authority × IsLabelOver principals to
+IsOver principals (may_begin pc begin) = IsLabelOver principals pc × IsLabelOver principals begin
+IsOver principals (may_flow from to) = IsLabelOver principals from × IsLabelOver principals to
+
+-- ---- the refused statement
+
+-- the first that has reasons
+abbrev pub refused_or : Ask → List Reason → Option Ask → Option Ask
+refused_or ask [] later = later
+refused_or ask (reason ∷ reasons) later = Some ask
+
+abbrev pub first_refused : Declared → List Ask → Option Ask
+first_refused principals [] = None
+first_refused principals (ask ∷ asks) =
+    refused_or ask (label_reasons principals ask) (first_refused principals asks)
+
+-- what a statement asks for
+abbrev pub asked_by : StmtId → List Ask → List Ask
+asked_by statement asks = filter (λ ask. ask.statement.0 == statement.0) asks

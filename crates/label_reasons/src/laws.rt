@@ -1,16 +1,17 @@
 //! Laws of what is held against labels, and of what brings it in. The calls do nothing: their contracts are the laws.
 
-ghost use Rattle.std.specs.Prelude.{◌≡◌, ◌≢◌, ◌↔◌, ◌⊎◌, ℕ, ℤ, Bool, List, [], All, Option, None, IsTrue};
+ghost use Rattle.std.specs.Prelude.{◌≡◌, ◌≢◌, ◌↔◌, ◌⊎◌, ℕ, ℤ, Bool, List, [], All, map, Option, None, IsTrue};
 ghost use Rattle.js_base.specs.declared.ids.MethodId.{MethodId};
 ghost use Rattle.js_base.specs.declared.ids.StmtId.{StmtId};
 ghost use Rattle.js_base.specs.declared.ids.VarId.{VarId};
-ghost use Rattle.principals.specs.ActsFor.{Declared, ActsFor};
+ghost use Rattle.principals.specs.ActsFor.{Declared, ActsFor, IsDeclared};
 ghost use Rattle.label_lattice.specs.declared.label.Label.{Label};
 ghost use Rattle.label_lattice.specs.Label.{IsLabel, Flows};
 ghost use Rattle.label_lattice.specs.Lattice.{empty_label, join_of};
 ghost use Rattle.label_lattice.specs.PrintedExamples.{keeps_bob_out};
-ghost use Rattle.jif_tree.specs.Trees.{ExprTree, BlockTree, local, number, scalar};
+ghost use Rattle.jif_tree.specs.Trees.{ExprTree, BlockTree, ProgramTree, local, number, scalar};
 ghost use Rattle.jif_tree.specs.LabelRules.{MethodSetting, VariableLabels, expr_label, guarded, labels_after};
+ghost use Rattle.jif_tree.specs.LabelRules.{Holds, obligations};
 ghost use Rattle.jif_tree.specs.ValueLabels.{IsExprLabelled, AreValuesLabelled};
 ghost use Rattle.label_reasons.specs.declared.reason.Trait.{Trait};
 ghost use Rattle.label_reasons.specs.declared.reason.Source.TheVariants.{OfBegin, OfField, OfVariable, Written};
@@ -23,6 +24,9 @@ ghost use Rattle.label_reasons.specs.CauseExamples.{from_bob, not_by_alice, not_
 ghost use Rattle.label_reasons.specs.CauseExamples.{statement, caused, cause_under, cause_of, cause_inside};
 ghost use Rattle.label_reasons.specs.CauseExamples.{cause_behind, told_before, sum, chosen, released, endorsed_again};
 ghost use Rattle.label_reasons.specs.CauseExamples.{copied, copied_inside, told, overwritten, released_again};
+ghost use Rattle.label_reasons.specs.declared.reason.Reason.{Reason};
+ghost use Rattle.label_reasons.specs.Reasons.{label_reasons, IsLabelReason, IsOver, IsTold};
+ghost use Rattle.label_reasons.specs.Asks.{Ask, program_asks, obligation_of};
 ghost use Rattle.label_reasons.specs.Listed.{acts_for, failing, listed};
 
 use label_lattice::{label_laws, text_laws};
@@ -129,4 +133,24 @@ pub fn listing_laws()
         failing principals test ≢ [] → listed principals test ≢ [] }
 {
     acts_for_laws();
+}
+
+/// Laws of what is asked for and why it fails.
+pub fn reason_laws()
+    // Without names and causes, what is asked for are the obligations of the program.
+    ensures asked { (principals : Declared) (program : ProgramTree) →
+        map obligation_of (program_asks principals program) ≡ obligations principals program }
+    // Each reason tells something that fails, and what brings it in.
+    ensures reason_true { (principals : Declared) (ask : Ask) → IsDeclared principals →
+        All (IsLabelReason principals ask) (label_reasons principals ask) }
+    // Where there is one, the constraint does not hold.
+    ensures reason_denies { (principals : Declared) (ask : Ask) (reason : Reason) →
+        IsLabelReason principals ask reason → ¬ Holds principals ask.constraint }
+    // A constraint that does not hold has a reason.
+    ensures reason_due { (principals : Declared) (ask : Ask) → IsDeclared principals →
+        IsOver principals ask.constraint → IsTold principals ask → ¬ Holds principals ask.constraint →
+        label_reasons principals ask ≢ [] }
+{
+    acts_for_laws();
+    text_laws();
 }
