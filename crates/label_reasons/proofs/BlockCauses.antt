@@ -26,14 +26,14 @@ use Rattle.label_reasons.proofs.ExpressionCauses.{LabelLaws, as_both, or_some, i
 
 -- ---- a list with one item set
 
-set_there : {X : Type 0} (xs : List X) (place : ℕ) (old new : X) → slice_get xs place ≡ Some old →
+pub set_there : {X : Type 0} (xs : List X) (place : ℕ) (old new : X) → slice_get xs place ≡ Some old →
     slice_get (slice_set xs place new) place ≡ Some new
 set_there xs place old new there =
     let within = slice_get_within xs place old there in
     slice_get-get_or (slice_set xs place new) place new (omega (arith, within, length-set xs place new))
     ∙ ap Some (get_or-set_same xs place new new within)
 
-set_elsewhere : {X : Type 0} (xs : List X) (place other : ℕ) (new : X) → other ≢ place →
+pub set_elsewhere : {X : Type 0} (xs : List X) (place other : ℕ) (new : X) → other ≢ place →
     slice_get (slice_set xs place new) other ≡ slice_get xs other
 set_elsewhere xs place other new apart = elim (slice_get_cases (slice_set xs place new) other).1 [
   | inl (y, within, is, read) ↦
@@ -63,7 +63,7 @@ set_tells trait labels causes x via cause label found each tells y labelled = el
       rw apart.0 (rw elsewhere (each y (labelled.0, sym elsewhere ∙ labelled.1)))
 ]
 
-assignment_tells : (trait : Trait) (labels : VariableLabels) (causes : VarId → Option Cause) (x : VarId) (here : StmtId)
+pub assignment_tells : (trait : Trait) (labels : VariableLabels) (causes : VarId → Option Cause) (x : VarId) (here : StmtId)
     (cause : Option Cause) (label : Label) → TellsVariables trait causes labels → Tells trait cause label →
     TellsVariables trait (causes_after_assignment labels causes x here cause) (labels_after_assignment labels x label)
 assignment_tells trait labels causes x here cause label each tells = by (slice_get labels x.0) refl

@@ -5,3 +5,5 @@ pub mod ActsTests
 pub mod Listing
 pub mod SameAsks
 pub mod Failing
+pub mod ToldAsks
+pub mod FirstRefused

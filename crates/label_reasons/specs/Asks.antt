@@ -82,6 +82,31 @@ spot_with spot inner = record spot { labels = inner.labels; causes = inner.cause
 
 -- ---- expressions
 
+-- to release a value, and to be trusted with it
+abbrev pub release_ask : Spot → StmtId → ExprTree → Label → Ask
+release_ask spot here operand label = record {
+  statement = here;
+  wanted = Released;
+  constraint = may_release spot.setting.authority (label_at spot operand) label;
+  cause = cause_at spot here operand;
+}
+
+abbrev pub trust_ask : Spot → StmtId → Ask
+trust_ask spot here = record {
+  statement = here;
+  wanted = ReleaseTrusted;
+  constraint = trusted spot.setting.authority spot.pc;
+  cause = spot.of_pc;
+}
+
+abbrev pub endorse_ask : Spot → StmtId → ExprTree → Label → Ask
+endorse_ask spot here operand label = record {
+  statement = here;
+  wanted = Endorsed;
+  constraint = may_endorse spot.setting.authority (label_at spot operand) label;
+  cause = cause_at spot here operand;
+}
+
 -- what the expressions in an expression ask for, inner before outer and from the left
 abbrev pub expr_asks : Spot → StmtId → ExprTree → List Ask
 expr_asks spot here (number value) = []
@@ -92,26 +117,8 @@ expr_asks spot here (inverted operand) = expr_asks spot here operand
 expr_asks spot here (negated operand) = expr_asks spot here operand
 expr_asks spot here (binary operator left right) = expr_asks spot here left ++ expr_asks spot here right
 expr_asks spot here (declassified operand label) =
-    expr_asks spot here operand
-    ++ record {
-      statement = here;
-      wanted = Released;
-      constraint = may_release spot.setting.authority (label_at spot operand) label;
-      cause = cause_at spot here operand;
-    } ∷ record {
-      statement = here;
-      wanted = ReleaseTrusted;
-      constraint = trusted spot.setting.authority spot.pc;
-      cause = spot.of_pc;
-    } ∷ []
-expr_asks spot here (endorsed operand label) =
-    expr_asks spot here operand
-    ++ record {
-      statement = here;
-      wanted = Endorsed;
-      constraint = may_endorse spot.setting.authority (label_at spot operand) label;
-      cause = cause_at spot here operand;
-    } ∷ []
+    expr_asks spot here operand ++ release_ask spot here operand label ∷ trust_ask spot here ∷ []
+expr_asks spot here (endorsed operand label) = expr_asks spot here operand ++ endorse_ask spot here operand label ∷ []
 
 -- ---- flows
 
@@ -132,12 +139,15 @@ abbrev pub value_asks : Spot → StmtId → Wanted → ExprTree → Label → Li
 value_asks spot here wanted value to = expr_asks spot here value ++ value_ask spot here wanted value to ∷ []
 
 -- the flow of an element of an array, whose index comes before its value
+abbrev pub element_ask : Spot → StmtId → FieldId → ExprTree → ExprTree → Ask
+element_ask spot here field index value =
+    flow_ask spot here (KeptInElement field) (join_of (label_at spot index) (label_at spot value))
+    (λ trait. or_else (cause_at spot here index trait) (cause_at spot here value trait))
+    (field_label spot.setting.program field)
+
 abbrev pub element_asks : Spot → StmtId → FieldId → ExprTree → ExprTree → List Ask
 element_asks spot here field index value =
-    expr_asks spot here index ++ expr_asks spot here value
-    ++ flow_ask spot here (KeptInElement field) (join_of (label_at spot index) (label_at spot value))
-    (λ trait. or_else (cause_at spot here index trait) (cause_at spot here value trait))
-    (field_label spot.setting.program field) ∷ []
+    expr_asks spot here index ++ expr_asks spot here value ++ element_ask spot here field index value ∷ []
 
 -- the arguments from a place on
 abbrev pub argument_asks : Spot → StmtId → MethodId → ℕ → List ExprTree → List VarId → List Ask
@@ -148,24 +158,29 @@ argument_asks spot here method place (argument ∷ arguments) (param ∷ params)
     ∷ argument_asks spot here method (place + 1) arguments params
 
 -- A result is declared with a label, so it is its own source.
-abbrev pub result_asks : Spot → StmtId → MethodId → Option VarId → Option VarId → List Ask
-result_asks spot here method (Some result) (Some into) =
+abbrev pub result_ask : Spot → StmtId → MethodId → VarId → VarId → Ask
+result_ask spot here method result into =
     flow_ask spot here (ResultKept method into) (variable_label spot.labels result)
     (λ trait. cause_where (has trait (variable_label spot.labels result)) (OfVariable result))
     (variable_label spot.labels into)
-    ∷ []
+
+abbrev pub result_asks : Spot → StmtId → MethodId → Option VarId → Option VarId → List Ask
+result_asks spot here method (Some result) (Some into) = result_ask spot here method result into ∷ []
 result_asks spot here method result into = []
+
+abbrev pub begin_ask : Spot → StmtId → MethodId → Ask
+begin_ask spot here method = record {
+  statement = here;
+  wanted = Begun method;
+  constraint = may_begin spot.pc (begin_label (method_at spot.setting.program method));
+  cause = spot.of_pc;
+}
 
 -- what a call asks for behind what its arguments ask for themselves
 abbrev pub call_flows : Spot → StmtId → MethodId → List ExprTree → Option VarId → List Ask
 call_flows spot here method arguments into =
     let called = method_at spot.setting.program method in
-    record {
-      statement = here;
-      wanted = Begun method;
-      constraint = may_begin spot.pc (begin_label called);
-      cause = spot.of_pc;
-    } ∷ argument_asks spot here method 0 arguments (params_of called)
+    begin_ask spot here method ∷ argument_asks spot here method 0 arguments (params_of called)
     ++ result_asks spot here method (result_of called) into
 
 abbrev pub call_asks : Spot → StmtId → MethodId → List ExprTree → Option VarId → List Ask

@@ -4,3 +4,4 @@ pub mod CauseExamples
 pub mod Listed
 pub mod Asks
 pub mod Reasons
+pub mod Programs

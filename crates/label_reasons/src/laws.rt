@@ -1,6 +1,6 @@
 //! Laws of what is held against labels, and of what brings it in. The calls do nothing: their contracts are the laws.
 
-ghost use Rattle.std.specs.Prelude.{◌≡◌, ◌≢◌, ◌↔◌, ◌⊎◌, ℕ, ℤ, Bool, List, [], All, map, Option, None, IsTrue};
+ghost use Rattle.std.specs.Prelude.{◌≡◌, ◌≢◌, ◌↔◌, ◌⊎◌, ℕ, ℤ, Bool, List, [], All, map, Option, Some, None, IsTrue};
 ghost use Rattle.js_base.specs.declared.ids.MethodId.{MethodId};
 ghost use Rattle.js_base.specs.declared.ids.StmtId.{StmtId};
 ghost use Rattle.js_base.specs.declared.ids.VarId.{VarId};
@@ -11,7 +11,7 @@ ghost use Rattle.label_lattice.specs.Lattice.{empty_label, join_of};
 ghost use Rattle.label_lattice.specs.PrintedExamples.{keeps_bob_out};
 ghost use Rattle.jif_tree.specs.Trees.{ExprTree, BlockTree, ProgramTree, local, number, scalar};
 ghost use Rattle.jif_tree.specs.LabelRules.{MethodSetting, VariableLabels, expr_label, guarded, labels_after};
-ghost use Rattle.jif_tree.specs.LabelRules.{Holds, obligations};
+ghost use Rattle.jif_tree.specs.LabelRules.{Obligation, Holds, obligations, IsFirstFailure, IsWellLabelled};
 ghost use Rattle.jif_tree.specs.ValueLabels.{IsExprLabelled, AreValuesLabelled};
 ghost use Rattle.label_reasons.specs.declared.reason.Trait.{Trait};
 ghost use Rattle.label_reasons.specs.declared.reason.Source.TheVariants.{OfBegin, OfField, OfVariable, Written};
@@ -26,6 +26,8 @@ ghost use Rattle.label_reasons.specs.CauseExamples.{cause_behind, told_before, s
 ghost use Rattle.label_reasons.specs.CauseExamples.{copied, copied_inside, told, overwritten, released_again};
 ghost use Rattle.label_reasons.specs.declared.reason.Reason.{Reason};
 ghost use Rattle.label_reasons.specs.Reasons.{label_reasons, IsLabelReason, IsOver, IsTold};
+ghost use Rattle.label_reasons.specs.Reasons.{first_refused, asked_by};
+ghost use Rattle.label_reasons.specs.Programs.{IsProgramOver};
 ghost use Rattle.label_reasons.specs.Asks.{Ask, program_asks, obligation_of};
 ghost use Rattle.label_reasons.specs.Listed.{acts_for, failing, listed};
 
@@ -152,5 +154,25 @@ pub fn reason_laws()
         label_reasons principals ask ≢ [] }
 {
     acts_for_laws();
+    text_laws();
+}
+
+/// What is told of a refused program: the laws of the reasons of its statements, for a program whose names are resolved.
+pub fn refusal_laws()
+    // The first obligation that fails is that of the first that has reasons.
+    ensures statement_due { (principals : Declared) (program : ProgramTree) (failed : Obligation) →
+        IsProgramOver principals program → IsFirstFailure principals (obligations principals program) failed →
+        (ask : Ask) × (first_refused principals (program_asks principals program) ≡ Some ask)
+        × (obligation_of ask ≡ failed) × (label_reasons principals ask ≢ []) }
+    // It is also the first of what its statement asks for.
+    ensures of_statement { (principals : Declared) (here : StmtId) (asks : List Ask) (ask : Ask) →
+        first_refused principals asks ≡ Some ask → ask.statement ≡ here →
+        first_refused principals (asked_by here asks) ≡ Some ask }
+    // A well labelled program has none.
+    ensures none_refused { (principals : Declared) (program : ProgramTree) → IsDeclared principals →
+        IsWellLabelled principals program → first_refused principals (program_asks principals program) ≡ None }
+{
+    acts_for_laws();
+    label_laws();
     text_laws();
 }
