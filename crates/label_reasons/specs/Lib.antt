@@ -5,3 +5,4 @@ pub mod Listed
 pub mod Asks
 pub mod Reasons
 pub mod Programs
+pub mod ReasonExamples

@@ -8,7 +8,7 @@ ghost use Rattle.principals.specs.ActsFor.{Declared, ActsFor, IsDeclared};
 ghost use Rattle.label_lattice.specs.declared.label.Label.{Label};
 ghost use Rattle.label_lattice.specs.Label.{IsLabel, Flows};
 ghost use Rattle.label_lattice.specs.Lattice.{empty_label, join_of};
-ghost use Rattle.label_lattice.specs.PrintedExamples.{keeps_bob_out};
+ghost use Rattle.label_lattice.specs.PrintedExamples.{alice_and_bob, keeps_bob_out};
 ghost use Rattle.jif_tree.specs.Trees.{ExprTree, BlockTree, ProgramTree, local, number, scalar};
 ghost use Rattle.jif_tree.specs.LabelRules.{MethodSetting, VariableLabels, expr_label, guarded, labels_after};
 ghost use Rattle.jif_tree.specs.LabelRules.{Obligation, Holds, obligations, IsFirstFailure, IsWellLabelled};
@@ -28,6 +28,11 @@ ghost use Rattle.label_reasons.specs.declared.reason.Reason.{Reason};
 ghost use Rattle.label_reasons.specs.Reasons.{label_reasons, IsLabelReason, IsOver, IsTold};
 ghost use Rattle.label_reasons.specs.Reasons.{first_refused, asked_by};
 ghost use Rattle.label_reasons.specs.Programs.{IsProgramOver};
+ghost use Rattle.label_reasons.specs.ReasonExamples.{explained, guarded_assignment, by_the_guard, alice_for_bob};
+ghost use Rattle.label_reasons.specs.ReasonExamples.{acted_for, by_alice_alone, released_for_nobody};
+ghost use Rattle.label_reasons.specs.ReasonExamples.{by_the_begin_label, released_by_nobody, by_no_authority, four};
+ghost use Rattle.label_reasons.specs.ReasonExamples.{unreleased, by_two_locals, not_trusted, by_trust, guarded_call};
+ghost use Rattle.label_reasons.specs.ReasonExamples.{by_the_guard_of_a_call};
 ghost use Rattle.label_reasons.specs.Asks.{Ask, program_asks, obligation_of};
 ghost use Rattle.label_reasons.specs.Listed.{acts_for, failing, listed};
 
@@ -176,3 +181,20 @@ pub fn refusal_laws()
     label_laws();
     text_laws();
 }
+
+/// What is told of some refused programs.
+pub fn reason_examples()
+    // A guard tells the secret, through which it is kept from Bob.
+    ensures guarded { explained alice_and_bob guarded_assignment ≡ by_the_guard }
+    // Of three pairs that fail, where Alice acts for Bob, one is listed.
+    ensures acting { explained alice_for_bob acted_for ≡ by_alice_alone }
+    // Who releases has to trust that the program comes there, and has to own what is released.
+    ensures untrusted_release { explained alice_and_bob released_for_nobody ≡ by_the_begin_label }
+    ensures unowned_release { explained alice_and_bob released_by_nobody ≡ by_no_authority }
+    // Each owner keeps from the others what came through a local.
+    ensures two_secrets { explained four unreleased ≡ by_two_locals }
+    // What Alice trusts is given what she does not trust.
+    ensures untrusted { explained alice_and_bob not_trusted ≡ by_trust }
+    // A call tells the secret that guards it.
+    ensures called { explained alice_and_bob guarded_call ≡ by_the_guard_of_a_call }
+{}
