@@ -28,7 +28,7 @@ use Rattle.label_reasons.specs.Listed.{acts_for, declared_numbers, readers, pair
 use Rattle.label_reasons.specs.Listed.{is_of_another, unless_none, goes_without_saying, said_pairs, listed_pairs, listed}
 use Rattle.label_reasons.specs.Asks.{Ask}
 use Rattle.label_reasons.specs.Reasons.{fails, may_tell, release_fails, trust_fails, endorse_fails, fails_in, asked_label}
-use Rattle.label_reasons.specs.Reasons.{reason_of, label_reasons, ReleaseFails, TrustFails, EndorseFails, FailsIn}
+use Rattle.label_reasons.specs.Reasons.{listed_in, reason_of, label_reasons, ReleaseFails, TrustFails, EndorseFails, FailsIn}
 use Rattle.label_reasons.specs.Reasons.{IsLabelReason, IsTold, IsOver}
 use Rattle.label_reasons.proofs.TraitTests.{AreTrusted, forbids_is, not_both, fails_flow, flows_else}
 use Rattle.label_reasons.proofs.ExpressionCauses.{is_trait}
@@ -123,38 +123,43 @@ forbidden : (principals : Declared) → ActsLaws principals → (owner reader : 
     (member : PrincipalId) → may_tell principals owner reader member ≡ true →
     PolicyForbids principals member [] owner reader
 forbidden principals laws owner reader is_reader member is =
-    let both = and_parts (acts_for principals member.0 owner) (not (acts_for principals reader member.0)) is in
-    ((acts_tells principals laws member.0 owner).0 both.0, record {
-      is_reader = is_reader;
-      not_owner = λ acts. both_ways (acts_for principals reader member.0)
-          (not-true (acts_for principals reader member.0) both.1)
-          ((acts_tells principals laws reader member.0).1 acts);
-      not_named = All-nil (λ named. ¬ ActsFor principals reader named.0);
-    })
+    let both = and_parts (acts_for principals member.0 owner) (not (acts_for principals reader member.0)) is in (
+      (acts_tells principals laws member.0 owner).0 both.0,
+      record {
+        is_reader = is_reader;
+        not_owner = λ acts. both_ways (acts_for principals reader member.0)
+            (not-true (acts_for principals reader member.0) both.1)
+            ((acts_tells principals laws reader member.0).1 acts);
+        not_named = All-nil (λ named. ¬ ActsFor principals reader named.0);
+      },
+    )
 
 -- what a test finds fails
 pub fails_in_is : AreTrusted → (principals : Declared) → ActsLaws principals → (constraint : Constraint)
     (trait : Trait) → fails_in principals constraint trait ≡ true → FailsIn principals constraint trait
 fails_in_is tells principals laws (may_release authority from to) (Keeps owner reader) is =
     let both = and_parts (fails (Keeps owner reader) from to)
-    (not (list_any (may_tell principals owner reader) authority)) is in
-    (fails_is (Keeps owner reader) from to both.0,
-    no_member (may_tell principals owner reader) (λ member. PolicyForbids principals member [] owner reader) authority
-    (tell principals laws owner reader) both.1)
+    (not (list_any (may_tell principals owner reader) authority)) is in (
+      fails_is (Keeps owner reader) from to both.0,
+      no_member (may_tell principals owner reader) (λ member. PolicyForbids principals member [] owner reader) authority
+          (tell principals laws owner reader) both.1,
+    )
 fails_in_is tells principals laws (may_release authority from to) (Distrusts principal) is = false≢true is
 fails_in_is tells principals laws (trusted authority pc) (Keeps owner reader) is = false≢true is
 fails_in_is tells principals laws (trusted authority pc) (Distrusts principal) is =
-    let both = and_parts (list_any (λ member. member.0 == principal) authority) (has (Distrusts principal) pc) is in
-    (some_member (λ member. member.0 == principal) (λ member. member.0 ≡ principal) authority
-    (λ member. eqb-true member.0 principal) both.0,
-    λ trusts. not_both (is_trusted_by pc principal) ((tells pc principal).1 trusts) both.1)
+    let both = and_parts (list_any (λ member. member.0 == principal) authority) (has (Distrusts principal) pc) is in (
+      some_member (λ member. member.0 == principal) (λ member. member.0 ≡ principal) authority
+          (λ member. eqb-true member.0 principal) both.0,
+      λ trusts. not_both (is_trusted_by pc principal) ((tells pc principal).1 trusts) both.1,
+    )
 fails_in_is tells principals laws (may_endorse authority from to) (Keeps owner reader) is = false≢true is
 fails_in_is tells principals laws (may_endorse authority from to) (Distrusts principal) is =
     let test : PrincipalId → Bool = λ member. acts_for principals member.0 principal in
-    let both = and_parts (fails (Distrusts principal) from to) (not (list_any test authority)) is in
-    (fails_is (Distrusts principal) from to both.0,
-    no_member test (λ member. ActsFor principals member.0 principal) authority
-    (λ member. (acts_tells principals laws member.0 principal).1) both.1)
+    let both = and_parts (fails (Distrusts principal) from to) (not (list_any test authority)) is in (
+      fails_is (Distrusts principal) from to both.0,
+      no_member test (λ member. ActsFor principals member.0 principal) authority
+          (λ member. (acts_tells principals laws member.0 principal).1) both.1,
+    )
 fails_in_is tells principals laws (may_begin pc begin) trait is = fails_is trait pc begin is
 fails_in_is tells principals laws (may_flow from to) trait is = fails_is trait from to is
 
@@ -189,8 +194,8 @@ denies tells principals (trusted authority pc) (Keeps owner reader) within is ho
 denies tells principals (trusted authority pc) (Distrusts principal) within is holds =
     let found = is.0 in
     let trusts : Trusts pc found.1.0 =
-        let P : PrincipalId → Type 0 = λ member. Trusts pc member.0 in
-        subst P found.3 (holds found.0 found.1 found.2) in
+    let P : PrincipalId → Type 0 = λ member. Trusts pc member.0 in
+    subst P found.3 (holds found.0 found.1 found.2) in
     let Q : ℕ → Type 0 = λ one. Trusts pc one in
     is.1 (subst Q found.4 trusts)
 denies tells principals (may_endorse authority from to) (Keeps owner reader) within is holds = is
@@ -388,14 +393,15 @@ reasons_due tells principals declared laws ask over told fails none =
     ((told trait is.1).1 (asked_has principals ask.constraint trait is.0)))
     (listed principals (fails_in principals ask.constraint)) (listed_for principals declared ask.constraint) none)))
 
--- and no reason where it holds
-pub reasons_deny : AreTrusted → (principals : Declared) → IsDeclared principals → ActsLaws principals → (ask : Ask) →
-    Holds principals ask.constraint → label_reasons principals ask ≡ []
-reasons_deny tells principals declared laws ask holds =
-    by (label_reasons principals ask) (reasons_true tells principals declared laws ask)
+-- and nothing is listed where it holds
+pub nothing_listed : AreTrusted → (principals : Declared) → IsDeclared principals → ActsLaws principals → (ask : Ask) →
+    Holds principals ask.constraint → listed_in principals ask ≡ []
+nothing_listed tells principals declared laws ask holds =
+    by (listed_in principals ask) (listed_for principals declared ask.constraint)
   where
-    by : (reasons : List Reason) → All (IsLabelReason principals ask) reasons → reasons ≡ []
+    by : (traits : List Trait) → All (IsListedFor principals ask.constraint) traits → traits ≡ []
     by [] all = refl
-    by (reason ∷ reasons) all =
-        let first = All-head (IsLabelReason principals ask) reason reasons all in
-        absurd (denies tells principals ask.constraint reason.held first.within first.fails holds)
+    by (trait ∷ traits) all =
+        let first = All-head (IsListedFor principals ask.constraint) trait traits all in
+        absurd (denies tells principals ask.constraint trait first.1
+        (fails_in_is tells principals laws ask.constraint trait first.0) holds)

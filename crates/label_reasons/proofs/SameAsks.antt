@@ -74,8 +74,10 @@ exprs_same : (spot : Spot) (here : StmtId) (values : List ExprTree) →
     (flat_map (expr_constraints spot.setting spot.pc spot.labels) values)
 exprs_same spot here [] = refl
 exprs_same spot here (value ∷ values) =
-    rw (flat_map-cons (expr_asks spot here) value values,
-    flat_map-cons (expr_constraints spot.setting spot.pc spot.labels) value values)
+    rw (
+      flat_map-cons (expr_asks spot here) value values,
+      flat_map-cons (expr_constraints spot.setting spot.pc spot.labels) value values,
+    )
     (both here _ _ _ _ (expr_same spot here value) (exprs_same spot here values))
 
 arguments_same : (spot : Spot) (here : StmtId) (method : MethodId) (place : ℕ) (values : List ExprTree)

@@ -91,22 +91,29 @@ made_over : (spot : Spot) → OverLaws spot.setting.principals → IsSpotOver sp
 made_over spot laws is (number value) written = tt
 made_over spot laws is (local x) written = tt
 made_over spot laws is (scalar field) written = tt
-made_over spot laws is (element field index) written =
-    ((is.named.fields field).is_label, (over_at spot laws is index written).is_label,
-    made_over spot laws is index written)
+made_over spot laws is (element field index) written = (
+  (is.named.fields field).is_label,
+  (over_at spot laws is index written).is_label,
+  made_over spot laws is index written,
+)
 made_over spot laws is (inverted operand) written = made_over spot laws is operand written
 made_over spot laws is (negated operand) written = made_over spot laws is operand written
 made_over spot laws is (binary operator left right) written =
     let P : Label → Type 0 = IsLabelOver spot.setting.principals in
     let one = left_of P (written_in left) (written_in right) written in
-    let other = right_of P (written_in left) (written_in right) written in
-    ((over_at spot laws is left one).is_label, (over_at spot laws is right other).is_label,
-    made_over spot laws is left one, made_over spot laws is right other)
+    let other = right_of P (written_in left) (written_in right) written in (
+      (over_at spot laws is left one).is_label,
+      (over_at spot laws is right other).is_label,
+      made_over spot laws is left one,
+      made_over spot laws is right other,
+    )
 made_over spot laws is (declassified operand label) written =
     let P : Label → Type 0 = IsLabelOver spot.setting.principals in
-    let here = All-head P label [] (right_of P (written_in operand) (label ∷ []) written) in
-    (here.is_label, (laws.order.join label spot.pc here is.under).is_label,
-    made_over spot laws is operand (left_of P (written_in operand) (label ∷ []) written))
+    let here = All-head P label [] (right_of P (written_in operand) (label ∷ []) written) in (
+      here.is_label,
+      (laws.order.join label spot.pc here is.under).is_label,
+      made_over spot laws is operand (left_of P (written_in operand) (label ∷ []) written),
+    )
 made_over spot laws is (endorsed operand label) written =
     let P : Label → Type 0 = IsLabelOver spot.setting.principals in
     let here = All-head P label [] (right_of P (written_in operand) (label ∷ []) written) in

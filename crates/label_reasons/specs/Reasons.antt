@@ -65,13 +65,16 @@ asked_label (may_flow from to) = from
 
 -- ---- reasons
 
+-- what is listed of what fails where this is asked for
+abbrev pub listed_in : Declared → Ask → List Trait
+listed_in principals ask = listed principals (fails_in principals ask.constraint)
+
 abbrev pub reason_of : (Trait → Option Cause) → Trait → Option Reason
 reason_of cause trait = option_map (λ found. record { held = trait; cause = found }) (cause trait)
 
 -- why what is asked for fails: none where it holds
 abbrev pub label_reasons : Declared → Ask → List Reason
-label_reasons principals ask =
-    filter_map (reason_of ask.cause) (listed principals (fails_in principals ask.constraint))
+label_reasons principals ask = filter_map (reason_of ask.cause) (listed_in principals ask)
 
 -- ---- what reasons say
 
@@ -120,15 +123,14 @@ IsOver principals (may_flow from to) = IsLabelOver principals from × IsLabelOve
 
 -- ---- the refused statement
 
--- the first that has reasons
-abbrev pub refused_or : Ask → List Reason → Option Ask → Option Ask
+-- the first of which something is listed
+abbrev pub refused_or : Ask → List Trait → Option Ask → Option Ask
 refused_or ask [] later = later
-refused_or ask (reason ∷ reasons) later = Some ask
+refused_or ask (trait ∷ traits) later = Some ask
 
 abbrev pub first_refused : Declared → List Ask → Option Ask
 first_refused principals [] = None
-first_refused principals (ask ∷ asks) =
-    refused_or ask (label_reasons principals ask) (first_refused principals asks)
+first_refused principals (ask ∷ asks) = refused_or ask (listed_in principals ask) (first_refused principals asks)
 
 -- what a statement asks for
 abbrev pub asked_by : StmtId → List Ask → List Ask

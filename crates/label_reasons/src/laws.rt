@@ -164,7 +164,7 @@ pub fn reason_laws()
 
 /// What is told of a refused program: the laws of the reasons of its statements, for a program whose names are resolved.
 pub fn refusal_laws()
-    // The first obligation that fails is that of the first that has reasons.
+    // The first obligation that fails is that of the first of which something is listed, and it has reasons.
     ensures statement_due { (principals : Declared) (program : ProgramTree) (failed : Obligation) →
         IsProgramOver principals program → IsFirstFailure principals (obligations principals program) failed →
         (ask : Ask) × (first_refused principals (program_asks principals program) ≡ Some ask)

@@ -4,5 +4,8 @@
 mod laws;
 mod reason;
 
-pub use laws::{cause_examples, cause_laws, listing_laws, reason_examples, reason_laws, refusal_laws, trait_laws};
+pub use laws::{
+    cause_examples, cause_laws, listing_laws, reason_examples, reason_laws, refusal_laws,
+    trait_laws,
+};
 pub use reason::{Cause, Reason, Source, Trait, Via, Wanted};
