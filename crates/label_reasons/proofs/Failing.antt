@@ -38,7 +38,7 @@ use Rattle.label_reasons.proofs.Listing.{distrust_fails}
 
 -- ---- what is listed is of declared principals
 
-all_flat : {X Y : Type 0} (P : Y → Type 0) (f : X → List Y) (xs : List X) → All (λ x. All P (f x)) xs →
+pub all_flat : {X Y : Type 0} (P : Y → Type 0) (f : X → List Y) (xs : List X) → All (λ x. All P (f x)) xs →
     All P (flat_map f xs)
 all_flat P f [] all = All-nil P
 all_flat P f (x ∷ xs) all =
@@ -46,7 +46,7 @@ all_flat P f (x ∷ xs) all =
     (All-append P (f x) (flat_map f xs) (All-head (λ one. All P (f one)) x xs all)
     (all_flat P f xs (All-tail (λ one. All P (f one)) x xs all)))
 
-all_range : (P : ℕ → Type 0) (from count : ℕ) → ((k : ℕ) → k < from + count → P k) → All P (range_with_len from count)
+pub all_range : (P : ℕ → Type 0) (from count : ℕ) → ((k : ℕ) → k < from + count → P k) → All P (range_with_len from count)
 all_range P from zero each = All-nil P
 all_range P from (suc count) each =
     All-cons P from (range_with_len (from + 1) count) (each from (omega arith))

@@ -7,3 +7,5 @@ pub mod SameAsks
 pub mod Failing
 pub mod ToldAsks
 pub mod FirstRefused
+pub mod TraitLists
+pub mod ListableTraits

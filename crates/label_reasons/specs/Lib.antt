@@ -6,3 +6,4 @@ pub mod Asks
 pub mod Reasons
 pub mod Programs
 pub mod ReasonExamples
+pub mod Search

@@ -3,9 +3,9 @@
 -- A label forbids on behalf of all for whom its owner acts, and keeps from the outsider what it keeps from somebody. So
 -- one policy makes several pairs fail, of which one says all: a pair whose reader acts for the owner is not listed
 -- unless no other fails, nor is the outsider where a declared reader of the same owner is.
-use Rattle.std.specs.Prelude.{ℕ, ◌==◌, ◌&&◌, ◌||◌, Bool, true, false, not, List, [], ◌∷◌, ◌++◌, map, length}
+use Rattle.std.specs.Prelude.{ℕ, ◌<◌, ◌==◌, ◌&&◌, ◌||◌, Bool, true, false, not, List, [], ◌∷◌, ◌++◌, map, length}
 use Rattle.std.specs.List.{filter, flat_map, list_any, range_with_len}
-use Rattle.principals.specs.ActsFor.{Declared, outsider}
+use Rattle.principals.specs.ActsFor.{Declared, IsReader, outsider}
 use Rattle.label_reasons.specs.declared.reason.Trait.{Trait}
 use Rattle.label_reasons.specs.declared.reason.Trait.TheVariants.{Keeps, Distrusts}
 
@@ -36,6 +36,11 @@ all_pairs principals = flat_map (pairs_of principals) (declared_numbers principa
 
 abbrev pub all_distrusts : Declared → List Trait
 all_distrusts principals = map (λ principal. Distrusts principal) (declared_numbers principals)
+
+-- what may be listed: a pair of a declared owner and a reader, or a declared principal
+abbrev pub IsListable : Declared → Trait → Type 0
+IsListable principals (Keeps owner reader) = (owner < length principals.names) × IsReader principals reader
+IsListable principals (Distrusts principal) = principal < length principals.names
 
 -- what fails by a test: pairs by owners and readers, and then principals
 abbrev pub failing : Declared → (Trait → Bool) → List Trait

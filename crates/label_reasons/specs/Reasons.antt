@@ -13,6 +13,8 @@ use Rattle.jif_tree.specs.LabelRules.{Constraint, may_release, trusted, may_endo
 use Rattle.label_reasons.specs.declared.reason.Trait.{Trait}
 use Rattle.label_reasons.specs.declared.reason.Trait.TheVariants.{Keeps, Distrusts}
 use Rattle.label_reasons.specs.declared.reason.Cause.{Cause}
+use Rattle.label_reasons.specs.declared.demand.Demand.{Demand}
+use Rattle.label_reasons.specs.declared.demand.Demand.TheVariants.{Release, Trust, Endorse, Begin, Flow}
 use Rattle.label_reasons.specs.declared.reason.Reason.{Reason}
 use Rattle.label_reasons.specs.Traits.{has, Fails, IsDeclaredTrait}
 use Rattle.label_reasons.specs.Causes.{Tells}
@@ -54,6 +56,14 @@ fails_in principals (trusted authority pc) trait = trust_fails authority pc trai
 fails_in principals (may_endorse authority from to) trait = endorse_fails principals authority from to trait
 fails_in principals (may_begin pc begin) trait = fails trait pc begin
 fails_in principals (may_flow from to) trait = fails trait from to
+
+-- what is demanded, by this authority
+abbrev pub constraint_of : List PrincipalId → Demand → Constraint
+constraint_of authority (Release from to) = may_release authority from to
+constraint_of authority (Trust pc) = trusted authority pc
+constraint_of authority (Endorse from to) = may_endorse authority from to
+constraint_of authority (Begin pc begin) = may_begin pc begin
+constraint_of authority (Flow from to) = may_flow from to
 
 -- the label that is asked about
 abbrev pub asked_label : Constraint → Label

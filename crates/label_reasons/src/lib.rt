@@ -1,8 +1,13 @@
 //! What is held against labels, and what brings it into them: why labels are refused. Definitions and their laws.
 #![tactic(auto)]
 
+mod demand;
 mod laws;
+mod listed_traits;
 mod reason;
+mod search_place;
+mod traits;
+mod values;
 
 pub use laws::{
     cause_examples, cause_laws, listing_laws, reason_examples, reason_laws, refusal_laws,

@@ -57,7 +57,7 @@ pub enum Wanted {
     /// A value may be kept in a local or a parameter.
     KeptInLocal(VarId),
     /// The argument at a place, from 0, may be given to the parameter of a method.
-    Given(u32, VarId, MethodId),
+    Given(usize, VarId, MethodId),
     /// The result of a method may be kept in a variable.
     ResultKept(MethodId, VarId),
     /// A value may be the result that this variable keeps.
