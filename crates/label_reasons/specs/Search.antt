@@ -7,7 +7,7 @@ use Rattle.js_base.specs.declared.ids.PrincipalId.{PrincipalId}
 use Rattle.principals.specs.ActsFor.{Declared, AreDeclared}
 use Rattle.label_lattice.specs.declared.label.Label.{Label}
 use Rattle.jif_tree.specs.Trees.{ExprTree, BlockTree, program_tree, method_tree}
-use Rattle.jif_tree.specs.LabelRules.{Constraint, MethodSetting, VariableLabels, setting_of, expr_label, labels_after}
+use Rattle.jif_tree.specs.LabelRules.{Constraint, MethodSetting, VariableLabels, setting_of, expr_label, guarded, labels_after}
 use Rattle.label_reasons.specs.declared.reason.Trait.{Trait}
 use Rattle.label_reasons.specs.declared.reason.Cause.{Cause}
 use Rattle.label_reasons.specs.declared.search_place.Place.{Place}
@@ -15,7 +15,7 @@ use Rattle.label_reasons.specs.declared.search_place.Stand.{Stand}
 use Rattle.label_reasons.specs.declared.search_place.Known.{Known}
 use Rattle.label_reasons.specs.declared.search_place.Found.{Found}
 use Rattle.label_reasons.specs.Traits.{IsTrait}
-use Rattle.label_reasons.specs.Causes.{expr_cause, causes_after}
+use Rattle.label_reasons.specs.Causes.{expr_cause, guarded_cause, causes_after}
 use Rattle.label_reasons.specs.Listed.{all_pairs, all_distrusts}
 use Rattle.label_reasons.specs.Asks.{Spot, Ask, block_asks}
 use Rattle.label_reasons.specs.Reasons.{fails_in, constraint_of, first_refused}
@@ -88,6 +88,13 @@ label_is place stand known value = expr_label (setting_at place) stand.pc known.
 abbrev pub cause_is : Place → StmtId → Stand → Known → ExprTree → Option Cause
 cause_is place here stand known value =
     expr_cause place.held (setting_at place) here stand.of_pc (listed_cause known.causes.items) value
+
+-- where the blocks inside a branch or a loop stand
+abbrev pub stand_inside : Place → StmtId → Stand → Known → ExprTree → Stand
+stand_inside place here stand known guard = record {
+  pc = guarded (setting_at place) stand.pc known.labels.items guard;
+  of_pc = guarded_cause place.held (setting_at place) here stand.of_pc (listed_cause known.causes.items) guard;
+}
 
 -- of what is asked for at the spot that is seen
 abbrev pub FindsAt : Place → Stand → Known → (Spot → List Ask) → Option Found → Option Found → Type 0

@@ -1,4 +1,5 @@
-//! Laws of what is held against labels, and of what brings it in. The calls do nothing: their contracts are the laws.
+//! Laws of what is held against labels, of what brings it in, and of what is told of refused statements. The calls do
+//! nothing: their contracts are the laws.
 
 ghost use Rattle.std.specs.Prelude.{◌≡◌, ◌≢◌, ◌↔◌, ◌⊎◌, ℕ, ℤ, Bool, List, [], All, map, Option, Some, None, IsTrue};
 ghost use Rattle.js_base.specs.declared.ids.MethodId.{MethodId};
@@ -162,7 +163,7 @@ pub fn reason_laws()
     text_laws();
 }
 
-/// What is told of a refused program: the laws of the reasons of its statements, for a program whose names are resolved.
+/// Laws of what is told of a refused program, whose names are resolved.
 pub fn refusal_laws()
     // The first obligation that fails is that of the first of which something is listed, and it has reasons.
     ensures statement_due { (principals : Declared) (program : ProgramTree) (failed : Obligation) →

@@ -3,7 +3,7 @@
 use js_base::{FieldId, MethodId, StmtId, VarId};
 
 /// What is held against a label.
-#[derive(Clone, Copy, Debug, PartialEq, Eq)]
+#[derive(Clone, Copy, PartialEq, Eq)]
 pub enum Trait {
     /// The owner, a declared principal, keeps it from the reader. The number `PRINCIPALS` is the outsider.
     Keeps(u8, u8),
@@ -12,7 +12,7 @@ pub enum Trait {
 }
 
 /// Where the label that has it is written.
-#[derive(Clone, Copy, Debug, PartialEq, Eq)]
+#[derive(Clone, Copy, PartialEq, Eq)]
 pub enum Source {
     OfField(FieldId),
     /// A variable that is declared with a label.
@@ -24,7 +24,7 @@ pub enum Source {
 }
 
 /// What it came through last.
-#[derive(Clone, Copy, Debug, PartialEq, Eq)]
+#[derive(Clone, Copy, PartialEq, Eq)]
 pub enum Via {
     Itself,
     /// A local without a label, and the statement that declares it.
@@ -34,21 +34,21 @@ pub enum Via {
 }
 
 /// What brings it in.
-#[derive(Clone, Copy, Debug, PartialEq, Eq)]
+#[derive(Clone, Copy, PartialEq, Eq)]
 pub struct Cause {
     pub source: Source,
     pub via: Via,
 }
 
 /// What is held against a label where it may not be, and what brings it in.
-#[derive(Clone, Copy, Debug, PartialEq, Eq)]
+#[derive(Clone, Copy, PartialEq, Eq)]
 pub struct Reason {
     pub held: Trait,
     pub cause: Cause,
 }
 
 /// What a statement asks of labels, by what it names.
-#[derive(Clone, Copy, Debug, PartialEq, Eq)]
+#[derive(Clone, Copy, PartialEq, Eq)]
 pub enum Wanted {
     /// A value may be kept in a plain field.
     KeptInField(FieldId),
