@@ -9,3 +9,6 @@ pub mod ToldAsks
 pub mod FirstRefused
 pub mod TraitLists
 pub mod ListableTraits
+pub mod Searching
+pub mod ShownAsks
+pub mod Walking

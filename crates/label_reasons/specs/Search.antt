@@ -7,7 +7,8 @@ use Rattle.js_base.specs.declared.ids.PrincipalId.{PrincipalId}
 use Rattle.principals.specs.ActsFor.{Declared, AreDeclared}
 use Rattle.label_lattice.specs.declared.label.Label.{Label}
 use Rattle.jif_tree.specs.Trees.{ExprTree, BlockTree, program_tree, method_tree}
-use Rattle.jif_tree.specs.LabelRules.{Constraint, MethodSetting, VariableLabels, setting_of, expr_label, guarded, labels_after}
+use Rattle.jif_tree.specs.LabelRules.{Constraint, MethodSetting, VariableLabels, setting_of, expr_label, guarded}
+use Rattle.jif_tree.specs.LabelRules.{labels_after}
 use Rattle.label_reasons.specs.declared.reason.Trait.{Trait}
 use Rattle.label_reasons.specs.declared.reason.Cause.{Cause}
 use Rattle.label_reasons.specs.declared.search_place.Place.{Place}

@@ -5,6 +5,7 @@ mod demand;
 mod laws;
 mod listed_traits;
 mod reason;
+mod search;
 mod search_place;
 mod traits;
 mod values;
