@@ -14,23 +14,26 @@ use Rattle.jif_tree.specs.Trees.{give_back}
 use Rattle.jif_tree.specs.LabelRules.{MethodSetting, VariableLabels, expr_label}
 use Rattle.jif_tree.specs.LabelRules.{labels_after, labels_after_assignment, guarded}
 use Rattle.jif_tree.specs.ValueLabels.{IsExprLabelled, AreValuesLabelled}
-use Rattle.label_reasons.specs.Traits.{Trait, IsDeclaredTrait}
-use Rattle.label_reasons.specs.Causes.{Cause, Via, by_local, by_guard, or_else, through, with_cause, expr_cause}
-use Rattle.label_reasons.specs.Causes.{guarded_cause, causes_after_assignment, causes_after}
-use Rattle.label_reasons.specs.Causes.{Tells, TellsVariables, IsMadeOfLabels, IsBlockOfLabels}
+use Rattle.label_reasons.specs.declared.reason.Trait.{Trait}
+use Rattle.label_reasons.specs.declared.reason.Via.{Via}
+use Rattle.label_reasons.specs.declared.reason.Via.TheVariants.{ByLocal, ByGuard}
+use Rattle.label_reasons.specs.declared.reason.Cause.{Cause}
+use Rattle.label_reasons.specs.Traits.{IsDeclaredTrait}
+use Rattle.label_reasons.specs.Causes.{or_else, through, with_cause, expr_cause, guarded_cause, causes_after_assignment}
+use Rattle.label_reasons.specs.Causes.{causes_after, Tells, TellsVariables, IsMadeOfLabels, IsBlockOfLabels}
 use Rattle.label_reasons.proofs.TraitTests.{has_join}
 use Rattle.label_reasons.proofs.ExpressionCauses.{LabelLaws, as_both, or_some, is_trait, expr_tells}
 
 -- ---- a list with one item set
 
-set_there : {X : Type 0} (xs : List X) (place : ℕ) (old new : X) → slice_get xs place ≡ Some old →
+pub set_there : {X : Type 0} (xs : List X) (place : ℕ) (old new : X) → slice_get xs place ≡ Some old →
     slice_get (slice_set xs place new) place ≡ Some new
 set_there xs place old new there =
     let within = slice_get_within xs place old there in
     slice_get-get_or (slice_set xs place new) place new (omega (arith, within, length-set xs place new))
     ∙ ap Some (get_or-set_same xs place new new within)
 
-set_elsewhere : {X : Type 0} (xs : List X) (place other : ℕ) (new : X) → other ≢ place →
+pub set_elsewhere : {X : Type 0} (xs : List X) (place other : ℕ) (new : X) → other ≢ place →
     slice_get (slice_set xs place new) other ≡ slice_get xs other
 set_elsewhere xs place other new apart = elim (slice_get_cases (slice_set xs place new) other).1 [
   | inl (y, within, is, read) ↦
@@ -60,7 +63,7 @@ set_tells trait labels causes x via cause label found each tells y labelled = el
       rw apart.0 (rw elsewhere (each y (labelled.0, sym elsewhere ∙ labelled.1)))
 ]
 
-assignment_tells : (trait : Trait) (labels : VariableLabels) (causes : VarId → Option Cause) (x : VarId) (here : StmtId)
+pub assignment_tells : (trait : Trait) (labels : VariableLabels) (causes : VarId → Option Cause) (x : VarId) (here : StmtId)
     (cause : Option Cause) (label : Label) → TellsVariables trait causes labels → Tells trait cause label →
     TellsVariables trait (causes_after_assignment labels causes x here cause) (labels_after_assignment labels x label)
 assignment_tells trait labels causes x here cause label each tells = by (slice_get labels x.0) refl
@@ -70,7 +73,7 @@ assignment_tells trait labels causes x here cause label each tells = by (slice_g
         (labels_after_assignment labels x label)
     by None is = rw is each
     by (Some (Some declared)) is = rw is each
-    by (Some None) is = rw is (set_tells trait labels causes x (by_local x here) cause label is each tells)
+    by (Some None) is = rw is (set_tells trait labels causes x (ByLocal x here) cause label is each tells)
 
 pub guarded_tells : LabelLaws → (trait : Trait) (setting : MethodSetting) (here : StmtId) (of_pc : Option Cause)
     (pc : Label) (causes : VarId → Option Cause) (labels : VariableLabels) (guard : ExprTree) →
@@ -80,8 +83,8 @@ pub guarded_tells : LabelLaws → (trait : Trait) (setting : MethodSetting) (her
     Tells trait (guarded_cause trait setting here of_pc causes guard) (guarded setting pc labels guard)
 guarded_tells laws trait setting here of_pc pc causes labels guard within pc_is are is tells each known =
     as_both
-    (or_some of_pc (through (by_guard here) (expr_cause trait setting here of_pc causes guard)) tells
-    (through_some (by_guard here) (expr_cause trait setting here of_pc causes guard)
+    (or_some of_pc (through (ByGuard here) (expr_cause trait setting here of_pc causes guard)) tells
+    (through_some (ByGuard here) (expr_cause trait setting here of_pc causes guard)
     (expr_tells laws trait setting here of_pc pc causes labels guard within pc_is are tells each known)))
     (has_join laws.joined laws.trusted trait pc (expr_label setting pc labels guard)
     (is_trait setting.principals trait within) pc_is is)

@@ -14,9 +14,14 @@ use Rattle.jif_tree.specs.Trees.{ExprTree, number, local, scalar, element, inver
 use Rattle.jif_tree.specs.Trees.{endorsed}
 use Rattle.jif_tree.specs.LabelRules.{MethodSetting, VariableLabels, expr_label, field_label, crossed}
 use Rattle.jif_tree.specs.ValueLabels.{IsExprLabelled}
-use Rattle.label_reasons.specs.Traits.{Trait, keeps, distrusts, has, IsTrait, IsDeclaredTrait}
-use Rattle.label_reasons.specs.Causes.{Cause, Source, of_field, of_variable, written, or_else, cause_where, expr_cause}
-use Rattle.label_reasons.specs.Causes.{declared_causes, Tells, TellsVariables, IsMadeOfLabels}
+use Rattle.label_reasons.specs.declared.reason.Trait.{Trait}
+use Rattle.label_reasons.specs.declared.reason.Trait.TheVariants.{Keeps, Distrusts}
+use Rattle.label_reasons.specs.declared.reason.Source.{Source}
+use Rattle.label_reasons.specs.declared.reason.Source.TheVariants.{OfField, OfVariable, Written}
+use Rattle.label_reasons.specs.declared.reason.Cause.{Cause}
+use Rattle.label_reasons.specs.Traits.{has, IsTrait, IsDeclaredTrait}
+use Rattle.label_reasons.specs.Causes.{or_else, cause_where, expr_cause, declared_causes, Tells, TellsVariables}
+use Rattle.label_reasons.specs.Causes.{IsMadeOfLabels}
 use Rattle.label_reasons.proofs.TraitTests.{AreJoined, AreTrusted, forbids_is, has_join, not_both}
 
 -- what is cited of labels
@@ -56,27 +61,27 @@ where_some false source = (λ is. is, λ is. is)
 -- each variable that is declared with a label
 pub declared_tells : (trait : Trait) (labels : VariableLabels) →
     TellsVariables trait (declared_causes trait labels) labels
-declared_tells trait labels x (label, there) = rw there (where_some (has trait label) (of_variable x))
+declared_tells trait labels x (label, there) = rw there (where_some (has trait label) (OfVariable x))
 
 -- ---- traits of the labels of which an expression has its own
 
 pub is_trait : (principals : Declared) (trait : Trait) → IsDeclaredTrait principals trait → IsTrait trait
-is_trait principals (keeps owner reader) within = within
-is_trait principals (distrusts principal) within = within.0
+is_trait principals (Keeps owner reader) within = within
+is_trait principals (Distrusts principal) within = within.0
 
 bottom_free : LabelLaws → (principals : Declared) (trait : Trait) → IsDeclaredTrait principals trait →
     ¬ IsTrue (has trait (bottom_of principals))
-bottom_free laws principals (keeps owner reader) within is =
+bottom_free laws principals (Keeps owner reader) within is =
     (laws.bottom principals).forbids owner reader within.0 within.1
     ((forbids_is (bottom_of principals) owner reader).0 is)
-bottom_free laws principals (distrusts principal) within is =
+bottom_free laws principals (Distrusts principal) within is =
     not_both (is_trusted_by (bottom_of principals) principal)
     ((laws.trusted (bottom_of principals) principal).1
     (((laws.bottom principals).trusts principal within.0).1 within.1)) is
 
 -- What is crossed keeps what the first label keeps.
-crossed_keeps : LabelLaws → (first second : Label) (owner reader : ℕ) → IsTrait (keeps owner reader) → IsLabel first →
-    IsTrue (has (keeps owner reader) (crossed first second)) ↔ IsTrue (has (keeps owner reader) first)
+crossed_keeps : LabelLaws → (first second : Label) (owner reader : ℕ) → IsTrait (Keeps owner reader) → IsLabel first →
+    IsTrue (has (Keeps owner reader) (crossed first second)) ↔ IsTrue (has (Keeps owner reader) first)
 crossed_keeps laws first second owner reader within one = (
   λ is. (forbids_is first owner reader).1
       (elim (sets.0 (meets.0 ((forbids_is (crossed first second) owner reader).0 is))) [
@@ -94,7 +99,7 @@ crossed_keeps laws first second owner reader within one = (
         ↔ (Forbids first owner reader ⊎ Forbids empty_label owner reader)
     sets = (laws.joined first empty_label one laws.empty_is).forbids owner reader within.0 within.1
 
-crossed_trusts : LabelLaws → (first second : Label) (principal : ℕ) → IsTrait (distrusts principal) → IsLabel first →
+crossed_trusts : LabelLaws → (first second : Label) (principal : ℕ) → IsTrait (Distrusts principal) → IsLabel first →
     Trusts (crossed first second) principal ↔ Trusts second principal
 crossed_trusts laws first second principal within one = (
   λ is. elim (meets.0 is) [
@@ -118,9 +123,9 @@ denied_alike false true both = (λ is. both.1 refl, λ is. refl)
 denied_alike false false both = (λ is. is, λ is. is)
 
 -- And those do not trust it that do not trust the second.
-crossed_distrusts : LabelLaws → (first second : Label) (principal : ℕ) → IsTrait (distrusts principal) →
+crossed_distrusts : LabelLaws → (first second : Label) (principal : ℕ) → IsTrait (Distrusts principal) →
     IsLabel first →
-    IsTrue (has (distrusts principal) (crossed first second)) ↔ IsTrue (has (distrusts principal) second)
+    IsTrue (has (Distrusts principal) (crossed first second)) ↔ IsTrue (has (Distrusts principal) second)
 crossed_distrusts laws first second principal within one =
     denied_alike (is_trusted_by (crossed first second) principal) (is_trusted_by second principal)
     (as_both (in_turn (laws.trusted (crossed first second) principal)
@@ -140,13 +145,13 @@ expr_tells laws trait setting here of_pc pc causes labels (number value) within 
 expr_tells laws trait setting here of_pc pc causes labels (local x) within pc_is are tells each known =
     each x known
 expr_tells laws trait setting here of_pc pc causes labels (scalar field) within pc_is are tells each known =
-    where_some (has trait (field_label setting.program field)) (of_field field)
+    where_some (has trait (field_label setting.program field)) (OfField field)
 expr_tells laws trait setting here of_pc pc causes labels (element field index) within pc_is are tells each known =
     as_both
     (other_first (or_some (expr_cause trait setting here of_pc causes index)
-    (cause_where (has trait (field_label setting.program field)) (of_field field))
+    (cause_where (has trait (field_label setting.program field)) (OfField field))
     (expr_tells laws trait setting here of_pc pc causes labels index within pc_is are.2 tells each known)
-    (where_some (has trait (field_label setting.program field)) (of_field field))))
+    (where_some (has trait (field_label setting.program field)) (OfField field))))
     (has_join laws.joined laws.trusted trait (field_label setting.program field)
     (expr_label setting pc labels index) (is_trait setting.principals trait within) are.0 are.1)
 expr_tells laws trait setting here of_pc pc causes labels (inverted operand) within pc_is are tells each known =
@@ -161,30 +166,30 @@ expr_tells laws trait setting here of_pc pc causes labels (binary operator left 
     (expr_tells laws trait setting here of_pc pc causes labels right within pc_is are.3 tells each known.1))
     (has_join laws.joined laws.trusted trait (expr_label setting pc labels left) (expr_label setting pc labels right)
     (is_trait setting.principals trait within) are.0 are.1)
-expr_tells laws (keeps owner reader) setting here of_pc pc causes labels (declassified operand label) within pc_is are
+expr_tells laws (Keeps owner reader) setting here of_pc pc causes labels (declassified operand label) within pc_is are
     tells each known =
     as_both
-    (or_some (cause_where (has (keeps owner reader) label) (written here)) of_pc
-    (where_some (has (keeps owner reader) label) (written here)) tells)
+    (or_some (cause_where (has (Keeps owner reader) label) (Written here)) of_pc
+    (where_some (has (Keeps owner reader) label) (Written here)) tells)
     (in_turn (crossed_keeps laws (join_of label pc) (expr_label setting pc labels operand) owner reader within are.1)
-    (has_join laws.joined laws.trusted (keeps owner reader) label pc within are.0 pc_is))
-expr_tells laws (distrusts principal) setting here of_pc pc causes labels (declassified operand label) within pc_is are
+    (has_join laws.joined laws.trusted (Keeps owner reader) label pc within are.0 pc_is))
+expr_tells laws (Distrusts principal) setting here of_pc pc causes labels (declassified operand label) within pc_is are
     tells each known =
     as_both
-    (expr_tells laws (distrusts principal) setting here of_pc pc causes labels operand within pc_is are.2 tells
+    (expr_tells laws (Distrusts principal) setting here of_pc pc causes labels operand within pc_is are.2 tells
     each known)
     (crossed_distrusts laws (join_of label pc) (expr_label setting pc labels operand) principal within.0 are.1)
-expr_tells laws (keeps owner reader) setting here of_pc pc causes labels (endorsed operand label) within pc_is are tells
+expr_tells laws (Keeps owner reader) setting here of_pc pc causes labels (endorsed operand label) within pc_is are tells
     each known =
     as_both
-    (expr_tells laws (keeps owner reader) setting here of_pc pc causes labels operand within pc_is are.2 tells each
+    (expr_tells laws (Keeps owner reader) setting here of_pc pc causes labels operand within pc_is are.2 tells each
     known)
     (crossed_keeps laws (expr_label setting pc labels operand) (join_of label pc) owner reader within are.1)
-expr_tells laws (distrusts principal) setting here of_pc pc causes labels (endorsed operand label) within pc_is are
+expr_tells laws (Distrusts principal) setting here of_pc pc causes labels (endorsed operand label) within pc_is are
     tells each known =
     as_both
-    (or_some (cause_where (has (distrusts principal) label) (written here)) of_pc
-    (where_some (has (distrusts principal) label) (written here)) tells)
+    (or_some (cause_where (has (Distrusts principal) label) (Written here)) of_pc
+    (where_some (has (Distrusts principal) label) (Written here)) tells)
     (in_turn
     (crossed_distrusts laws (expr_label setting pc labels operand) (join_of label pc) principal within.0 are.1)
-    (has_join laws.joined laws.trusted (distrusts principal) label pc within.0 are.0 pc_is))
+    (has_join laws.joined laws.trusted (Distrusts principal) label pc within.0 are.0 pc_is))

@@ -1,3 +1,14 @@
 pub mod TraitTests
 pub mod ExpressionCauses
 pub mod BlockCauses
+pub mod ActsTests
+pub mod Listing
+pub mod SameAsks
+pub mod Failing
+pub mod ToldAsks
+pub mod FirstRefused
+pub mod TraitLists
+pub mod ListableTraits
+pub mod Searching
+pub mod ShownAsks
+pub mod Walking

@@ -7,7 +7,9 @@ use Rattle.label_lattice.specs.declared.label.Label.{Label}
 use Rattle.label_lattice.specs.Label.{Forbids, Trusts, IsLabel, Flows}
 use Rattle.label_lattice.specs.Lattice.{IsJoin, join_of}
 use Rattle.label_lattice.specs.Printed.{forbids, is_trusted_by}
-use Rattle.label_reasons.specs.Traits.{Trait, keeps, distrusts, has, IsTrait, Fails}
+use Rattle.label_reasons.specs.declared.reason.Trait.{Trait}
+use Rattle.label_reasons.specs.declared.reason.Trait.TheVariants.{Keeps, Distrusts}
+use Rattle.label_reasons.specs.Traits.{has, IsTrait, Fails}
 
 -- what the laws of labels say of joins, and those of their texts of tests
 abbrev pub AreJoined : Type 0
@@ -37,7 +39,7 @@ denied_by_one false false second are = (λ is. inl refl, λ is. refl)
 
 pub has_join : AreJoined → AreTrusted → (trait : Trait) (first second : Label) → IsTrait trait → IsLabel first →
     IsLabel second → IsTrue (has trait (join_of first second)) ↔ (IsTrue (has trait first) ⊎ IsTrue (has trait second))
-has_join joined trusted (keeps owner reader) first second within one two = (
+has_join joined trusted (Keeps owner reader) first second within one two = (
   λ is. elim (sets.0 ((forbids_is (join_of first second) owner reader).0 is)) [
     | inl here ↦ inl ((forbids_is first owner reader).1 here)
     | inr here ↦ inr ((forbids_is second owner reader).1 here)
@@ -50,7 +52,7 @@ has_join joined trusted (keeps owner reader) first second within one two = (
   where
     sets : Forbids (join_of first second) owner reader ↔ (Forbids first owner reader ⊎ Forbids second owner reader)
     sets = (joined first second one two).forbids owner reader within.0 within.1
-has_join joined trusted (distrusts principal) first second within one two =
+has_join joined trusted (Distrusts principal) first second within one two =
     denied_by_one (is_trusted_by (join_of first second) principal) (is_trusted_by first principal)
     (is_trusted_by second principal) (
       λ is. let both = sets.0 ((trusted (join_of first second) principal).0 is) in
@@ -63,10 +65,10 @@ has_join joined trusted (distrusts principal) first second within one two =
     sets = (joined first second one two).trusts principal within
 
 pub fails_flow : AreTrusted → (trait : Trait) (from to : Label) → IsTrait trait → Fails trait from to → ¬ Flows from to
-fails_flow trusted (keeps owner reader) from to within fails flows =
+fails_flow trusted (Keeps owner reader) from to within fails flows =
     fails.1 ((forbids_is to owner reader).1
     (flows.0 owner reader within.0 within.1 ((forbids_is from owner reader).0 fails.0)))
-fails_flow trusted (distrusts principal) from to within fails flows = elim (cases_Bool (is_trusted_by to principal)) [
+fails_flow trusted (Distrusts principal) from to within fails flows = elim (cases_Bool (is_trusted_by to principal)) [
   | inl is ↦ not_both (is_trusted_by from principal)
       ((trusted from principal).1 (flows.1 principal within ((trusted to principal).0 is))) fails.0
   | inr lacks ↦ fails.1 (not_from_false (is_trusted_by to principal) lacks)
@@ -77,12 +79,12 @@ pub flows_else : AreTrusted → (from to : Label) → ((trait : Trait) → IsTra
 flows_else trusted from to none = (
   λ owner reader owner_in reader_in held. elim (cases_Bool (forbids to owner reader)) [
     | inl is ↦ (forbids_is to owner reader).0 is
-    | inr free ↦ absurd (none (keeps owner reader) (owner_in, reader_in)
+    | inr free ↦ absurd (none (Keeps owner reader) (owner_in, reader_in)
         ((forbids_is from owner reader).1 held, both_ways (forbids to owner reader) free))
   ],
   λ principal within trusts. elim (cases_Bool (is_trusted_by from principal)) [
     | inl is ↦ (trusted from principal).0 is
-    | inr lacks ↦ absurd (none (distrusts principal) within (
+    | inr lacks ↦ absurd (none (Distrusts principal) within (
       not_from_false (is_trusted_by from principal) lacks,
       not_both (is_trusted_by to principal) ((trusted to principal).1 trusts),
     ))

@@ -10,19 +10,24 @@ use Rattle.label_lattice.specs.PrintedExamples.{alice_and_bob, keeps_bob_out}
 use Rattle.jif_tree.specs.Trees.{ExprTree, number, local, scalar, element, binary, declassified, endorsed, BlockTree}
 use Rattle.jif_tree.specs.Trees.{Heading, done, set_local, branch}
 use Rattle.jif_tree.specs.LabelRules.{MethodSetting, VariableLabels}
-use Rattle.label_reasons.specs.Traits.{Trait, keeps, distrusts}
-use Rattle.label_reasons.specs.Causes.{Cause, Source, of_field, Via, by_guard, expr_cause, guarded_cause}
-use Rattle.label_reasons.specs.Causes.{causes_after, declared_causes}
+use Rattle.label_reasons.specs.declared.reason.Trait.{Trait}
+use Rattle.label_reasons.specs.declared.reason.Trait.TheVariants.{Keeps, Distrusts}
+use Rattle.label_reasons.specs.declared.reason.Source.{Source}
+use Rattle.label_reasons.specs.declared.reason.Source.TheVariants.{OfField}
+use Rattle.label_reasons.specs.declared.reason.Via.{Via}
+use Rattle.label_reasons.specs.declared.reason.Via.TheVariants.{ByGuard}
+use Rattle.label_reasons.specs.declared.reason.Cause.{Cause}
+use Rattle.label_reasons.specs.Causes.{expr_cause, guarded_cause, causes_after, declared_causes}
 
 -- Alice is principal 0, and Bob principal 1
 abbrev pub from_bob : Trait
-from_bob = keeps 0 1
+from_bob = Keeps 0 1
 
 abbrev pub not_by_alice : Trait
-not_by_alice = distrusts 0
+not_by_alice = Distrusts 0
 
 abbrev pub not_by_bob : Trait
-not_by_bob = distrusts 1
+not_by_bob = Distrusts 1
 
 -- ---- fields, variables and statements
 
@@ -77,7 +82,7 @@ caused source via = Some (record { source = source; via = via })
 
 -- of a program label inside a guard, statement 0, that tells what `t` has
 abbrev pub told_before : Option Cause
-told_before = caused (of_field t) (by_guard (statement 0))
+told_before = caused (OfField t) (ByGuard (statement 0))
 
 -- of an expression of statement 1, by the cause of the program label
 abbrev pub cause_under : Option Cause → Trait → ExprTree → Option Cause

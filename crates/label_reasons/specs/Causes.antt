@@ -21,28 +21,14 @@ use Rattle.jif_tree.specs.Trees.{give_back}
 use Rattle.jif_tree.specs.LabelRules.{MethodSetting, VariableLabels, expr_label, variable_label, field_label}
 use Rattle.jif_tree.specs.LabelRules.{labels_after, labels_after_assignment, guarded}
 use Rattle.jif_tree.specs.Labelling.{IsLabelled}
-use Rattle.label_reasons.specs.Traits.{Trait, keeps, distrusts, has}
-
--- where the label that has the trait is written
-pub data Source : Type 0 where
-  of_field : FieldId → Source
-  -- a variable that is declared with a label
-  of_variable : VarId → Source
-  -- the begin label of a method
-  of_begin : MethodId → Source
-  -- in the expression of a statement, which releases or endorses
-  written : StmtId → Source
-
--- what it came through last: nothing, a local without a label and the statement that declares it, or the guard of a
--- statement
-pub data Via : Type 0 where
-  itself : Via
-  by_local : VarId → StmtId → Via
-  by_guard : StmtId → Via
-
-pub record Cause : Type 0 where
-  pub source : Source
-  pub via : Via
+use Rattle.label_reasons.specs.declared.reason.Trait.{Trait}
+use Rattle.label_reasons.specs.declared.reason.Trait.TheVariants.{Keeps, Distrusts}
+use Rattle.label_reasons.specs.declared.reason.Source.{Source}
+use Rattle.label_reasons.specs.declared.reason.Source.TheVariants.{OfField, OfVariable, OfBegin, Written}
+use Rattle.label_reasons.specs.declared.reason.Via.{Via}
+use Rattle.label_reasons.specs.declared.reason.Via.TheVariants.{Itself, ByLocal, ByGuard}
+use Rattle.label_reasons.specs.declared.reason.Cause.{Cause}
+use Rattle.label_reasons.specs.Traits.{has}
 
 -- ---- causes of expressions
 
@@ -53,28 +39,28 @@ or_else None second = second
 
 -- this source, where its label has the trait
 abbrev pub cause_where : Bool → Source → Option Cause
-cause_where test source = if test then Some (record { source = source; via = itself }) else None
+cause_where test source = if test then Some (record { source = source; via = Itself }) else None
 
 -- what brings it into a released value of a statement, by the causes of the program label and of the operand
 abbrev pub released_cause : Trait → StmtId → Option Cause → Label → Option Cause → Option Cause
-released_cause (keeps owner reader) here of_pc label operand =
-    or_else (cause_where (has (keeps owner reader) label) (written here)) of_pc
-released_cause (distrusts principal) here of_pc label operand = operand
+released_cause (Keeps owner reader) here of_pc label operand =
+    or_else (cause_where (has (Keeps owner reader) label) (Written here)) of_pc
+released_cause (Distrusts principal) here of_pc label operand = operand
 
 abbrev pub endorsed_cause : Trait → StmtId → Option Cause → Label → Option Cause → Option Cause
-endorsed_cause (keeps owner reader) here of_pc label operand = operand
-endorsed_cause (distrusts principal) here of_pc label operand =
-    or_else (cause_where (has (distrusts principal) label) (written here)) of_pc
+endorsed_cause (Keeps owner reader) here of_pc label operand = operand
+endorsed_cause (Distrusts principal) here of_pc label operand =
+    or_else (cause_where (has (Distrusts principal) label) (Written here)) of_pc
 
 -- what brings it into an expression of a statement, by the causes of the program label and of variables
 abbrev pub expr_cause : Trait → MethodSetting → StmtId → Option Cause → (VarId → Option Cause) → ExprTree → Option Cause
 expr_cause trait setting here of_pc causes (number value) = None
 expr_cause trait setting here of_pc causes (local x) = causes x
 expr_cause trait setting here of_pc causes (scalar field) =
-    cause_where (has trait (field_label setting.program field)) (of_field field)
+    cause_where (has trait (field_label setting.program field)) (OfField field)
 expr_cause trait setting here of_pc causes (element field index) =
     or_else (expr_cause trait setting here of_pc causes index)
-    (cause_where (has trait (field_label setting.program field)) (of_field field))
+    (cause_where (has trait (field_label setting.program field)) (OfField field))
 expr_cause trait setting here of_pc causes (inverted operand) = expr_cause trait setting here of_pc causes operand
 expr_cause trait setting here of_pc causes (negated operand) = expr_cause trait setting here of_pc causes operand
 expr_cause trait setting here of_pc causes (binary operator left right) =
@@ -88,13 +74,13 @@ expr_cause trait setting here of_pc causes (endorsed operand label) =
 
 -- what brings it into the program label of a method's head
 abbrev pub begin_cause : Trait → MethodId → Label → Option Cause
-begin_cause trait method begin = cause_where (has trait begin) (of_begin method)
+begin_cause trait method begin = cause_where (has trait begin) (OfBegin method)
 
 -- what brings it into a variable by the label with which that is declared, if there is one
 abbrev pub label_cause : Trait → VarId → Option (Option Label) → Option Cause
 label_cause trait x None = None
 label_cause trait x (Some None) = None
-label_cause trait x (Some (Some label)) = cause_where (has trait label) (of_variable x)
+label_cause trait x (Some (Some label)) = cause_where (has trait label) (OfVariable x)
 
 abbrev pub declared_causes : Trait → VariableLabels → VarId → Option Cause
 declared_causes trait labels x = label_cause trait x (slice_get labels x.0)
@@ -109,7 +95,7 @@ through via (Some cause) = Some (record { source = cause.source; via = via })
 abbrev pub guarded_cause : Trait → MethodSetting → StmtId → Option Cause → (VarId → Option Cause) → ExprTree →
     Option Cause
 guarded_cause trait setting here of_pc causes guard =
-    or_else of_pc (through (by_guard here) (expr_cause trait setting here of_pc causes guard))
+    or_else of_pc (through (ByGuard here) (expr_cause trait setting here of_pc causes guard))
 
 abbrev pub with_cause : (VarId → Option Cause) → VarId → Option Cause → VarId → Option Cause
 with_cause causes x cause other = if other.0 == x.0 then cause else causes other
@@ -120,7 +106,7 @@ abbrev pub causes_after_assignment : VariableLabels → (VarId → Option Cause)
 causes_after_assignment labels causes x here cause = assigned (slice_get labels x.0)
   where
     assigned : Option (Option Label) → VarId → Option Cause
-    assigned (Some None) = with_cause causes x (through (by_local x here) cause)
+    assigned (Some None) = with_cause causes x (through (ByLocal x here) cause)
     assigned (Some (Some declared)) = causes
     assigned None = causes
 

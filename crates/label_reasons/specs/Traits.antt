@@ -9,28 +9,24 @@ use Rattle.principals.specs.ActsFor.{Declared}
 use Rattle.label_lattice.specs.declared.label.Label.{Label}
 use Rattle.label_lattice.specs.declared.label.TheConstants.{READERS}
 use Rattle.label_lattice.specs.Printed.{forbids, is_trusted_by}
-
-pub data Trait : Type 0 where
-  -- the owner keeps it from the reader
-  keeps : (owner reader : ℕ) → Trait
-  -- the principal does not trust it
-  distrusts : (principal : ℕ) → Trait
+use Rattle.label_reasons.specs.declared.reason.Trait.{Trait}
+use Rattle.label_reasons.specs.declared.reason.Trait.TheVariants.{Keeps, Distrusts}
 
 -- whether it is held against a label
 abbrev pub has : Trait → Label → Bool
-has (keeps owner reader) label = forbids label owner reader
-has (distrusts principal) label = not (is_trusted_by label principal)
+has (Keeps owner reader) label = forbids label owner reader
+has (Distrusts principal) label = not (is_trusted_by label principal)
 
 -- a label has a place for it
 abbrev pub IsTrait : Trait → Type 0
-IsTrait (keeps owner reader) = (owner < PRINCIPALS) × (reader < READERS)
-IsTrait (distrusts principal) = principal < READERS
+IsTrait (Keeps owner reader) = (owner < PRINCIPALS) × (reader < READERS)
+IsTrait (Distrusts principal) = principal < READERS
 
 -- And a principal that does not trust is declared: whoever is not trusts no label, not even the bottom.
 abbrev pub IsDeclaredTrait : Declared → Trait → Type 0
-IsDeclaredTrait principals (keeps owner reader) = IsTrait (keeps owner reader)
-IsDeclaredTrait principals (distrusts principal) =
-    IsTrait (distrusts principal) × (principal < length principals.names)
+IsDeclaredTrait principals (Keeps owner reader) = IsTrait (Keeps owner reader)
+IsDeclaredTrait principals (Distrusts principal) =
+    IsTrait (Distrusts principal) × (principal < length principals.names)
 
 -- the first label has it, and the second has not
 abbrev pub Fails : Trait → Label → Label → Type 0

@@ -1,13 +1,13 @@
 use Rattle.std.proofs.Common.{[]}
+use Rattle.label_reasons.specs.declared.reason.Source.TheVariants.{OfBegin}
 use Rattle.label_reasons.specs.Traits.{has}
-use Rattle.label_reasons.specs.Causes.{of_begin}
 use Rattle.label_reasons.proofs.ExpressionCauses.{LabelLaws, where_some, declared_tells, expr_tells}
 use Rattle.label_reasons.proofs.BlockCauses.{guarded_tells, after_tells}
 use Rattle.label_reasons.proofs.laws.cause_laws.Goals as goal
 
 pub returns : goal.returns
 returns c = record {
-  begins = λ trait method begin. where_some (has trait begin) (of_begin method);
+  begins = λ trait method begin. where_some (has trait begin) (OfBegin method);
   declared = declared_tells;
   expression = expr_tells laws;
   guard = guarded_tells laws;

@@ -1,0 +1,41 @@
+use Rattle.std.proofs.Common.{◌∙◌, ℕ, List, [], ◌∷◌, ◌++◌, map, flat_map, refl, sym, ap, ap₂}
+use Rattle.std.specs.Prelude.{Option}
+use Rattle.label_lattice.specs.declared.label.Label.{Label}
+use Rattle.label_lattice.specs.Lattice.{join_of}
+use Rattle.jif_tree.specs.Trees.{expr_tree, program_tree}
+use Rattle.jif_tree.specs.LabelRules.{method_at, params_of, result_of, may_release, may_endorse, may_begin, may_flow, variable_label, field_label}
+use Rattle.label_reasons.specs.Causes.{or_else}
+use Rattle.label_reasons.specs.Asks.{Spot, release_ask, trust_ask, endorse_ask, value_ask, element_ask, begin_ask}
+use Rattle.label_reasons.specs.Asks.{expr_asks, argument_asks, result_asks, cause_at}
+use Rattle.label_reasons.specs.Search.{authority_at, spot_at, label_is, cause_is}
+use Rattle.label_reasons.proofs.Searching.{finds_two, at_then}
+use Rattle.label_reasons.proofs.ShownAsks.{cause_seen, joined_seen}
+use Rattle.label_reasons.proofs.search.search_call.Goals as goal
+
+pub returns : goal.returns
+returns c =
+    let args = map expr_tree c.args.args.now in
+    let called = method_at (program_tree c.args.place.now.program.now) c.args.method in
+    at_then c.args.place.now c.args.stand.now c.args.known.now
+    (λ spot. flat_map (expr_asks spot c.args.here) args)
+    (λ spot. begin_ask spot c.args.here c.args.method ∷ argument_asks spot c.args.here c.args.method 0 args
+    (params_of called) ++ result_asks spot c.args.here c.args.method (result_of called) c.args.into) c.args.found.now
+    c.search_arguments.new.found c.search_result.new.found c.search_arguments.ensures
+    (at_then c.args.place.now c.args.stand.now c.args.known.now
+    (λ spot. begin_ask spot c.args.here c.args.method ∷ [])
+    (λ spot. argument_asks spot c.args.here c.args.method 0 args (params_of called)
+    ++ result_asks spot c.args.here c.args.method (result_of called) c.args.into) c.search_arguments.new.found
+    c.offered.result c.search_result.new.found
+    (λ of_pc causes sees.
+    let spot : Spot = spot_at c.args.place.now c.args.stand.now c.args.known.now of_pc causes in
+    c.offered.ensures (begin_ask spot c.args.here c.args.method) (record {
+      statement = refl;
+      wanted = refl;
+      constraint = ap (λ begin. may_begin c.args.stand.now.pc begin) c.begin_label.ensures;
+      cause = sym sees.of_pc_is;
+    }))
+    (at_then c.args.place.now c.args.stand.now c.args.known.now
+    (λ spot. argument_asks spot c.args.here c.args.method 0 args (params_of called))
+    (λ spot. result_asks spot c.args.here c.args.method (result_of called) c.args.into) c.offered.result
+    c.search_params.new.found c.search_result.new.found (rw c.params_of.ensures.tree at c.search_params.ensures)
+    c.search_result.ensures))
