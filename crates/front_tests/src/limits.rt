@@ -62,7 +62,8 @@ const COUNTS: &str = "\
 const PAIRS: &str = "\
     127 | 3968 | TooMany(Methods, 16896) | #void m{}(){}#void m{}(){#x=1;#}void\n\
     256 | 3839 | TooMany(Statements, 16643) | void m{}(){#int x=1;##x=1;#int\n\
-    252 | 0 | TooMany(Fields, 1296) | int{} f[65536];int{} f[65536];int{} f[65536];int{} f[65284];#int{} f;#int{} f;##\n\
+    252 | 0 | TooMany(Fields, 1296) | int{} f[65536];int{} f[65536];int{} f[65536];\
+    int{} f[65284];#int{} f;#int{} f;##\n\
     127 | 64 | TooDeep(329) | void m{}(){x=1#+1#+#(#-\n\
     127 | 64 | TooMany(Nodes, 329) | void m{}(){x=1#+1#+#(#1\n\
     127 | 0 | Unexpected(265) | void m{}(){x=1#+1#+;##\n\
