@@ -55,7 +55,7 @@ use Rattle.split_cli.specs.Driven.{DrivesTo, rested, spent}
 use Rattle.net_world.specs.Replay.{events_in}
 use Rattle.split_cli.specs.Replay.{replay_text, DueForReplay}
 use Rattle.script_stages.specs.Scripts.{ScriptRead, EventsHappen}
-use Rattle.split_cli.specs.Replay as replay
+use Rattle.script_stages.specs.Scripts as scripts
 use Rattle.front_end.specs.Starting.{StartingValues}
 use Rattle.front_end.specs.Starting as starting
 use Rattle.split_cli.specs.Due.{DueForBytes, DueForCommand, Due, no_words, for_command}
@@ -391,9 +391,9 @@ ScriptSays Text script placed (stopped verdict) = Says Text verdict
 pub script_says : (Text : Status → List ℕ → Type 0) (file script : List ℕ) (placed : PlacedSource)
     (end : Outcome ScriptShape) → ScriptRead file script (code_of placed) end → ScriptSays Text script placed end
 unfolding Says
-script_says Text file script placed _ (replay.long more) = tt
-script_says Text file script placed _ (replay.bad_line line short is) = tt
-script_says Text file script placed _ (replay.read said short is) = record { short = short; read = is }
+script_says Text file script placed _ (scripts.long more) = tt
+script_says Text file script placed _ (scripts.bad_line line short is) = tt
+script_says Text file script placed _ (scripts.read said short is) = record { short = short; read = is }
 
 -- its events leave a world, or what is due is no success
 abbrev EventsSay : (Status → List ℕ → Type 0) → CodeShape → WorldShape → List (ℕ × Event) → Outcome WorldShape → Type 0
@@ -404,11 +404,11 @@ events_say : (Text : Status → List ℕ → Type 0) (file : List ℕ) (code : C
     (said : List (ℕ × Event)) (end : Outcome WorldShape) → EventsHappen file code world said end →
     EventsSay Text code world said end
 unfolding Says
-events_say Text file code world said _ (replay.happened last ran) = ran
-events_say Text file code world said _ (replay.refused at not_bad stops) = tt
-events_say Text file code world said _ (replay.refused at not_there stops) = tt
-events_say Text file code world said _ (replay.refused at host_busy stops) = tt
-events_say Text file code world said _ (replay.refused at (no_such_token count) stops) = tt
+events_say Text file code world said _ (scripts.happened last ran) = ran
+events_say Text file code world said _ (scripts.refused at not_bad stops) = tt
+events_say Text file code world said _ (scripts.refused at not_there stops) = tt
+events_say Text file code world said _ (scripts.refused at host_busy stops) = tt
+events_say Text file code world said _ (scripts.refused at (no_such_token count) stops) = tt
 
 report_says : AllLaws → (program hosts script : List ℕ) (placed : PlacedSource) (tree : Program) (said : ScriptShape)
     (last : WorldShape) (verdict : VerdictShape) → IsPlacedAs program hosts placed tree → IsRead script placed said →

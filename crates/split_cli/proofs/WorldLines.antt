@@ -27,6 +27,7 @@ use Rattle.split_cli.specs.WorldReport.{flying_lines, sent_line, sent_lines, hos
 use Rattle.split_cli.specs.Making.{field_value, field_values}
 use Rattle.split_cli.specs.Report.{row_line, row_text}
 use Rattle.split_cli.proofs.ReportLines as report
+use Rattle.run_comparison.proofs.ReleasedLines.{range_push}
 
 -- F gives each element lines or bytes, by its number
 numbered_push : {X Y : Type 0} (F : ℕ → List X → List Y) (f : ℕ → X → List Y) → ((n : ℕ) → F n [] ≡ []) →
