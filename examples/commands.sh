@@ -1,5 +1,5 @@
-# Runs the commands and the nodes of examples, and compares what they print and how they end with what the examples' files
-# say. `program`, `node`, `tokens`, `picture`, `runner` and `merged` are the programs, `scratch` is a folder to work in, and
+# Runs the commands and the nodes of examples and cases, and compares what they print and how they end with what the files
+# there say. `program`, `node`, `tokens`, `picture`, `runner` and `merged` are the programs, `scratch` is a folder to work in, and
 # `passed` and `failed` count.
 
 # compares one command of an example: its folder, its words, of which `SCRATCH/NAME` is a file of the scratch folder, and
