@@ -35,17 +35,25 @@ plays_more : (code : CodeShape) (steps : List Step) (start host : HostShape) (al
     ToldPlays code start (steps ++ makes.step ∷ []) after
     (all ++ step_words code makes.step ∷ (sent_words code sent ++ []))
 plays_more code [] start host all line sent after plays makes =
-    let done : Outcome = record { state = after; sent = sent } in
-    (done, [], subst (λ one. MayStep code one makes.step) (sym plays.0) makes.may,
-    subst (λ one. IsToldStep code one makes.step done) (sym plays.0) makes.told,
-    (refl, refl),
-    ap (λ (front : List (List Word)). front ++ step_words code makes.step ∷ (sent_words code sent ++ [])) plays.1)
+    let done : Outcome = record { state = after; sent = sent } in (
+      done,
+      [],
+      subst (λ one. MayStep code one makes.step) (sym plays.0) makes.may,
+      subst (λ one. IsToldStep code one makes.step done) (sym plays.0) makes.told,
+      (refl, refl),
+      ap (λ (front : List (List Word)). front ++ step_words code makes.step ∷ (sent_words code sent ++ [])) plays.1,
+    )
 plays_more code (step ∷ steps) start host all line sent after (outcome, later, may, is, plays, whole) makes =
-    let behind : List (List Word) = step_words code makes.step ∷ (sent_words code sent ++ []) in
-    (outcome, later ++ behind, may, is, plays_more code steps outcome.state host later line sent after plays makes,
-    ap (λ (front : List (List Word)). front ++ behind) whole
-    ∙ ap (λ (rest : List (List Word)). step_words code step ∷ rest)
-    (append_assoc (sent_words code outcome.sent) later behind))
+    let behind : List (List Word) = step_words code makes.step ∷ (sent_words code sent ++ []) in (
+      outcome,
+      later ++ behind,
+      may,
+      is,
+      plays_more code steps outcome.state host later line sent after plays makes,
+      ap (λ (front : List (List Word)). front ++ behind) whole
+          ∙ ap (λ (rest : List (List Word)). step_words code step ∷ rest)
+          (append_assoc (sent_words code outcome.sent) later behind),
+    )
 
 pub played_more : (code : CodeShape) (start host after : HostShape) (lines rest : List (List Word))
     (place next more : ℕ) (line : List Word) (sent : Option (HostId × Message)) →
@@ -82,14 +90,20 @@ played_more code start host after lines rest place next more line sent played he
         (sym left))
         ∙ sym (append_assoc played.all (step_words code makes.step ∷ (sent_words code sent ++ [])) (drop next lines)))
     by (inl whole) (inr (none, ended, (other, is, said))) =
-        inr (left ∙ ended, (other, is,
-        ap (λ (front : List (List Word)). played.all ++ step_words code makes.step ∷ front)
-        (append-nil (sent_words code sent) ∙ said)
-        ∙ ap (λ (one : List Word). played.all ++ one ∷ other ∷ []) (sym makes.line_is)
-        ∙ sym (append_assoc played.all (line ∷ []) (other ∷ []))
-        ∙ ap (λ (front : List (List Word)). front ++ other ∷ [])
-        (sym (whole ∙ ap (λ (rest : List (List Word)). played.all ++ rest)
-        (here ∙ ap (λ (rest : List (List Word)). line ∷ rest) none)))))
+        inr (
+          left ∙ ended,
+          (
+            other,
+            is,
+            ap (λ (front : List (List Word)). played.all ++ step_words code makes.step ∷ front)
+                (append-nil (sent_words code sent) ∙ said)
+                ∙ ap (λ (one : List Word). played.all ++ one ∷ other ∷ []) (sym makes.line_is)
+                ∙ sym (append_assoc played.all (line ∷ []) (other ∷ []))
+                ∙ ap (λ (front : List (List Word)). front ++ other ∷ [])
+                (sym (whole ∙ ap (λ (rest : List (List Word)). played.all ++ rest)
+                (here ∙ ap (λ (rest : List (List Word)). line ∷ rest) none))),
+          ),
+        )
 
 pub played_whole : (code : CodeShape) (start host : HostShape) (lines : List (List Word)) (place : ℕ) →
     length lines ≤ place → IsPlayedTo code start lines place host → IsPlayed code start lines host
