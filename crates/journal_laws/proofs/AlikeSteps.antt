@@ -1,5 +1,5 @@
--- One step of two hosts of which the same is told, where the lines of both steps are the same. Either the same is told of
--- what they leave; or one has a thread then, and the other has none.
+-- One step of two hosts of which the same is told, where the lines of both steps are the same. Either the same is told
+-- of what they leave; or one has a thread then, and the other has none.
 use Rattle.std.proofs.Common.{◌≡◌, ◌∙◌, ◌⊎◌, Bool, true, false, refl, ap, sym, subst, List, [], ◌∷◌}
 use Rattle.std.proofs.Common.{inl, inr, arith}
 use Rattle.std.specs.Prelude.{Option, Some, None, IsSome, ◌==◌, ◌&&◌, All}
@@ -135,7 +135,12 @@ open_turned code host (Some thread) passes outcome fits unsure is =
 pub told_step_line : (code : CodeShape) (host : HostShape) (step : Step) (outcome : Outcome) → StateFits code host →
     MayStep code host step → IsToldStep code host step outcome → IsLineStep code host step outcome
 told_step_line code host turns outcome fits may (inl (passes, unsure, is)) =
-    record { made = turns; alike = refl; rest = tt; is = inr (open_turned code host host.running passes outcome fits unsure is) }
+    record {
+      made = turns;
+      alike = refl;
+      rest = tt;
+      is = inr (open_turned code host host.running passes outcome fits unsure is);
+    }
 told_step_line code host turns outcome fits may (inr (closed, is)) =
     record { made = turns; alike = refl; rest = tt; is = inl is }
 told_step_line code host (takes from letter) outcome fits may (inl (passes, unsure, is)) =

@@ -225,7 +225,8 @@ module _ (code : CodeShape) (sound : IsSoundCode code) (own : HaveOwnNames code)
   pub host_again : (host : HostId) → IsHost code host → host_named code.hosts (host_text code host) ≡ Some host
   host_again host within =
       let there = host_there host within in
-      rw (there.1) (rw (place_again (λ (one : CodeHostShape). one.name) code.hosts host.0 there.0 own.hosts there.1) refl)
+      rw (there.1)
+      (rw (place_again (λ (one : CodeHostShape). one.name) code.hosts host.0 there.0 own.hosts there.1) refl)
 
   field_there : (field : FieldId) → IsField code field →
       (one : CodeFieldShape) × (slice_get code.fields field.0 ≡ Some one) × IsPart one.name

@@ -114,7 +114,8 @@ CheckOf code host turns = CheckOfThread code host host.running
 CheckOf code host (takes from letter) = Passes code host from letter
 
 awaited_told : (host : HostShape) (awaited : Awaited) (request : RequestId) (from : HostId) →
-    IsSome (place_of_awaiting host awaited request from) ↔ IsSome (place_of_awaiting (told_of host) awaited request from)
+    IsSome (place_of_awaiting host awaited request from)
+    ↔ IsSome (place_of_awaiting (told_of host) awaited request from)
 awaited_told host awaited request from =
     let place = position_bare awaited request from host.waiting in
     (subst IsSome (sym place), subst IsSome place)
@@ -247,7 +248,8 @@ turning_plain code host (Some thread) outcome sound there other is =
 pub plain_step : (code : CodeShape) (host : HostShape) (step : Step) (outcome : Outcome) → IsSoundCode code →
     StateFits code host → takes_off code host step ≡ false → IsStep code host step outcome →
     IsPlain code host step outcome
-plain_step code host (takes from letter) outcome sound fits other is = taking_plain code host from letter outcome other is
+plain_step code host (takes from letter) outcome sound fits other is =
+    taking_plain code host from letter outcome other is
 plain_step code host turns outcome sound fits other is =
     let (passes, check, leaves) = turning_plain code host host.running outcome sound fits.me other is in
     record { passes = passes; check = check; leaves = leaves }

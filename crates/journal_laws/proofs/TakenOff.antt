@@ -125,7 +125,8 @@ popped_kind : (code : CodeShape) (host : HostShape) (entries : List StackEntry) 
     ⊎ HasStarted code host (after_pop code (with_running host None) entries)
 popped_kind code host [] own fit = inl (record { rest = refl; told = refl })
 popped_kind code host (top ∷ below) own fit =
-    by (top.entry.0 == halt.0) (entry_at code top.entry) refl refl (All-head (EntryFits code host.me) top below fit).entry
+    by (top.entry.0 == halt.0) (entry_at code top.entry) refl refl
+    (All-head (EntryFits code host.me) top below fit).entry
   where
     left : HostShape
     left = record (with_running host None) { entries = below }

@@ -4,6 +4,7 @@ use Rattle.js_base.specs.declared.ids.HostId.{HostId}
 use Rattle.js_base.specs.declared.ids.RequestId.{RequestId}
 use Rattle.label_lattice.specs.declared.label.Label.{Label}
 use Rattle.host_code.specs.declared.code_expr.Node.TheVariants as node
+use Rattle.host_code.specs.declared.instruction.Instr.{Instr}
 use Rattle.host_code.specs.declared.instruction.Op.TheVariants as op
 use Rattle.host_code.specs.declared.message.Message.{Message}
 use Rattle.host_code.specs.declared.message.Message.TheVariants as message
@@ -20,6 +21,13 @@ host_a = record { 0 = 0 }
 abbrev pub host_b : HostId
 host_b = record { 0 = 1 }
 
+abbrev pub read_f : Instr
+read_f = record {
+  label = 0;
+  statement = record { 0 = 0 };
+  op = op.Read (record { 0 = 0 }) (node.Number (pos 0) ∷ []);
+}
+
 -- Host A reads the field f, which stands on host B.
 abbrev pub reading : Label → CodeShape
 reading label = record {
@@ -29,7 +37,7 @@ reading label = record {
   variables = [];
   entries = [];
   sites = [];
-  parts = (record { label = 0; statement = record { 0 = 0 }; op = op.Read (record { 0 = 0 }) (node.Number (pos 0) ∷ []) } ∷ []) ∷ [] ∷ [];
+  parts = (read_f ∷ []) ∷ [] ∷ [];
   root = host_a;
   main = halt;
 }
