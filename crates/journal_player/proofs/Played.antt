@@ -1,19 +1,32 @@
 -- A journal that is played as far as a place.
 use Rattle.std.proofs.Common.{◌≡◌, ◌∙◌, ◌⊎◌, ◌+◌, ◌<◌, ◌≤◌, ℕ, suc, zero, refl, ap, sym, subst, List, [], ◌∷◌, ◌++◌, inl, inr, arith}
-use Rattle.std.proofs.Common.{drop, length, append_assoc, drop-drop}
+use Rattle.std.proofs.Common.{drop, get_or, length, add-one, append_assoc, drop-drop}
 use Rattle.std.specs.Prelude.{Option}
 use Rattle.std.proofs.Math.ListN.{drop_of_length-le}
-use Rattle.std.proofs.lemmas.List.{append-nil}
+use Rattle.std.proofs.lemmas.List.{append-nil, drop-map, length-map}
+use Rattle.js_base.proofs.Lists.{next_of}
 use Rattle.js_base.specs.declared.ids.HostId.{HostId}
 use Rattle.host_code.specs.declared.message.Message.{Message}
 use Rattle.host_code.specs.Code.{CodeShape}
 use Rattle.host_core.specs.Host.{HostShape, Outcome}
+use Rattle.event_text.specs.declared.lines.Line.{Line}
+use Rattle.event_text.specs.Lines.{words}
 use Rattle.event_text.specs.JournalText.{IsSendLine, sent_words}
 use Rattle.event_text.specs.Words.{Word}
+use Rattle.record_merge.specs.JournalLines.{journal_of}
 use Rattle.journal_laws.specs.Plays.{AreNotedOf, MayStep, step_words}
 use Rattle.journal_laws.specs.Steps.{Step}
 use Rattle.journal_laws.specs.ToldPlays.{IsPlayed, IsToldStep, ToldPlays}
 use Rattle.journal_player.specs.Playing.{IsBehind, Makes}
+
+-- the line at a place, and those behind it
+pub line_here : (lines others : List Line) (place : ℕ) (line : Line) → place < length lines →
+    line ≡ get_or lines place line → others ≡ drop (place + 1) lines →
+    drop place (journal_of lines) ≡ words line.bytes.now ∷ journal_of others
+line_here lines others place line within here behind =
+    drop-map (λ (one : Line). words one.bytes.now) place lines
+    ∙ ap journal_of (next_of lines place line within here)
+    ∙ ap (λ (rest : List Line). words line.bytes.now ∷ journal_of rest) (rw add-one (sym behind))
 
 -- The lines before the place were played, and those of the steps are all of them, or these and one of what was sent that
 -- is missing at the end.
