@@ -1,32 +1,77 @@
 -- A journal that is played as far as a place.
-use Rattle.std.proofs.Common.{◌≡◌, ◌∙◌, ◌⊎◌, ◌+◌, ◌<◌, ◌≤◌, ℕ, suc, zero, refl, ap, sym, subst, List, [], ◌∷◌, ◌++◌, inl, inr, arith}
-use Rattle.std.proofs.Common.{drop, get_or, length, add-one, append_assoc, drop-drop}
-use Rattle.std.specs.Prelude.{Option}
+use Rattle.std.proofs.Common.{◌≡◌, ◌∙◌, ◌⊎◌, ◌↔◌, ◌+◌, ◌-◌, ◌<◌, ◌≤◌, ℕ, suc, zero, refl, ap, sym, subst, inl, inr}
+use Rattle.std.proofs.Common.{List, [], ◌∷◌, ◌++◌, Bool, true, false, arith, add-one, append_assoc, drop-drop}
+use Rattle.std.proofs.Common.{drop, get_or, length, take}
+use Rattle.std.specs.Prelude.{IsTrue, Option}
 use Rattle.std.proofs.Math.ListN.{drop_of_length-le}
-use Rattle.std.proofs.lemmas.List.{append-nil, drop-map, length-map}
-use Rattle.js_base.proofs.Lists.{next_of}
+use Rattle.std.proofs.Math.Seq.{drop-cons}
+use Rattle.std.proofs.lemmas.Bool.{false≢true}
+use Rattle.std.proofs.lemmas.List.{append-nil, drop-map, length-drop, length-map, take_all}
 use Rattle.js_base.specs.declared.ids.HostId.{HostId}
 use Rattle.host_code.specs.declared.message.Message.{Message}
 use Rattle.host_code.specs.Code.{CodeShape}
 use Rattle.host_core.specs.Host.{HostShape, Outcome}
+use Rattle.host_core.specs.Told.{IsOpenTaking, IsToldTaking, with_wrong_tags}
 use Rattle.event_text.specs.declared.lines.Line.{Line}
 use Rattle.event_text.specs.Lines.{words}
-use Rattle.event_text.specs.JournalText.{IsSendLine, sent_words}
+use Rattle.event_text.specs.JournalText.{IsSendLine, sent_words, turn_words}
 use Rattle.event_text.specs.Words.{Word}
 use Rattle.record_merge.specs.JournalLines.{journal_of}
 use Rattle.journal_laws.specs.Plays.{AreNotedOf, MayStep, step_words}
-use Rattle.journal_laws.specs.Steps.{Step}
+use Rattle.journal_laws.specs.Steps.{Step, takes, turns}
 use Rattle.journal_laws.specs.ToldPlays.{IsPlayed, IsToldStep, ToldPlays}
-use Rattle.journal_player.specs.Playing.{IsBehind, Makes}
+use Rattle.journal_player.specs.Playing.{IsBehind, Makes, MakesTake, MakesTurn}
 
--- the line at a place, and those behind it
-pub line_here : (lines others : List Line) (place : ℕ) (line : Line) → place < length lines →
-    line ≡ get_or lines place line → others ≡ drop (place + 1) lines →
-    drop place (journal_of lines) ≡ words line.bytes.now ∷ journal_of others
-line_here lines others place line within here behind =
-    drop-map (λ (one : Line). words one.bytes.now) place lines
-    ∙ ap journal_of (next_of lines place line within here)
-    ∙ ap (λ (rest : List Line). words line.bytes.now ∷ journal_of rest) (rw add-one (sym behind))
+-- ---- the lines of a slice
+
+all_taken : (lines : List Line) (place : ℕ) → take (length lines - place) (drop place lines) ≡ drop place lines
+all_taken lines place =
+    let long = length-drop place lines in
+    take_all (length lines - place) (drop place lines) (omega arith)
+
+-- the line at a place, and those behind it as code takes them
+pub line_here : (lines : List Line) (place : ℕ) (other : Line) → place < length lines →
+    drop place (journal_of lines)
+    ≡ words (get_or lines place other).bytes.now
+    ∷ journal_of (take (length lines - (place + 1)) (drop (place + 1) lines))
+line_here lines place other within =
+    drop-map (λ (line : Line). words line.bytes.now) place lines
+    ∙ ap journal_of (drop-cons lines place other within)
+    ∙ ap (λ (rest : List Line). words (get_or lines place other).bytes.now ∷ journal_of rest)
+    (sym (ap (λ count. drop count lines) (add-one place)) ∙ sym (all_taken lines (place + 1)))
+
+-- some of those behind a place are lines of the whole
+pub still_within : (lines : List Line) (place more : ℕ) → place < length lines →
+    more ≤ length (take (length lines - (place + 1)) (drop (place + 1) lines)) → place + 1 + more ≤ length lines
+still_within lines place more within few =
+    let all = ap length (all_taken lines (place + 1)) in
+    let long = length-drop (place + 1) lines in
+    omega (arith, within, few, all, long)
+
+-- ---- one step
+
+-- what is told whether an open message passes is what is told of the step
+pub told_taking : (code : CodeShape) (host : HostShape) (from : HostId) (message : Message) (passes is_open : Bool)
+    (outcome : Outcome) → (IsTrue is_open ↔ IsOpenTaking host (with_wrong_tags message)) →
+    IsToldTaking code host from (with_wrong_tags message) passes outcome →
+    IsToldStep code host (takes from message) outcome
+told_taking code host from message passes true outcome says told =
+    inl (passes, says.0 refl, told.0 (says.0 refl))
+told_taking code host from message passes false outcome says told =
+    let closed : ¬ IsOpenTaking host (with_wrong_tags message) = λ is. false≢true (says.1 is) in
+    inr (closed, told.1 closed)
+
+pub makes_turn : (code : CodeShape) (host : HostShape) (line : List Word) (sent : Option (HostId × Message))
+    (after : HostShape) → line ≡ turn_words → MakesTurn code host sent after → Makes code host line sent after
+makes_turn code host line sent after is made =
+    record { step = turns; line_is = is; may = made.runs; told = made.told }
+
+pub makes_take : (code : CodeShape) (host : HostShape) (line : List Word) (sent : Option (HostId × Message))
+    (after : HostShape) → MakesTake code host line sent after → Makes code host line sent after
+makes_take code host line sent after made =
+    record { step = takes made.from made.message; line_is = made.line_is; may = made.may; told = made.told }
+
+-- ---- the lines so far
 
 -- The lines before the place were played, and those of the steps are all of them, or these and one of what was sent that
 -- is missing at the end.
@@ -118,12 +163,17 @@ played_more code start host after lines rest place next more line sent played he
           ),
         )
 
-pub played_whole : (code : CodeShape) (start host : HostShape) (lines : List (List Word)) (place : ℕ) →
-    length lines ≤ place → IsPlayedTo code start lines place host → IsPlayed code start lines host
-played_whole code start host lines place ended played = (played.steps, played.all, played.plays, by played.left)
+pub played_whole : (code : CodeShape) (start host : HostShape) (of : List Line) (place : ℕ) → length of ≤ place →
+    IsPlayedTo code start (journal_of of) place host → IsPlayed code start (journal_of of) host
+played_whole code start host of place ended played = (played.steps, played.all, played.plays, by played.left)
   where
+    lines : List (List Word)
+    lines = journal_of of
+
     none : drop place lines ≡ []
-    none = drop_of_length-le lines ended
+    none =
+        let count = length-map of (λ (line : Line). words line.bytes.now) in
+        drop_of_length-le lines (omega (arith, count, ended))
 
     by : (lines ≡ played.all ++ drop place lines)
         ⊎ ((drop place lines ≡ [])
