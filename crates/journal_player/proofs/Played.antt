@@ -1,5 +1,5 @@
 -- A journal that is played as far as a place.
-use Rattle.std.proofs.Common.{◌≡◌, ◌∙◌, ◌⊎◌, ◌↔◌, ◌+◌, ◌-◌, ◌<◌, ◌≤◌, ℕ, suc, zero, refl, ap, sym, subst, inl, inr}
+use Rattle.std.proofs.Common.{◌≡◌, ◌∙◌, ◌⊎◌, ◌↔◌, ◌+◌, ◌-◌, ◌<◌, ◌≤◌, ℕ, refl, ap, sym, subst, inl, inr}
 use Rattle.std.proofs.Common.{List, [], ◌∷◌, ◌++◌, Bool, true, false, arith, add-one, append_assoc, drop-drop}
 use Rattle.std.proofs.Common.{drop, get_or, length, take}
 use Rattle.std.specs.Prelude.{IsTrue, Option}
@@ -73,8 +73,8 @@ makes_take code host line sent after made =
 
 -- ---- the lines so far
 
--- The lines before the place were played, and those of the steps are all of them, or these and one of what was sent that
--- is missing at the end.
+-- The lines before the place were played, and those of the steps are all of them, or these and one of what was sent
+-- that is missing at the end.
 pub record IsPlayedTo (code : CodeShape) (start : HostShape) (lines : List (List Word)) (place : ℕ) (host : HostShape) :
     Type 0 where
   pub steps : List Step
@@ -83,7 +83,8 @@ pub record IsPlayedTo (code : CodeShape) (start : HostShape) (lines : List (List
   pub left : (lines ≡ all ++ drop place lines)
       ⊎ ((drop place lines ≡ []) × ((sent : List Word) × IsSendLine sent × (all ≡ lines ++ sent ∷ [])))
 
-pub none_played : (code : CodeShape) (start : HostShape) (lines : List (List Word)) → IsPlayedTo code start lines 0 start
+pub none_played : (code : CodeShape) (start : HostShape) (lines : List (List Word)) →
+    IsPlayedTo code start lines 0 start
 none_played code start lines = record { steps = []; all = []; plays = (refl, refl); left = inl refl }
 
 -- one step more

@@ -1,6 +1,7 @@
 //! The lines of a journal, one after the other.
 
-ghost use Rattle.std.specs.Prelude.{◌≡◌, ◌<◌, ◌≤◌, ◌+◌, ◌↔◌, drop, length, Option, IfOk, IfSome, OnOk, IsTrue, IsSome, None, ℕ, List};
+ghost use Rattle.std.specs.Prelude.{◌≡◌, ◌<◌, ◌≤◌, ◌+◌, ◌↔◌, drop, length, Option, IfOk, IfSome, OnOk, IsTrue};
+ghost use Rattle.std.specs.Prelude.{IsSome, None, ℕ, List};
 ghost use Rattle.js_base.specs.declared.ids.HostId.{HostId};
 ghost use Rattle.host_code.specs.declared.message.Message.{Message};
 ghost use Rattle.host_code.specs.Messages.{MessageFits};
