@@ -19,6 +19,8 @@ mod frame_refusals;
 #[cfg(test)]
 mod frame_samples;
 #[cfg(test)]
+mod played_journal;
+#[cfg(test)]
 mod read_code;
 #[cfg(test)]
 mod riding_file;

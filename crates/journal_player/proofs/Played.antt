@@ -1,0 +1,184 @@
+-- A journal that is played as far as a place.
+use Rattle.std.proofs.Common.{◌≡◌, ◌∙◌, ◌⊎◌, ◌↔◌, ◌+◌, ◌-◌, ◌<◌, ◌≤◌, ℕ, refl, ap, sym, subst, inl, inr}
+use Rattle.std.proofs.Common.{List, [], ◌∷◌, ◌++◌, Bool, true, false, arith, add-one, append_assoc, drop-drop}
+use Rattle.std.proofs.Common.{drop, get_or, length, take}
+use Rattle.std.specs.Prelude.{IsTrue, Option}
+use Rattle.std.proofs.Math.ListN.{drop_of_length-le}
+use Rattle.std.proofs.Math.Seq.{drop-cons}
+use Rattle.std.proofs.lemmas.Bool.{false≢true}
+use Rattle.std.proofs.lemmas.List.{append-nil, drop-map, length-drop, length-map, take_all}
+use Rattle.js_base.specs.declared.ids.HostId.{HostId}
+use Rattle.host_code.specs.declared.message.Message.{Message}
+use Rattle.host_code.specs.Code.{CodeShape}
+use Rattle.host_core.specs.Host.{HostShape, Outcome}
+use Rattle.host_core.specs.Told.{IsOpenTaking, IsToldTaking, with_wrong_tags}
+use Rattle.event_text.specs.declared.lines.Line.{Line}
+use Rattle.event_text.specs.Lines.{words}
+use Rattle.event_text.specs.JournalText.{IsSendLine, sent_words, turn_words}
+use Rattle.event_text.specs.Words.{Word}
+use Rattle.record_merge.specs.JournalLines.{journal_of}
+use Rattle.journal_laws.specs.Plays.{AreNotedOf, MayStep, step_words}
+use Rattle.journal_laws.specs.Steps.{Step, takes, turns}
+use Rattle.journal_laws.specs.ToldPlays.{IsPlayed, IsToldStep, ToldPlays}
+use Rattle.journal_player.specs.Playing.{IsBehind, Makes, MakesTake, MakesTurn}
+
+-- ---- the lines of a slice
+
+all_taken : (lines : List Line) (place : ℕ) → take (length lines - place) (drop place lines) ≡ drop place lines
+all_taken lines place =
+    let long = length-drop place lines in
+    take_all (length lines - place) (drop place lines) (omega arith)
+
+-- the line at a place, and those behind it as code takes them
+pub line_here : (lines : List Line) (place : ℕ) (other : Line) → place < length lines →
+    drop place (journal_of lines)
+    ≡ words (get_or lines place other).bytes.now
+    ∷ journal_of (take (length lines - (place + 1)) (drop (place + 1) lines))
+line_here lines place other within =
+    drop-map (λ (line : Line). words line.bytes.now) place lines
+    ∙ ap journal_of (drop-cons lines place other within)
+    ∙ ap (λ (rest : List Line). words (get_or lines place other).bytes.now ∷ journal_of rest)
+    (sym (ap (λ count. drop count lines) (add-one place)) ∙ sym (all_taken lines (place + 1)))
+
+-- some of those behind a place are lines of the whole
+pub still_within : (lines : List Line) (place more : ℕ) → place < length lines →
+    more ≤ length (take (length lines - (place + 1)) (drop (place + 1) lines)) → place + 1 + more ≤ length lines
+still_within lines place more within few =
+    let all = ap length (all_taken lines (place + 1)) in
+    let long = length-drop (place + 1) lines in
+    omega (arith, within, few, all, long)
+
+-- ---- one step
+
+-- what is told whether an open message passes is what is told of the step
+pub told_taking : (code : CodeShape) (host : HostShape) (from : HostId) (message : Message) (passes is_open : Bool)
+    (outcome : Outcome) → (IsTrue is_open ↔ IsOpenTaking host (with_wrong_tags message)) →
+    IsToldTaking code host from (with_wrong_tags message) passes outcome →
+    IsToldStep code host (takes from message) outcome
+told_taking code host from message passes true outcome says told =
+    inl (passes, says.0 refl, told.0 (says.0 refl))
+told_taking code host from message passes false outcome says told =
+    let closed : ¬ IsOpenTaking host (with_wrong_tags message) = λ is. false≢true (says.1 is) in
+    inr (closed, told.1 closed)
+
+pub makes_turn : (code : CodeShape) (host : HostShape) (line : List Word) (sent : Option (HostId × Message))
+    (after : HostShape) → line ≡ turn_words → MakesTurn code host sent after → Makes code host line sent after
+makes_turn code host line sent after is made =
+    record { step = turns; line_is = is; may = made.runs; told = made.told }
+
+pub makes_take : (code : CodeShape) (host : HostShape) (line : List Word) (sent : Option (HostId × Message))
+    (after : HostShape) → MakesTake code host line sent after → Makes code host line sent after
+makes_take code host line sent after made =
+    record { step = takes made.from made.message; line_is = made.line_is; may = made.may; told = made.told }
+
+-- ---- the lines so far
+
+-- The lines before the place were played, and those of the steps are all of them, or these and one of what was sent
+-- that is missing at the end.
+pub record IsPlayedTo (code : CodeShape) (start : HostShape) (lines : List (List Word)) (place : ℕ) (host : HostShape) :
+    Type 0 where
+  pub steps : List Step
+  pub all : List (List Word)
+  pub plays : ToldPlays code start steps host all
+  pub left : (lines ≡ all ++ drop place lines)
+      ⊎ ((drop place lines ≡ []) × ((sent : List Word) × IsSendLine sent × (all ≡ lines ++ sent ∷ [])))
+
+pub none_played : (code : CodeShape) (start : HostShape) (lines : List (List Word)) →
+    IsPlayedTo code start lines 0 start
+none_played code start lines = record { steps = []; all = []; plays = (refl, refl); left = inl refl }
+
+-- one step more
+plays_more : (code : CodeShape) (steps : List Step) (start host : HostShape) (all : List (List Word))
+    (line : List Word) (sent : Option (HostId × Message)) (after : HostShape) →
+    ToldPlays code start steps host all → (makes : Makes code host line sent after) →
+    ToldPlays code start (steps ++ makes.step ∷ []) after
+    (all ++ step_words code makes.step ∷ (sent_words code sent ++ []))
+plays_more code [] start host all line sent after plays makes =
+    let done : Outcome = record { state = after; sent = sent } in (
+      done,
+      [],
+      subst (λ one. MayStep code one makes.step) (sym plays.0) makes.may,
+      subst (λ one. IsToldStep code one makes.step done) (sym plays.0) makes.told,
+      (refl, refl),
+      ap (λ (front : List (List Word)). front ++ step_words code makes.step ∷ (sent_words code sent ++ [])) plays.1,
+    )
+plays_more code (step ∷ steps) start host all line sent after (outcome, later, may, is, plays, whole) makes =
+    let behind : List (List Word) = step_words code makes.step ∷ (sent_words code sent ++ []) in (
+      outcome,
+      later ++ behind,
+      may,
+      is,
+      plays_more code steps outcome.state host later line sent after plays makes,
+      ap (λ (front : List (List Word)). front ++ behind) whole
+          ∙ ap (λ (rest : List (List Word)). step_words code step ∷ rest)
+          (append_assoc (sent_words code outcome.sent) later behind),
+    )
+
+pub played_more : (code : CodeShape) (start host after : HostShape) (lines rest : List (List Word))
+    (place next more : ℕ) (line : List Word) (sent : Option (HostId × Message)) →
+    IsPlayedTo code start lines place host → drop place lines ≡ line ∷ rest → next ≡ place + (1 + more) →
+    Makes code host line sent after → IsBehind (sent_words code sent) rest (drop more rest) →
+    IsPlayedTo code start lines next after
+played_more code start host after lines rest place next more line sent played here count makes behind =
+    record {
+      steps = played.steps ++ makes.step ∷ [];
+      all = played.all ++ step_words code makes.step ∷ (sent_words code sent ++ []);
+      plays = plays_more code played.steps start host played.all line sent after played.plays makes;
+      left = by played.left behind;
+    }
+  where
+    left : drop next lines ≡ drop more rest
+    left = ap (λ k. drop k lines) count ∙ sym (drop-drop (1 + more) place lines) ∙ ap (drop (1 + more)) here
+        ∙ sym (drop-drop more 1 (line ∷ rest))
+
+    by : (lines ≡ played.all ++ drop place lines)
+        ⊎ ((drop place lines ≡ [])
+        × ((sent : List Word) × IsSendLine sent × (played.all ≡ lines ++ sent ∷ []))) →
+        IsBehind (sent_words code sent) rest (drop more rest) →
+        (lines ≡ (played.all ++ step_words code makes.step ∷ (sent_words code sent ++ [])) ++ drop next lines)
+        ⊎ ((drop next lines ≡ []) × ((other : List Word) × IsSendLine other
+        × ((played.all ++ step_words code makes.step ∷ (sent_words code sent ++ [])) ≡ lines ++ other ∷ [])))
+    by (inr (none, missing)) behind = absurd (let clash = sym none ∙ here in cc)
+    by (inl whole) (inl said) =
+        inl (whole ∙ ap (λ (rest : List (List Word)). played.all ++ rest)
+        (here ∙ ap (λ (rest : List (List Word)). line ∷ rest) said
+        ∙ ap (λ (one : List Word). one ∷ (sent_words code sent ++ drop more rest)) makes.line_is
+        ∙ ap (λ (front : List (List Word)). step_words code makes.step ∷ (front ++ drop more rest))
+        (sym (append-nil (sent_words code sent)))
+        ∙ ap (λ (rest : List (List Word)). (step_words code makes.step ∷ (sent_words code sent ++ [])) ++ rest)
+        (sym left))
+        ∙ sym (append_assoc played.all (step_words code makes.step ∷ (sent_words code sent ++ [])) (drop next lines)))
+    by (inl whole) (inr (none, ended, (other, is, said))) =
+        inr (
+          left ∙ ended,
+          (
+            other,
+            is,
+            ap (λ (front : List (List Word)). played.all ++ step_words code makes.step ∷ front)
+                (append-nil (sent_words code sent) ∙ said)
+                ∙ ap (λ (one : List Word). played.all ++ one ∷ other ∷ []) (sym makes.line_is)
+                ∙ sym (append_assoc played.all (line ∷ []) (other ∷ []))
+                ∙ ap (λ (front : List (List Word)). front ++ other ∷ [])
+                (sym (whole ∙ ap (λ (rest : List (List Word)). played.all ++ rest)
+                (here ∙ ap (λ (rest : List (List Word)). line ∷ rest) none))),
+          ),
+        )
+
+pub played_whole : (code : CodeShape) (start host : HostShape) (of : List Line) (place : ℕ) → length of ≤ place →
+    IsPlayedTo code start (journal_of of) place host → IsPlayed code start (journal_of of) host
+played_whole code start host of place ended played = (played.steps, played.all, played.plays, by played.left)
+  where
+    lines : List (List Word)
+    lines = journal_of of
+
+    none : drop place lines ≡ []
+    none =
+        let count = length-map of (λ (line : Line). words line.bytes.now) in
+        drop_of_length-le lines (omega (arith, count, ended))
+
+    by : (lines ≡ played.all ++ drop place lines)
+        ⊎ ((drop place lines ≡ [])
+        × ((sent : List Word) × IsSendLine sent × (played.all ≡ lines ++ sent ∷ []))) → AreNotedOf lines played.all
+    by (inl whole) =
+        inl (whole ∙ ap (λ (rest : List (List Word)). played.all ++ rest) none ∙ append-nil played.all)
+    by (inr (ended, missing)) = inr missing

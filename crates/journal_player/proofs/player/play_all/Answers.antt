@@ -1,0 +1,37 @@
+use Rattle.std.proofs.Common.{◌∙◌, ◌+◌, arith}
+use Rattle.host_core.specs.Host.{state_of}
+use Rattle.host_core.specs.Start.{host_at_start}
+use Rattle.host_core.specs.Told.{told_key}
+use Rattle.record_merge.specs.JournalLines.{journal_of}
+use Rattle.journal_player.proofs.Played.{line_here, played_more, played_whole, still_within}
+use Rattle.journal_player.proofs.player.play_all.Goals as goal
+
+pub loop-place-preserved : goal.loop-place-preserved
+loop-place-preserved c =
+    let lines = c.args.lines.now in
+    let place = c.loop-place.place in
+    let more = c.in_ok-more.more in
+    let before = c.loop-place.invariant in
+    let within = c.loop-place-test.true in
+    let ensured = c.in_ok-more.ensures in
+    let made = ensured.made in
+    let counted = ensured.counts.0 in
+    let few = before.calls in
+    record {
+      within = still_within lines place more within ensured.few;
+      own = ensured.own ∙ before.own;
+      fits = ensured.fits;
+      calls = omega (arith, counted, few);
+      stopped = ensured.counts.1 ∙ before.stopped;
+      played =
+          played_more c.args.code.now (host_at_start c.args.code.now c.args.store.now told_key c.args.me)
+          (state_of c.loop-place.host) (state_of c.play_line.new.host) (journal_of lines) _ place (place + 1 + more)
+          more _ made.0 before.played (line_here lines place _ within) (omega arith) made.1 made.2;
+    }
+
+pub returns : goal.returns
+returns c =
+    let past = c.loop-place-test.false in
+    played_whole c.args.code.now (host_at_start c.args.code.now c.args.store.now told_key c.args.me)
+    (state_of c.loop-place.host) c.args.lines.now c.loop-place.place (omega (arith, past))
+    c.loop-place.invariant.played
