@@ -24,16 +24,7 @@ use Rattle.label_reasons.specs.declared.reason.Reason.{Reason}
 use Rattle.label_reasons.specs.declared.reason.Wanted.{Wanted}
 use Rattle.label_reasons.specs.declared.reason.Wanted.TheVariants.{KeptInField, Begun, Released, ReleaseTrusted}
 use Rattle.label_reasons.specs.Asks.{Ask, program_asks}
-use Rattle.label_reasons.specs.Reasons.{label_reasons, first_refused}
-
--- what is told: the statement, what it wants, and why it may not
-abbrev pub Explained : Type 0
-Explained = Option (StmtId × Wanted × List Reason)
-
-abbrev pub explained : Declared → ProgramTree → Explained
-explained principals program =
-    option_map (λ ask. (ask.statement, ask.wanted, label_reasons principals ask))
-    (first_refused principals (program_asks principals program))
+use Rattle.label_reasons.specs.Reasons.{Explained}
 
 abbrev tells : ℕ → Wanted → List Reason → Explained
 tells place wanted reasons = Some (record { 0 = place }, wanted, reasons)
