@@ -24,8 +24,6 @@ mod node_parts;
 #[cfg(test)]
 mod node_refusals;
 #[cfg(test)]
-mod node_seals;
-#[cfg(test)]
 mod node_services;
 #[cfg(test)]
 mod outside;
@@ -33,3 +31,5 @@ mod outside;
 mod releases;
 #[cfg(test)]
 mod rows;
+#[cfg(test)]
+mod seals_of_nodes;

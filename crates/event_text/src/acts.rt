@@ -27,7 +27,14 @@ pub fn message_of(code: &Code, bad: u16, line: &[u8]) -> Option<BadMessage>
 pub fn says_message(code: &Code, line: &[u8]) -> bool
     ensures { result ≡ is_some (printed_message code.now (words line.now)) }
 {
-    message_by(code, Tokens::Printed, line).is_some()
+    printed_message(code, line).is_some()
+}
+
+/// The message that the words of a line say as reports and journals print it, with a tag of zeros in its token.
+pub fn printed_message(code: &Code, line: &[u8]) -> Option<BadMessage>
+    ensures { result ≡ printed_message code.now (words line.now) }
+{
+    message_by(code, Tokens::Printed, line)
 }
 
 /// The message that the words of a line say, where tokens are written so.

@@ -17,7 +17,7 @@ mod start;
 mod tokens;
 mod words;
 
-pub use acts::says_message;
+pub use acts::{printed_message, says_message};
 pub use event::{BadMessage, BadToken, Event};
 pub use event_texts::event_line;
 pub use journal_texts::{TURN_TEXT, done_text, journal_laws, send_text, take_text};

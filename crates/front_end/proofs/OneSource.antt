@@ -129,8 +129,8 @@ lexed_once law text (stopped verdict) (stopped other) one two =
 -- the error that tells a refusal of tokens
 parse_error : grammar.Refusal → ParseError
 parse_error (grammar.unexpected at) = parse.Unexpected at
-parse_error (grammar.too_deep at) = parse.TooDeep
-parse_error (grammar.too_many counted at) = parse.TooMany counted
+parse_error (grammar.too_deep at) = parse.TooDeep at
+parse_error (grammar.too_many counted at) = parse.TooMany counted at
 
 record TellsRefusal (list : List Token) (why : ParseError) : Type 0 where
   refusal : grammar.Refusal
@@ -142,10 +142,10 @@ unfolding parse_error
 tells list parse.OutOfMemory refused not = absurd (not refl)
 tells list (parse.Unexpected at) refused not =
     record { refusal = grammar.unexpected at; refused = refused; told = refl }
-tells list parse.TooDeep refused not =
-    record { refusal = grammar.too_deep refused.0; refused = refused.1; told = refl }
-tells list (parse.TooMany counted) refused not =
-    record { refusal = grammar.too_many counted refused.0; refused = refused.1; told = refl }
+tells list (parse.TooDeep at) refused not =
+    record { refusal = grammar.too_deep at; refused = refused; told = refl }
+tells list (parse.TooMany counted at) refused not =
+    record { refusal = grammar.too_many counted at; refused = refused; told = refl }
 
 parsed_once : GrammarLaws → (list : List Token) → IsOne (Parsed list)
 parsed_once laws list (given first) (given second) one two =

@@ -86,12 +86,12 @@ refused_some list (grammar.unexpected n) refused = (
   (parse.Unexpected n, refused, (λ same. let no = same in cc), refl),
 )
 refused_some list (grammar.too_deep n) refused = (
-  stopped (not_parsed parse.TooDeep),
-  (parse.TooDeep, (n, refused), (λ same. let no = same in cc), refl),
+  stopped (not_parsed (parse.TooDeep n)),
+  (parse.TooDeep n, refused, (λ same. let no = same in cc), refl),
 )
 refused_some list (grammar.too_many counted n) refused = (
-  stopped (not_parsed (parse.TooMany counted)),
-  (parse.TooMany counted, (n, refused), (λ same. let no = same in cc), refl),
+  stopped (not_parsed (parse.TooMany counted n)),
+  (parse.TooMany counted n, refused, (λ same. let no = same in cc), refl),
 )
 
 parsed_by : SomeDraft → (list : List Token) (refusal : Option grammar.Refusal) → refusal_of list ≡ refusal →

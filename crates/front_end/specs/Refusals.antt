@@ -128,8 +128,8 @@ name_of what.Elements = codes "array elements"
 abbrev pub why_not_parsed : ParseError → List ℕ
 why_not_parsed parse.OutOfMemory = codes "no memory"
 why_not_parsed (parse.Unexpected at) = codes "unexpected token " ++ decimal at
-why_not_parsed parse.TooDeep = codes "nested past 64"
-why_not_parsed (parse.TooMany counted) = codes "too many " ++ name_of counted
+why_not_parsed (parse.TooDeep at) = codes "nested past 64"
+why_not_parsed (parse.TooMany counted at) = codes "too many " ++ name_of counted
 
 -- why the names of a program are refused
 abbrev pub why_not_resolved : ResolveError → List ℕ

@@ -140,8 +140,8 @@ fn why_not_parsed(alloc: Global, why: ParseError) -> Result<String, AllocError>
     match why {
         ParseError::OutOfMemory => Err(AllocError),
         ParseError::Unexpected(at) => format!(in alloc; "unexpected token {at}"),
-        ParseError::TooDeep => String::from_str(alloc, "nested past 64"),
-        ParseError::TooMany(what) => {
+        ParseError::TooDeep(_) => String::from_str(alloc, "nested past 64"),
+        ParseError::TooMany(what, _) => {
             let name = name_of(what);
             format!(in alloc; "too many {name}")
         }

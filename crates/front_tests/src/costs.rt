@@ -6,8 +6,8 @@
 use crate::placed_programs::{OWN_HOSTS, checked, hosts_of};
 use crate::tables::column;
 use host_decl::Hosts;
-use js_base::HostId;
-use msg_cost::cost;
+use js_base::{FieldId, HostId, StmtId};
+use msg_cost::{Step, cost, delta};
 use need_labels::{Plan, needs_of};
 use std::alloc::{AllocError, Global};
 use std::process::Abort;
@@ -104,6 +104,18 @@ const LENDING_TWICE: &str = "\
     | The token goes from B to A before it goes to C. So x does not ride: it goes from B to C, there and back 2. The \
     rest is as before: 12.";
 
+/// Moves over the open hosts. A row has what the move adds, the plan before it as above, the program, and the move.
+const MOVES: &str = "\
+    2 | A | AA | int{} c; void main{}() { c = 1; } | field 0 B | A then writes c on B: 2.\n\
+    -2 | B | AA | int{} c; void main{}() { c = 1; } | field 0 A | A wrote c on B: 2.\n\
+    4 | A | AA | int{} c; void main{}() { c = 1; } | statement 1 B | The token goes to B and back: 2. B writes c on \
+    A: 2.\n\
+    -4 | A | AB | int{} c; void main{}() { c = 1; } | statement 1 A | The same the other way.\n\
+    0 | B | AA | int{} c; void main{}() { c = 1; } | statement 1 B | A wrote c on B: 2. Now the token goes to B and \
+    back: 2.\n\
+    12 | A | BBAAA | int{} r; void more{}() { r = r + 1; } void main{}() { while (r < 2) { more(); } } | field 0 B \
+    | The body reads and writes r without a message, which was 4. The guard reads r of B, 8 times: 16.";
+
 /// The hosts of letters, in their order.
 fn placed(alloc: Global, letters: &str) -> Result<Vec<HostId>, AllocError> {
     let mut hosts = Vec::new(alloc);
@@ -111,6 +123,32 @@ fn placed(alloc: Global, letters: &str) -> Result<Vec<HostId>, AllocError> {
         hosts.push(HostId(letter.wrapping_sub(b'A')))?;
     }
     Ok(hosts)
+}
+
+/// The move that a text says: a field or a statement by its number, and the letter of its host.
+fn step_of(text: &str) -> Result<Step, Fail> {
+    let mut words = text.split_ascii_whitespace();
+    let kind = words.next().unwrap_or("");
+    let number = words.next().unwrap_or("").parse::<u32>()?;
+    let host = if words.next() == Some("B") {
+        HostId(1)
+    } else {
+        HostId(0)
+    };
+    if kind == "field" {
+        Ok(Step::Field(FieldId(number), host))
+    } else {
+        Ok(Step::Statement(StmtId(number), host))
+    }
+}
+
+/// What the move of a row adds to the cost of its plan.
+fn delta_of(alloc: Global, hosts: &Hosts, row: &str) -> Result<i64, Fail> {
+    let checked = checked(alloc, column(row, 3), hosts)?;
+    let needs = needs_of(alloc, &checked, hosts.principals())?;
+    let fields = placed(alloc, column(row, 1))?;
+    let plan = Plan::new(fields, placed(alloc, column(row, 2))?);
+    Ok(delta(&checked, &needs, hosts, &plan, step_of(column(row, 4))?))
 }
 
 /// What the program of a row costs under its plan.
@@ -145,4 +183,15 @@ fn lent_tokens_have_their_costs(rt: HostRuntime) -> Result<(), Fail> {
     let alloc = rt.alloc();
     assert_costs(&rt, alloc, LENDING_HOSTS, LENDING_PLANS)?;
     assert_costs(&rt, alloc, TRUSTED_ALONE, LENDING_TWICE)
+}
+
+#[test]
+fn moves_add_what_they_cost(rt: HostRuntime) -> Result<(), Fail> {
+    let alloc = rt.alloc();
+    let hosts = hosts_of(alloc, OPEN_HOSTS)?;
+    for row in MOVES.lines() {
+        let due = column(row, 0).parse::<i64>()?;
+        assert_eq!(rt; delta_of(alloc, &hosts, row)?, due, "at {row}");
+    }
+    Ok(())
 }

@@ -12,59 +12,59 @@ use std::test::Fail;
 /// them, and what one copy more is refused for. In the last two rows there are levels of several kinds: the sign, the
 /// bracket and the parenthesis within, and the blocks around.
 const DEPTHS: &str = "\
-    64 | 1 | TooDeep | void m{}(){x=#(#1#)#;}\n\
-    64 | 1 | TooDeep | void m{}(){x=#a[#1#]#;}\n\
-    64 | 1 | TooDeep | void m{}(){x=#-#1##;}\n\
-    64 | 1 | TooDeep | void m{}(){x=#!#1##;}\n\
-    64 | 1 | TooDeep | void m{}(){x=#declassify(#1#,{})#;}\n\
-    64 | 1 | TooDeep | void m{}(){x=#endorse(#1#,{A:;?:})#;}\n\
-    64 | 1 | TooDeep | void m{}(){#if(1){##}#}\n\
-    64 | 1 | TooDeep | void m{}(){#if(1){}else{##}#}\n\
-    64 | 1 | TooDeep | void m{}(){#while(1){##}#}\n\
-    63 | 1 | TooDeep | void m{}(){if(1){#if(1){#x=1;#}#}}\n\
-    64 | 1 | TooDeep | void m{}(){if(#(#1#)#){}}\n\
-    64 | 1 | TooDeep | void m{}(){while(#-#1##){}}\n\
-    64 | 1 | TooDeep | void m{}(){m(1,#(#1#)#);}\n\
-    64 | 1 | TooDeep | void m{}(){x=m(#a[#1#]#);}\n\
-    64 | 1 | TooDeep | void m{}(){x[#(#1#)#]=1;}\n\
-    64 | 1 | TooDeep | void m{}(){x[1]=#!#1##;}\n\
-    64 | 1 | TooDeep | int{} m{}(){return #(#1#)#;}\n\
-    64 | 1 | TooDeep | void m{}(){int x=(1)+#(#1#)#;}\n\
-    61 | 1 | TooDeep | void m{}(){x=-a[(#(#1#)#)];}\n\
-    61 | 1 | TooDeep | void m{}(){if(1){while(1){x=declassify(#-#1##,{});}}}";
+    64 | 1 | TooDeep(73) | void m{}(){x=#(#1#)#;}\n\
+    64 | 1 | TooDeep(138) | void m{}(){x=#a[#1#]#;}\n\
+    64 | 1 | TooDeep(73) | void m{}(){x=#-#1##;}\n\
+    64 | 1 | TooDeep(73) | void m{}(){x=#!#1##;}\n\
+    64 | 1 | TooDeep(137) | void m{}(){x=#declassify(#1#,{})#;}\n\
+    64 | 1 | TooDeep(137) | void m{}(){x=#endorse(#1#,{A:;?:})#;}\n\
+    64 | 1 | TooDeep(331) | void m{}(){#if(1){##}#}\n\
+    64 | 1 | TooDeep(523) | void m{}(){#if(1){}else{##}#}\n\
+    64 | 1 | TooDeep(331) | void m{}(){#while(1){##}#}\n\
+    63 | 1 | TooDeep(331) | void m{}(){if(1){#if(1){#x=1;#}#}}\n\
+    64 | 1 | TooDeep(73) | void m{}(){if(#(#1#)#){}}\n\
+    64 | 1 | TooDeep(73) | void m{}(){while(#-#1##){}}\n\
+    64 | 1 | TooDeep(75) | void m{}(){m(1,#(#1#)#);}\n\
+    64 | 1 | TooDeep(140) | void m{}(){x=m(#a[#1#]#);}\n\
+    64 | 1 | TooDeep(73) | void m{}(){x[#(#1#)#]=1;}\n\
+    64 | 1 | TooDeep(76) | void m{}(){x[1]=#!#1##;}\n\
+    64 | 1 | TooDeep(74) | int{} m{}(){return #(#1#)#;}\n\
+    64 | 1 | TooDeep(78) | void m{}(){int x=(1)+#(#1#)#;}\n\
+    61 | 1 | TooDeep(74) | void m{}(){x=-a[(#(#1#)#)];}\n\
+    61 | 1 | TooDeep(82) | void m{}(){if(1){while(1){x=declassify(#-#1##,{});}}}";
 
 /// The same, of what is counted.
 const COUNTS: &str = "\
-    256 | 0 | TooMany(Fields) | #int{} f;###\n\
-    256 | 0 | TooMany(Fields) | #int{} f[1];###\n\
-    256 | 0 | TooMany(Fields) | #int{} f=-1;###\n\
-    128 | 0 | TooMany(Methods) | #void m{}(){}###\n\
-    128 | 0 | TooMany(Methods) | #int{} m{}(){}###\n\
-    7 | 0 | TooMany(Parameters) | void m{}(int{} a#,int{} b###){}\n\
-    256 | 0 | TooMany(Locals) | void m{}(){#int x=1;###}\n\
-    254 | 0 | TooMany(Locals) | void m{}(int{} a,int{} b){#int x=1;###}\n\
-    4094 | 0 | TooMany(Statements) | void m{}(){}void n{}(){#m();###}\n\
-    4095 | 0 | TooMany(Statements) | void m{}(){#x=1;###}\n\
-    4094 | 0 | TooMany(Statements) | void m{}(){#m();###return 1;}\n\
-    127 | 0 | TooMany(Nodes) | void m{}(){x=-1#+1###;}\n\
-    254 | 0 | TooMany(Nodes) | void m{}(){m(1,2#,1###);}\n\
-    255 | 0 | TooMany(Nodes) | void m{}(){x=m(1#,1###);}\n\
-    84 | 0 | TooMany(Nodes) | void m{}(){x[1]=2#+a[1]###;}\n\
-    127 | 0 | TooMany(Nodes) | void m{}(){if(-1#*2###){}}\n\
-    127 | 0 | TooMany(Nodes) | void m{}(){x=1+1;x=-1#+1###;}\n\
-    4 | 0 | TooMany(Elements) | #int{} f[65536];###\n\
-    3 | 0 | TooMany(Elements) | int{} a[65535];int{} b;#int{} f[65536];###";
+    256 | 0 | TooMany(Fields, 1284) | #int{} f;###\n\
+    256 | 0 | TooMany(Fields, 2052) | #int{} f[1];###\n\
+    256 | 0 | TooMany(Fields, 2052) | #int{} f=-1;###\n\
+    128 | 0 | TooMany(Methods, 1024) | #void m{}(){}###\n\
+    128 | 0 | TooMany(Methods, 1284) | #int{} m{}(){}###\n\
+    7 | 0 | TooMany(Parameters, 45) | void m{}(int{} a#,int{} b###){}\n\
+    256 | 0 | TooMany(Locals, 1287) | void m{}(){#int x=1;###}\n\
+    254 | 0 | TooMany(Locals, 1286) | void m{}(int{} a,int{} b){#int x=1;###}\n\
+    4094 | 0 | TooMany(Statements, 16391) | void m{}(){}void n{}(){#m();###}\n\
+    4095 | 0 | TooMany(Statements, 16387) | void m{}(){#x=1;###}\n\
+    4094 | 0 | TooMany(Statements, 16387) | void m{}(){#m();###return 1;}\n\
+    127 | 0 | TooMany(Nodes, 265) | void m{}(){x=-1#+1###;}\n\
+    254 | 0 | TooMany(Nodes, 521) | void m{}(){m(1,2#,1###);}\n\
+    255 | 0 | TooMany(Nodes, 523) | void m{}(){x=m(1#,1###);}\n\
+    84 | 0 | TooMany(Nodes, 436) | void m{}(){x[1]=2#+a[1]###;}\n\
+    127 | 0 | TooMany(Nodes, 265) | void m{}(){if(-1#*2###){}}\n\
+    127 | 0 | TooMany(Nodes, 271) | void m{}(){x=1+1;x=-1#+1###;}\n\
+    4 | 0 | TooMany(Elements, 37) | #int{} f[65536];###\n\
+    3 | 0 | TooMany(Elements, 42) | int{} a[65535];int{} b;#int{} f[65536];###";
 
 /// Counts of copies of the second part and of the fourth, and what comes where two limits are passed at once, or a
 /// limit and a token that is not due. In the first four rows both come at one token: methods before statements,
 /// statements before locals, fields before elements, and nesting first. The last three show that a limit is passed by
 /// what is due alone.
 const PAIRS: &str = "\
-    127 | 3968 | TooMany(Methods) | #void m{}(){}#void m{}(){#x=1;#}void\n\
-    256 | 3839 | TooMany(Statements) | void m{}(){#int x=1;##x=1;#int\n\
-    252 | 0 | TooMany(Fields) | int{} f[65536];int{} f[65536];int{} f[65536];int{} f[65284];#int{} f;#int{} f;##\n\
-    127 | 64 | TooDeep | void m{}(){x=1#+1#+#(#-\n\
-    127 | 64 | TooMany(Nodes) | void m{}(){x=1#+1#+#(#1\n\
+    127 | 3968 | TooMany(Methods, 16896) | #void m{}(){}#void m{}(){#x=1;#}void\n\
+    256 | 3839 | TooMany(Statements, 16643) | void m{}(){#int x=1;##x=1;#int\n\
+    252 | 0 | TooMany(Fields, 1296) | int{} f[65536];int{} f[65536];int{} f[65536];int{} f[65284];#int{} f;#int{} f;##\n\
+    127 | 64 | TooDeep(329) | void m{}(){x=1#+1#+#(#-\n\
+    127 | 64 | TooMany(Nodes, 329) | void m{}(){x=1#+1#+#(#1\n\
     127 | 0 | Unexpected(265) | void m{}(){x=1#+1#+;##\n\
     64 | 0 | Unexpected(73) | void m{}(){x=#(#)##";
 

@@ -79,7 +79,7 @@ size_taken size some next counted =
 
 -- a size within the limit fits 32 bits
 pub size_fits : {old a : Cursor} {error : ParseError} (size : ℕ) → ARRAY_SIZE < size →
-    Counted old a 0 (marks.elements size) → error ≡ fault.TooMany Elements → FailsSize old error
+    Counted old a 0 (marks.elements size) → error ≡ fault.TooMany Elements old.at → FailsSize old error
 size_fits {old} size large counted tells = record {
   why = inr (too_many Elements old.at, tells, λ later t is. absurd (omega (arith, (counted.counted t is).largest)));
 }

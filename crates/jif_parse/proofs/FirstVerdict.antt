@@ -46,8 +46,8 @@ found {start} {made} tokens starts accepted spelled read =
 by_refusal : (tokens : List Token) (error : ParseError) (refusal : Refusal) → IsErrorOf refusal error →
     IsRefused tokens refusal → IsRefusedBy tokens error
 by_refusal tokens error (unexpected n) is refused = subst (IsRefusedBy tokens) (sym is) refused
-by_refusal tokens error (too_deep n) is refused = subst (IsRefusedBy tokens) (sym is) (n, refused)
-by_refusal tokens error (too_many what n) is refused = subst (IsRefusedBy tokens) (sym is) (n, refused)
+by_refusal tokens error (too_deep n) is refused = subst (IsRefusedBy tokens) (sym is) refused
+by_refusal tokens error (too_many what n) is refused = subst (IsRefusedBy tokens) (sym is) refused
 
 pub refused_by : {start : Cursor} {error : ParseError} (tokens : List Token) → Starts start tokens →
     ((refusal : Refusal) → refusal_of tokens ≡ Some refusal → IsRefused tokens refusal) → FailsWhole start error →

@@ -9,8 +9,6 @@ use Rattle.jif_grammar.specs.Verdicts.{of_count, excess}
 use Rattle.jif_parse.specs.declared.counts.Begins.{Begins}
 use Rattle.jif_parse.specs.declared.counts.Begins.TheVariants as begins
 use Rattle.jif_parse.specs.declared.counts.Counts.{Counts}
-use Rattle.jif_parse.specs.declared.parse_error.ParseError.{ParseError}
-use Rattle.jif_parse.specs.declared.parse_error.ParseError.TheVariants as fault
 
 -- The counts are those of the tally, and within their limits. Of the tally's nesting nothing is said, since each token
 -- has its own.
@@ -47,9 +45,8 @@ beginning_of begins.Arguments = marks.arguments
 abbrev pub HasCounted : Counts → Counts → Beginning → Type 0
 HasCounted old new beginning = (t : Tally) → IsTally old t → IsTally new (after_beginning t beginning)
 
--- one more of what begins passes the limit that the error tells
-abbrev pub IsPast : Counts → Beginning → ParseError → Type 0
-IsPast old beginning error =
-    (what : What) × (error ≡ fault.TooMany what)
-    × ((t : Tally) (nesting : ℕ) → IsTally old t → nesting ≤ NESTING →
-    excess (record (after_beginning t beginning) { nesting = nesting }) ≡ Some (of_count what))
+-- one more of what begins passes this limit
+abbrev pub IsPast : Counts → Beginning → What → Type 0
+IsPast old beginning what =
+    (t : Tally) (nesting : ℕ) → IsTally old t → nesting ≤ NESTING →
+    excess (record (after_beginning t beginning) { nesting = nesting }) ≡ Some (of_count what)

@@ -1,7 +1,7 @@
 -- The refusals that the parser tells.
 --
--- `TooDeep` and `TooMany` say no token. A user is told what there is too much of. The contract of `parse` says that
--- there is such a token, and which refusals come before it.
+-- Each names its token. Which refusal comes where tokens have several is said by the grammar: that of the first token,
+-- and of two at one token the limit of nesting before that of a count.
 use Rattle.std.specs.Prelude.{ℕ, List, ⊤}
 use Rattle.jif_lex.specs.declared.token.Token.{Token}
 use Rattle.jif_grammar.specs.Programs.{IsRefused, unexpected, too_deep, too_many}
@@ -12,5 +12,5 @@ use Rattle.jif_parse.specs.declared.parse_error.ParseError.TheVariants.{OutOfMem
 abbrev pub IsRefusedBy : List Token → ParseError → Type 0
 IsRefusedBy tokens OutOfMemory = ⊤
 IsRefusedBy tokens (Unexpected n) = IsRefused tokens (unexpected n)
-IsRefusedBy tokens TooDeep = (n : ℕ) × IsRefused tokens (too_deep n)
-IsRefusedBy tokens (TooMany what) = (n : ℕ) × IsRefused tokens (too_many what n)
+IsRefusedBy tokens (TooDeep n) = IsRefused tokens (too_deep n)
+IsRefusedBy tokens (TooMany what n) = IsRefused tokens (too_many what n)

@@ -73,8 +73,8 @@ Refuses old due refusal =
 -- the refusal that an error tells, and which no want of memory is
 abbrev pub IsErrorOf : Refusal → ParseError → Type 0
 IsErrorOf (unexpected n) error = error ≡ fault.Unexpected n
-IsErrorOf (too_deep n) error = error ≡ fault.TooDeep
-IsErrorOf (too_many what n) error = error ≡ fault.TooMany what
+IsErrorOf (too_deep n) error = error ≡ fault.TooDeep n
+IsErrorOf (too_many what n) error = error ≡ fault.TooMany what n
 
 -- memory ran out, or the tokens are refused
 pub record Fails (old : Cursor) (due : List Nested) (error : ParseError) : Type 0 where

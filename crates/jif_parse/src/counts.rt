@@ -5,7 +5,6 @@ ghost use Rattle.jif_grammar.specs.Marks.{node, statement, local, parameter, met
 ghost use Rattle.jif_grammar.specs.Marks.{tally_at_start};
 ghost use Rattle.jif_parse.specs.Counting.{beginning_of, HasCounted, IsPast, IsTally};
 
-use crate::ParseError;
 use jif_grammar::What;
 use js_base::limits::{
     ARRAY_SIZE, ELEMENTS, EXPRESSION_NODES, FIELDS, METHODS, PARAMETERS, STATEMENTS, VARIABLES,
@@ -62,7 +61,7 @@ impl Counts {
     }
 
     /// With one more of this, or the first limit that it passes.
-    pub fn with(self, begins: Begins) -> Result<Counts, ParseError>
+    pub fn with(self, begins: Begins) -> Result<Counts, What>
         ensures counted { IfOk result (λ more. HasCounted self more (beginning_of begins)) }
         ensures past { IfErr result (IsPast self (beginning_of begins)) }
     {
@@ -80,12 +79,12 @@ impl Counts {
         }
     }
 
-    fn with_node(self) -> Result<Counts, ParseError>
+    fn with_node(self) -> Result<Counts, What>
         ensures counted { IfOk result (λ more. HasCounted self more node) }
         ensures past { IfErr result (IsPast self node) }
     {
         if self.nodes >= EXPRESSION_NODES {
-            return Err(ParseError::TooMany(What::Nodes));
+            return Err(What::Nodes);
         }
         Ok(Counts {
             nodes: self.nodes + 1,
@@ -93,12 +92,12 @@ impl Counts {
         })
     }
 
-    fn with_statement(self) -> Result<Counts, ParseError>
+    fn with_statement(self) -> Result<Counts, What>
         ensures counted { IfOk result (λ more. HasCounted self more statement) }
         ensures past { IfErr result (IsPast self statement) }
     {
         if self.statements >= STATEMENTS {
-            return Err(ParseError::TooMany(What::Statements));
+            return Err(What::Statements);
         }
         Ok(Counts {
             statements: self.statements + 1,
@@ -107,15 +106,15 @@ impl Counts {
         })
     }
 
-    fn with_local(self) -> Result<Counts, ParseError>
+    fn with_local(self) -> Result<Counts, What>
         ensures counted { IfOk result (λ more. HasCounted self more local) }
         ensures past { IfErr result (IsPast self local) }
     {
         if self.statements >= STATEMENTS {
-            return Err(ParseError::TooMany(What::Statements));
+            return Err(What::Statements);
         }
         if self.variables >= VARIABLES {
-            return Err(ParseError::TooMany(What::Locals));
+            return Err(What::Locals);
         }
         Ok(Counts {
             statements: self.statements + 1,
@@ -125,15 +124,15 @@ impl Counts {
         })
     }
 
-    fn with_parameter(self) -> Result<Counts, ParseError>
+    fn with_parameter(self) -> Result<Counts, What>
         ensures counted { IfOk result (λ more. HasCounted self more parameter) }
         ensures past { IfErr result (IsPast self parameter) }
     {
         if self.parameters >= PARAMETERS {
-            return Err(ParseError::TooMany(What::Parameters));
+            return Err(What::Parameters);
         }
         if self.variables >= VARIABLES {
-            return Err(ParseError::TooMany(What::Locals));
+            return Err(What::Locals);
         }
         Ok(Counts {
             parameters: self.parameters + 1,
@@ -142,15 +141,15 @@ impl Counts {
         })
     }
 
-    fn with_method(self) -> Result<Counts, ParseError>
+    fn with_method(self) -> Result<Counts, What>
         ensures counted { IfOk result (λ more. HasCounted self more method) }
         ensures past { IfErr result (IsPast self method) }
     {
         if self.methods >= METHODS {
-            return Err(ParseError::TooMany(What::Methods));
+            return Err(What::Methods);
         }
         if self.statements >= STATEMENTS {
-            return Err(ParseError::TooMany(What::Statements));
+            return Err(What::Statements);
         }
         Ok(Counts {
             methods: self.methods + 1,
@@ -162,15 +161,15 @@ impl Counts {
         })
     }
 
-    fn with_plain_field(self) -> Result<Counts, ParseError>
+    fn with_plain_field(self) -> Result<Counts, What>
         ensures counted { IfOk result (λ more. HasCounted self more plain_field) }
         ensures past { IfErr result (IsPast self plain_field) }
     {
         if self.fields >= FIELDS {
-            return Err(ParseError::TooMany(What::Fields));
+            return Err(What::Fields);
         }
         if self.elements >= ELEMENTS {
-            return Err(ParseError::TooMany(What::Elements));
+            return Err(What::Elements);
         }
         Ok(Counts {
             fields: self.fields + 1,
@@ -179,12 +178,12 @@ impl Counts {
         })
     }
 
-    fn with_array(self) -> Result<Counts, ParseError>
+    fn with_array(self) -> Result<Counts, What>
         ensures counted { IfOk result (λ more. HasCounted self more array) }
         ensures past { IfErr result (IsPast self array) }
     {
         if self.fields >= FIELDS {
-            return Err(ParseError::TooMany(What::Fields));
+            return Err(What::Fields);
         }
         Ok(Counts {
             fields: self.fields + 1,
@@ -192,16 +191,16 @@ impl Counts {
         })
     }
 
-    fn with_elements(self, size: u64) -> Result<Counts, ParseError>
+    fn with_elements(self, size: u64) -> Result<Counts, What>
         ensures counted { IfOk result (λ more. HasCounted self more (elements size)) }
         ensures past { IfErr result (IsPast self (elements size)) }
     {
         if size > u64::from(ARRAY_SIZE) {
-            return Err(ParseError::TooMany(What::Elements));
+            return Err(What::Elements);
         }
         let size = size as u32;
         if self.elements > ELEMENTS || ELEMENTS - self.elements < size {
-            return Err(ParseError::TooMany(What::Elements));
+            return Err(What::Elements);
         }
         Ok(Counts {
             elements: self.elements + size,

@@ -90,11 +90,15 @@ impl<'a> Cursor<'a> {
         ensures over { IfErr result (IsOver self.old nesting (beginning_of begins)) }
     {
         if nesting > NESTING {
-            return Err(ParseError::TooDeep);
+            return Err(ParseError::TooDeep(self.at));
         }
-        let counts = self.counts.with(begins)?;
-        self.pass_with(counts);
-        Ok(())
+        match self.counts.with(begins) {
+            Ok(counts) => {
+                self.pass_with(counts);
+                Ok(())
+            }
+            Err(what) => Err(ParseError::TooMany(what, self.at)),
+        }
     }
 
     /// Steps behind this symbol, which is due.

@@ -69,9 +69,10 @@ fn size(cursor: &mut Cursor) -> Result<u32, ParseError>
     if number == 0 {
         return Err(cursor.unexpected());
     }
+    let at = cursor.at;
     cursor.take(0, Begins::Elements(number))?;
     let Ok(size) = u32::try_from(number) else {
-        return Err(ParseError::TooMany(What::Elements));
+        return Err(ParseError::TooMany(What::Elements, at));
     };
     cursor.expect(Symbol::RightBracket)?;
     cursor.expect(Symbol::Semicolon)?;

@@ -13,12 +13,12 @@ pub enum ParseError {
     /// The number of the first token, from 0, with which no program goes on, or of all tokens where they end too early.
     #[error("unexpected token {0}")]
     Unexpected(u32),
-    /// Constructs are nested past 64.
+    /// Constructs are nested past 64: the number of the first token at which more are open.
     #[error("nested past 64")]
-    TooDeep,
-    /// There are too many of something.
+    TooDeep(u32),
+    /// There are too many of something: the number of the first token at which it is certain that one more has begun.
     #[error("too many {0:?}")]
-    TooMany(What),
+    TooMany(What, u32),
 }
 
 impl From<OutOfMemory> for ParseError {

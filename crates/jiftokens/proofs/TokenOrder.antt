@@ -5,9 +5,9 @@ use Rattle.std.proofs.lemmas.List.{append-nil, append_assoc, length-append, leng
 use Rattle.jif_lex.specs.declared.token.Token.{Token}
 use Rattle.jif_lex.specs.Spelled.{kind_text}
 use Rattle.jif_lex.specs.Tokens.{Piece, skipped, lexeme, CutsTo, ReadsAs, tokens, tokens_of, line_feeds}
-use Rattle.jiftokens.specs.declared.places.Place.{Place}
+use Rattle.text_places.specs.declared.places.Place.{Place}
 use Rattle.jiftokens.specs.Listing.{row_text, token_rows}
-use Rattle.jiftokens.specs.Places.{column_behind, line_behind}
+use Rattle.text_places.specs.Places.{column_behind, line_behind}
 
 -- each token stands at or behind the place of the one before, and the last place is in the text or at its end
 abbrev pub AreInOrder : ℕ → ℕ → List Token → Type 0

@@ -11,7 +11,7 @@ use Rattle.js_base.specs.declared.status.Status.TheVariants as status
 use Rattle.jif_lex.specs.declared.token.Token.{Token}
 use Rattle.jif_lex.specs.Tokens.{ReadsAs, tokens, bad_byte, bad_number}
 use Rattle.jiftokens.specs.Listing.{listing}
-use Rattle.jiftokens.specs.Places.{place_text}
+use Rattle.text_places.specs.Places.{place_text}
 
 -- a listing on the output, or a line on the error output with the status of a refusal
 pub data Shape : Type 0 where

@@ -1,4 +1,3 @@
-pub mod Places
 pub mod Listing
 pub mod Answers
 pub mod Shapes

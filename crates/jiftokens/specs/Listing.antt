@@ -4,7 +4,7 @@ use Rattle.std.specs.Fmt.{decimal}
 use Rattle.js_base.specs.declared.text.TheConstants.{LINE_FEED}
 use Rattle.jif_lex.specs.declared.token.Token.{Token}
 use Rattle.jif_lex.specs.Spelled.{kind_text}
-use Rattle.jiftokens.specs.Places.{place_text}
+use Rattle.text_places.specs.Places.{place_text}
 
 -- `N line L column C WHAT` and a line feed, for what stands at a place of the text
 abbrev pub row_text : List ℕ → ℕ → ℕ → List ℕ → List ℕ

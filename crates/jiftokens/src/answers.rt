@@ -11,11 +11,11 @@ ghost use Rattle.jiftokens.specs.Answers.{refused_at};
 ghost use Rattle.jiftokens.specs.Shapes.{answer_shape};
 
 use crate::listing::listing;
-use crate::places::Place;
 use jif_lex::{LexError, lex, reading_laws};
 use js_base::limits::PROGRAM_BYTES;
 use js_base::{Files, LoadError, OutOfMemory, PutError, Sink, Status};
 use std::alloc::Global;
+use text_places::Place;
 
 /// What is due: a listing on the output, or a refusal with its line on the error output.
 #[derive(Drop)]

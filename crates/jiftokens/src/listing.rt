@@ -6,14 +6,13 @@ ghost use Rattle.js_base.specs.declared.limits.TheConstants.{PROGRAM_BYTES};
 ghost use Rattle.jif_lex.specs.Spelled.{kind_text};
 ghost use Rattle.jif_lex.specs.Tokens as reading;
 ghost use Rattle.jiftokens.specs.Listing.{listing, row_text};
-ghost use Rattle.jiftokens.specs.Places.{column_behind, line_behind};
+ghost use Rattle.text_places.specs.Places.{column_behind, line_behind};
 
-use crate::places::Place;
-use crate::spelling::push_kind;
 use jif_lex::Token;
 use js_base::OutOfMemory;
 use std::alloc::Global;
 use std::fmt::Write;
+use text_places::{Place, push_kind};
 
 /// The rows of the tokens of a text, and one for its end.
 pub fn listing(alloc: Global, text: &[u8], tokens: &[Token]) -> Result<String, OutOfMemory>

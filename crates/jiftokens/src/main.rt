@@ -4,8 +4,6 @@
 
 mod answers;
 mod listing;
-mod places;
-mod spelling;
 
 use answers::jiftokens;
 use command_words::words;

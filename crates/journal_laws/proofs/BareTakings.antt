@@ -12,6 +12,7 @@ use Rattle.host_code.specs.declared.message.Message.TheVariants as message
 use Rattle.host_code.specs.Thread.{ThreadShape, WaitingShape, Awaited}
 use Rattle.host_code.specs.Thread.Awaited.{value_of_field, acknowledgement, token_of_entry}
 use Rattle.host_code.specs.Code.{CodeShape, entry_at}
+use Rattle.host_code.specs.MessageText.{message_text}
 use Rattle.host_core.specs.Awaiting.{awaits}
 use Rattle.host_core.specs.Host.{HostShape, after_push, with_row_written}
 use Rattle.host_core.specs.Host.{with_temporary, with_token, with_variable_set, with_variables_set}
@@ -30,7 +31,7 @@ prefix_bare awaited request from [] = refl
 prefix_bare awaited request from (first ∷ others) =
     ap (λ count. cond (not (awaits awaited request from first)) (1 + count) 0) (prefix_bare awaited request from others)
 
-position_bare : (awaited : Awaited) (request : RequestId) (from : HostId) (waiting : List WaitingShape) →
+pub position_bare : (awaited : Awaited) (request : RequestId) (from : HostId) (waiting : List WaitingShape) →
     position (awaits awaited request from) (map bare_waiting waiting) ≡ position (awaits awaited request from) waiting
 position_bare awaited request from waiting =
     rw (prefix_bare awaited request from waiting) (rw (length-map waiting bare_waiting) refl)
@@ -95,3 +96,17 @@ takes_bare code host from (message.Ack request) true =
 takes_bare code host from (message.Token request token) true =
     leaves (answered_bare host token_of_entry request from (with_token (Some (bare_token token)))
     (with_token (Some token)) (λ thread. refl))
+
+-- a message is printed as without its tag
+pub printed_bare : (code : CodeShape) (letter : Message) →
+    message_text code (bare_message letter) ≡ message_text code letter
+printed_bare code (message.Get request field index) = refl
+printed_bare code (message.Set request field index value) = refl
+printed_bare code (message.Forward request frame variable value) = refl
+printed_bare code (message.Sync request frame entry token) = refl
+printed_bare code (message.Rgoto frame entry token) = refl
+printed_bare code (message.RgotoWith frame entry token riders) = refl
+printed_bare code (message.Lgoto token) = refl
+printed_bare code (message.Value request value) = refl
+printed_bare code (message.Ack request) = refl
+printed_bare code (message.Token request token) = refl

@@ -2,3 +2,11 @@ pub mod BareHosts
 pub mod BareTakings
 pub mod BareTurns
 pub mod BareSteps
+pub mod WithoutHalt
+pub mod SameChecks
+pub mod TakenOff
+pub mod CloseJournals
+pub mod PartsAgain
+pub mod SaidMessages
+pub mod AlikeSteps
+pub mod SameFields

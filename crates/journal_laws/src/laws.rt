@@ -1,7 +1,8 @@
 //! Laws of hosts without tags. The calls do nothing: their contracts are the laws.
 
-ghost use Rattle.std.specs.Prelude.{◌≡◌, ◌≢◌, Bool, List, Some, None};
+ghost use Rattle.std.specs.Prelude.{◌≡◌, ◌≢◌, ◌∷◌, [], ℕ, ℤ, Bool, List, Some, None};
 ghost use Rattle.js_base.specs.declared.ids.HostId.{HostId};
+ghost use Rattle.label_lattice.specs.declared.label.Label.{Label};
 ghost use Rattle.capability.specs.declared.token.Token.{Token};
 ghost use Rattle.host_code.specs.declared.instruction.Op.{Op};
 ghost use Rattle.host_code.specs.declared.instruction.Op.TheVariants as op;
@@ -9,14 +10,21 @@ ghost use Rattle.host_code.specs.declared.message.Message.{Message};
 ghost use Rattle.host_code.specs.declared.message.Message.TheVariants as message;
 ghost use Rattle.host_code.specs.Code.{CodeShape, halt};
 ghost use Rattle.host_code.specs.MessageText.{message_text};
+ghost use Rattle.host_code.specs.Sound.{IsHost, IsSoundCode};
 ghost use Rattle.host_code.specs.Riders.{Rider};
 ghost use Rattle.host_code.specs.Thread.{ThreadShape};
 ghost use Rattle.host_core.specs.Host.{HostShape, Outcome, without_message, with_one_ignored};
+ghost use Rattle.host_core.specs.Start.{host_at_start};
 ghost use Rattle.host_core.specs.Taking.{after_taking};
 ghost use Rattle.host_core.specs.Turn.{after_operation};
 ghost use Rattle.journal_laws.specs.Bare.{bare_host, bare_message, bare_outcome, bare_thread};
 ghost use Rattle.journal_laws.specs.BareExamples.{ended, frame, right, stacked, wrong};
-ghost use Rattle.journal_laws.specs.Steps.{Step, takes, IsStep, told_step, bare_step};
+ghost use Rattle.event_text.specs.Words.{Word};
+ghost use Rattle.journal_laws.specs.Plays.{HaveOwnNames, IsJournalOf};
+ghost use Rattle.journal_laws.specs.PlayExamples.{answer, answered, asking, host_b, reading, send_line, take_line};
+ghost use Rattle.journal_laws.specs.PlayExamples.{turn_line, waiting_for};
+ghost use Rattle.journal_laws.specs.ToldPlays.{IsPlayed};
+ghost use Rattle.journal_laws.specs.Steps.{Step, turns, takes, IsStep, told_step, bare_step};
 
 /// What tags may change of a step.
 pub fn bare_laws()
@@ -75,4 +83,38 @@ pub fn bare_examples()
     ensures riding_alike { (riders : List Rider) →
         bare_message (message.RgotoWith frame halt right riders)
         ≡ bare_message (message.RgotoWith frame halt wrong riders) }
+{}
+
+/// What a journal tells of the fields of its host.
+pub fn field_laws()
+    // A journal determines the fields and variables of its host, whatever the key of the host is and whatever tags the
+    // tokens of its messages had.
+    ensures determined { (code : CodeShape) (values : List (List ℤ)) (me : HostId) (key other : List ℕ)
+        (lines : List (List Word)) (steps others : List Step) (last end : HostShape) →
+        IsSoundCode code → HaveOwnNames code → IsHost code me →
+        IsJournalOf code (host_at_start code values key me) lines steps last →
+        IsJournalOf code (host_at_start code values other me) lines others end →
+        (last.rows ≡ end.rows) × (last.variables ≡ end.variables) }
+    // So a host that is played from the journal, under any key, has these fields and variables, whatever it takes open
+    // steps for.
+    ensures played { (code : CodeShape) (values : List (List ℤ)) (me : HostId) (key other : List ℕ)
+        (lines : List (List Word)) (shown : HostShape) (steps : List Step) (last : HostShape) →
+        IsSoundCode code → HaveOwnNames code → IsHost code me →
+        IsPlayed code (host_at_start code values other me) lines shown →
+        IsJournalOf code (host_at_start code values key me) lines steps last →
+        (last.rows ≡ shown.rows) × (last.variables ≡ shown.variables) }
+{}
+
+/// Which journals are those of a host that asks for a field and is answered.
+pub fn play_examples()
+    // Its two steps leave three lines,
+    ensures whole { (label : Label) →
+        IsJournalOf (reading label) asking (turn_line ∷ send_line ∷ take_line ∷ [])
+        (turns ∷ takes host_b answer ∷ []) answered }
+    // the line of what was sent may be missing at the end,
+    ensures cut { (label : Label) →
+        IsJournalOf (reading label) asking (turn_line ∷ []) (turns ∷ []) waiting_for }
+    // and nowhere else.
+    ensures holed { (label : Label) (steps : List Step) (last : HostShape) →
+        ¬ IsJournalOf (reading label) asking (turn_line ∷ take_line ∷ []) steps last }
 {}

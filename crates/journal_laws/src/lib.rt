@@ -3,4 +3,4 @@
 
 mod laws;
 
-pub use laws::{bare_examples, bare_laws};
+pub use laws::{bare_examples, bare_laws, field_laws, play_examples};

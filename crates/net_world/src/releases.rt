@@ -18,7 +18,7 @@ impl World {
     /// instruction where it is a turn that may be seen, and else none. The table is that of the code.
     ///
     /// # Errors
-    /// Memory ran out. Where nothing is released none is taken.
+    /// Memory ran out.
     pub fn releases(
         &self,
         alloc: Global,

@@ -10,7 +10,8 @@ use Rattle.clap.proofs.WalkLemmas.{first_value-rows}
 use Rattle.js_base.proofs.Options.{some_same}
 use Rattle.front_end.proofs.StepCounts.{same_steps}
 use Rattle.front_end.specs.StepCounts.{IsStepCount}
-use Rattle.node_engine.specs.Options.{Asked, Code, IsAsked, IsSource, Program, SourceName, node_command, value_of}
+use Rattle.node_engine.specs.Options.{Asked, IsAsked, IsSource, node_command, value_of}
+use Rattle.node_starts.specs.SourceNames.{Code, Program, SourceName}
 
 -- an error that is no want of memory has a kind that was due
 pub some_kind : (kinds : Kinds) (e : Error) → HasKind kinds e → kind_of e ≢ kind.OutOfMemory → kinds ≢ []

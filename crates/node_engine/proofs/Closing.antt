@@ -1,13 +1,12 @@
 -- The closing frames, one after the other.
-use Rattle.std.proofs.Common.{◌≡◌, ℕ, suc, ◌+◌, ◌-◌, ◌<◌, ◌≤◌, List, ◌++◌, inl, inr}
+use Rattle.std.proofs.Common.{◌≡◌, ℕ, suc, ◌+◌, ◌-◌, ◌<◌, ◌≤◌, ◌++◌, inl, inr}
 use Rattle.std.proofs.Common.{refl, sym, ap, subst, arith}
 use Rattle.std.proofs.lemmas.Bool.Decides.{eqb_tells}
 use Rattle.js_base.specs.declared.ids.HostId.{HostId}
 use Rattle.wire_msg.specs.declared.frame.Frame.TheVariants as frame
 use Rattle.wire_msg.specs.Spelling.{frame_bytes}
 use Rattle.node_engine.specs.declared.node_error.NodeError.{NodeError}
-use Rattle.node_engine.specs.NodeWorlds.{Part}
-use Rattle.node_engine.specs.Seals.{SealsShape, after_sealing}
+use Rattle.node_seals.specs.Seals.{SealsShape, after_sealing}
 use Rattle.node_engine.specs.Serving.{after_telling, closing_from, telling}
 use Rattle.node_engine.specs.Told.{Seen, Does, Stops}
 use Rattle.node_engine.specs.Units.{frame_parts}

@@ -8,10 +8,11 @@ use Rattle.js_base.specs.declared.status.Status.TheVariants as status
 use Rattle.front_end.specs.Loads.{FilesChange, Told as TellsFile}
 use Rattle.front_end.specs.Stages.{Outcome, given, stopped}
 use Rattle.front_end.specs.Verdicts.{VerdictShape}
-use Rattle.node_engine.specs.NodeSources.{ReadyNode}
+use Rattle.node_engine.specs.ReadyNodes.{ReadyNode}
 use Rattle.node_engine.specs.Nodes.{End, HoldsNode, IsComplete, IsNodeDue, LoadedNode, NodeAnswer, OptionsAnswer}
 use Rattle.node_engine.specs.Nodes.{HoldsKeys, TellsKeys, files_of}
-use Rattle.node_engine.specs.Options.{Asked, IsAsked, name_of}
+use Rattle.node_engine.specs.Options.{Asked, IsAsked}
+use Rattle.node_starts.specs.SourceNames.{name_of}
 use Rattle.node_engine.specs.Statuses.{IsEnded, IsServed}
 use Rattle.node_engine.specs.Told.{Faults, Names, NodeChange, Outside}
 use Rattle.node_engine.proofs.Ends.{node_served}

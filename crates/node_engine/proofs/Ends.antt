@@ -17,7 +17,7 @@ use Rattle.node_engine.specs.Nodes.{End, IsEndOf, IsNodeDue, OptionsAnswer, Runs
 use Rattle.node_engine.specs.Nodes.{inside_at_start}
 use Rattle.node_engine.specs.NodeWorlds.{Inside}
 use Rattle.node_engine.specs.Options.{Asked}
-use Rattle.node_engine.specs.NodeSources.{ReadyNode}
+use Rattle.node_engine.specs.ReadyNodes.{ReadyNode}
 use Rattle.node_engine.specs.Statuses.{IsServed}
 use Rattle.node_engine.specs.Told.{Faults, Leaves, Names, NodeChange, Outside, ServesFrom}
 

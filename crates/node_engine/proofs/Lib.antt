@@ -4,15 +4,12 @@ pub mod Closing
 pub mod Complete
 pub mod Ends
 pub mod Fronts
-pub mod KeyLines
 pub mod LoadedNodes
-pub mod NodeStages
 pub mod Noting
 pub mod OneNode
 pub mod OneUnit
 pub mod OnlyRefusals
 pub mod Ready
-pub mod Rows
 pub mod SealedFrames
 pub mod Sealing
 pub mod Served

@@ -14,15 +14,18 @@ use Rattle.front_end.proofs.LoadedFiles.{given_file}
 use Rattle.front_end.proofs.Stages.{stops_weaker}
 use Rattle.front_end.proofs.Stops.{GivesAsked}
 use Rattle.node_engine.specs.declared.node_files.ReadyNode as native_ready
-use Rattle.node_engine.specs.declared.seals_file.TheConstants.{SEALS_BYTES}
+use Rattle.node_seals.specs.declared.seals_file.TheConstants.{SEALS_BYTES}
 use Rattle.front_end.specs.Verdicts.{VerdictShape}
-use Rattle.node_engine.specs.declared.seals_file.SealsError.{SealsError}
-use Rattle.node_engine.specs.declared.seals_file.SealsError.TheVariants as error
-use Rattle.node_engine.specs.Seals.{SealsShape}
-use Rattle.node_engine.specs.SealsFile.{seals_of}
-use Rattle.node_engine.specs.NodeSources.{NodeStart, NodeStarts, ReadyNode, Sealed, SealedBy, ready_node}
-use Rattle.node_engine.specs.Nodes.{IsNodeDue, TellsKeys, most_of}
-use Rattle.node_engine.specs.Options.{Asked, name_of}
+use Rattle.node_seals.specs.declared.seals_file.SealsError.{SealsError}
+use Rattle.node_seals.specs.declared.seals_file.SealsError.TheVariants as error
+use Rattle.node_seals.specs.Seals.{SealsShape}
+use Rattle.node_seals.specs.SealsFile.{seals_of}
+use Rattle.node_starts.specs.NodeSources.{NodeStart}
+use Rattle.node_engine.specs.ReadyNodes.{NodeStarts, ReadyNode, Sealed, SealedBy, ready_node}
+use Rattle.node_engine.specs.Nodes.{IsNodeDue, TellsKeys}
+use Rattle.node_starts.specs.SourceNames.{most_of}
+use Rattle.node_engine.specs.Options.{Asked}
+use Rattle.node_starts.specs.SourceNames.{name_of}
 
 -- ---- files that were loaded
 

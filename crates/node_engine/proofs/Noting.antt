@@ -10,8 +10,8 @@ use Rattle.host_code.specs.declared.message.Message.{Message}
 use Rattle.host_code.specs.Code.{CodeShape}
 use Rattle.host_code.specs.Thread.{ThreadShape}
 use Rattle.host_core.specs.Host.{HostShape, Outcome}
-use Rattle.node_engine.specs.declared.arrivals.Arrival.{Arrival}
-use Rattle.node_engine.specs.declared.arrivals.Arrival.TheVariants as arrival
+use Rattle.node_seals.specs.declared.arrivals.Arrival.{Arrival}
+use Rattle.node_seals.specs.declared.arrivals.Arrival.TheVariants as arrival
 use Rattle.node_engine.specs.declared.node_error.NodeError.{NodeError}
 use Rattle.node_engine.specs.declared.node_error.NodeError.TheVariants as node_error
 use Rattle.node_engine.specs.JournalLines.{turn_line}
@@ -19,7 +19,7 @@ use Rattle.node_engine.specs.NodeWorlds.{Inside, NodeWorld, Part, Taking, Openin
 use Rattle.node_engine.specs.NodeWorlds.{Sending, do_part, do_all, Breaks, BreaksIn, inside_of}
 use Rattle.node_engine.specs.Notes.{HostStep, IsHostStep, IsNoted, IsPartOfLine, Makes, Note, note_line, note_lines}
 use Rattle.node_engine.specs.Notes.{done, dropped, sent, steps_told, step_told, take_from, took, turn, turned}
-use Rattle.node_engine.specs.Seals.{Opened, SealsShape, as_they_are, refused, unsealed, string_for}
+use Rattle.node_seals.specs.Seals.{Opened, SealsShape, as_they_are, refused, unsealed, string_for}
 use Rattle.node_engine.specs.Serving.{Closes, EndsAt, Serves, Stage, after_telling, closing_from, closing_parts, stage_of}
 use Rattle.node_engine.specs.Serving.{is_told, halts, goes_on, telling}
 use Rattle.node_engine.specs.Units.{AreArrivalParts, AreTakingParts, AreUnitPartsOf}

@@ -9,12 +9,12 @@ use Rattle.host_core.proofs.OneOutcome.{one_taking, one_turn_of}
 use Rattle.wire_msg.specs.declared.error.WireError.{WireError}
 use Rattle.wire_msg.specs.declared.frame.Frame.{Frame}
 use Rattle.wire_msg.specs.Reading.{reading_of}
-use Rattle.node_engine.specs.declared.arrivals.Arrival.{Arrival}
-use Rattle.node_engine.specs.declared.arrivals.Arrival.TheVariants as arrival
-use Rattle.node_engine.specs.Arrivals.{ArrivesAs, ArrivesFrom, ArrivesOpened}
+use Rattle.node_seals.specs.declared.arrivals.Arrival.{Arrival}
+use Rattle.node_seals.specs.declared.arrivals.Arrival.TheVariants as arrival
+use Rattle.node_seals.specs.Arrivals.{ArrivesAs, ArrivesFrom, ArrivesOpened}
 use Rattle.node_engine.specs.JournalLines.{take_line, turn_line}
 use Rattle.node_engine.specs.NodeWorlds.{Inside, NodeWorld, Part, Taking, inside_of}
-use Rattle.node_engine.specs.Seals.{Opened, as_they_are, refused, unsealed, opened_of}
+use Rattle.node_seals.specs.Seals.{Opened, as_they_are, refused, unsealed, opened_of}
 use Rattle.node_engine.specs.Units.{AreArrivalParts, AreTakingParts, AreTurnParts, AreUnitParts, AreUnitPartsOf}
 use Rattle.node_engine.specs.Units.{inside_opened, opening_parts, step_parts}
 

@@ -1,26 +1,25 @@
 -- What is sent and taken under seals.
-use Rattle.std.proofs.Common.{◌≡◌, ◌≢◌, ◌∙◌, ℕ, zero, suc, ◌+◌, ◌<◌, ◌≤◌, Bool, true, false, List, [], ◌∷◌, length}
+use Rattle.std.proofs.Common.{◌≡◌, ◌∙◌, ℕ, zero, suc, ◌+◌, ◌<◌, ◌≤◌, Bool, true, false, List, length}
 use Rattle.std.proofs.Common.{if◌then◌else◌, Option, Some, None, Result, Ok, Err, refl, sym, ap, subst, arith, inl, inr}
 use Rattle.std.specs.Prelude.{nat_lt, slice_get, slice_set}
 use Rattle.std.specs.Option.{option_map}
-use Rattle.std.proofs.lemmas.Bool.{cases_eq, false≢true}
+use Rattle.std.proofs.lemmas.Bool.{cases_eq}
 use Rattle.std.proofs.lemmas.List.{get_or-set_same, length-set}
 use Rattle.std.proofs.lemmas.Option.{slice_get-get_or, slice_get_within}
-use Rattle.byte_format.specs.Numbers.{AreBytes, number_bytes}
+use Rattle.byte_format.specs.Numbers.{number_bytes}
 use Rattle.js_base.specs.declared.ids.HostId.{HostId}
 use Rattle.host_code.specs.Code.{CodeShape}
 use Rattle.link_seal.specs.declared.errors.OpenError.{OpenError}
-use Rattle.link_seal.specs.declared.errors.OpenError.TheVariants as refusal
-use Rattle.link_seal.specs.Links.{CanSeal, LinkShape, after_one, next_sealed, sealed}
+use Rattle.link_seal.specs.Links.{LinkShape, after_one, next_sealed, sealed}
 use Rattle.link_seal.specs.Opening.{opens}
 use Rattle.event_text.specs.Lines.{said_lines}
-use Rattle.node_engine.specs.declared.seals_file.SealsError.{SealsError}
-use Rattle.node_engine.specs.declared.seals_file.SealsError.TheVariants as error
-use Rattle.node_engine.specs.declared.seals_file.TheConstants.{SEALS_BYTES}
-use Rattle.node_engine.specs.Seals.{SealedLinks, SealsShape, after_opening, link_in, link_of, opened_as, opened_by}
-use Rattle.node_engine.specs.Seals.{opened_from, opened_of, raised, refused, unsealed}
-use Rattle.node_engine.specs.SealsFile.{behind_lines, first_lacking, lacks, no_links, seals_of, unless_lacking}
-use Rattle.node_engine.specs.SealsFile.{whole_links}
+use Rattle.node_seals.specs.declared.seals_file.SealsError.{SealsError}
+use Rattle.node_seals.specs.declared.seals_file.SealsError.TheVariants as error
+use Rattle.node_seals.specs.declared.seals_file.TheConstants.{SEALS_BYTES}
+use Rattle.node_seals.specs.Seals.{SealedLinks, SealsShape, link_in, link_of, opened_as, opened_by}
+use Rattle.node_seals.specs.Seals.{opened_from, opened_of, raised, unsealed}
+use Rattle.node_seals.specs.SealsFile.{behind_lines, first_lacking, lacks, no_links, seals_of, unless_lacking}
+use Rattle.node_seals.specs.SealsFile.{whole_links}
 
 -- ---- sending
 

@@ -22,15 +22,15 @@ use Rattle.wire_msg.specs.declared.frame.Frame.{Frame}
 use Rattle.wire_msg.specs.declared.frame.Frame.TheVariants as frame
 use Rattle.wire_msg.specs.Reading.{reading_of}
 use Rattle.wire_msg.specs.Spelling.{frame_bytes}
-use Rattle.node_engine.specs.declared.arrivals.Arrival.{Arrival}
-use Rattle.node_engine.specs.declared.arrivals.Arrival.TheVariants as arrival
+use Rattle.node_seals.specs.declared.arrivals.Arrival.{Arrival}
+use Rattle.node_seals.specs.declared.arrivals.Arrival.TheVariants as arrival
 use Rattle.node_engine.specs.declared.node_error.NodeError.{NodeError}
-use Rattle.node_engine.specs.declared.arrivals.DropReason.TheVariants as dropped
-use Rattle.node_engine.specs.Arrivals.{IsForNode, Arrives, ArrivesAs, ArrivesFrom, ArrivesOpened, arrival_of}
+use Rattle.node_seals.specs.declared.arrivals.DropReason.TheVariants as dropped
+use Rattle.node_seals.specs.Arrivals.{IsForNode, Arrives, ArrivesAs, ArrivesFrom, ArrivesOpened, arrival_of}
 use Rattle.node_engine.specs.JournalLines.{turn_line, take_line, send_line, done_line, drop_line}
 use Rattle.node_engine.specs.NodeWorlds.{Inside, NodeWorld, Part, Taking, Hearing, Line, Sealing, do_part, do_all}
 use Rattle.node_engine.specs.NodeWorlds.{inside_of}
-use Rattle.node_engine.specs.Seals.{Opened, SealsShape, as_they_are, refused, unsealed, opened_of, string_for}
+use Rattle.node_seals.specs.Seals.{Opened, SealsShape, as_they_are, refused, unsealed, opened_of, string_for}
 use Rattle.node_engine.specs.declared.node.Node.{Node}
 use Rattle.node_engine.specs.Statuses.{status_of}
 use Rattle.node_engine.specs.Told.{Seen, Told, Takes, Does, DoesUnit, Stops, StopsUnit}

@@ -4,7 +4,8 @@ use Rattle.std.proofs.lemmas.Fmt.{decimal_digit}
 use Rattle.clap.specs.Words.{Text, fault_of}
 use Rattle.clap.specs.declared.error.kind.ErrorKind.TheVariants as kind
 use Rattle.clap.proofs.OnLiterals.{clap_on_literals}
-use Rattle.node_engine.specs.Options.{Asked, Code, IsAsked, Program, node_command, value_of}
+use Rattle.node_engine.specs.Options.{Asked, IsAsked, node_command, value_of}
+use Rattle.node_starts.specs.SourceNames.{Code, Program}
 
 -- ---- no words
 

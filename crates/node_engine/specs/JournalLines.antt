@@ -6,8 +6,8 @@ use Rattle.host_code.specs.declared.message.Message.{Message}
 use Rattle.host_code.specs.Code.{CodeShape}
 use Rattle.event_text.specs.JournalText.{turn_text, take_text, send_text, done_text}
 use Rattle.wire_msg.specs.declared.error.WireError.TheVariants.{Short, BadKind, BadField, TooLong, Trailing}
-use Rattle.node_engine.specs.declared.arrivals.DropReason.{DropReason}
-use Rattle.node_engine.specs.declared.arrivals.DropReason.TheVariants.{Frame, Seal}
+use Rattle.node_seals.specs.declared.arrivals.DropReason.{DropReason}
+use Rattle.node_seals.specs.declared.arrivals.DropReason.TheVariants.{Frame, Seal}
 
 abbrev pub line : List ℕ → List ℕ
 line text = text ++ LINE_FEED ∷ []

@@ -1,15 +1,12 @@
-pub mod Arrivals
 pub mod Beginnings
 pub mod JournalLines
-pub mod NodeSources
 pub mod NodeWorlds
 pub mod Nodes
 pub mod Notes
 pub mod Options
 pub mod Said
-pub mod Seals
-pub mod SealsFile
 pub mod Serving
 pub mod Statuses
 pub mod Told
 pub mod Units
+pub mod ReadyNodes

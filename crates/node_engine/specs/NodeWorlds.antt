@@ -8,7 +8,7 @@ use Rattle.js_base.specs.declared.ids.HostId.{HostId}
 use Rattle.host_core.specs.Host.{HostShape}
 use Rattle.node_engine.specs.declared.node_error.NodeError.{NodeError}
 use Rattle.node_engine.specs.declared.node_error.NodeError.TheVariants.{OutOfMemory, LinkFault, OutFault}
-use Rattle.node_engine.specs.Seals.{SealsShape, after_opening, after_sealing}
+use Rattle.node_seals.specs.Seals.{SealsShape, after_opening, after_sealing}
 
 -- The node's host, and its seals; the strings that its links have left to give, the next one first; those that were
 -- sent, each with the host that it was sent to; the bytes of the journal; and whether the root said that the program is

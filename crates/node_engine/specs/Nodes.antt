@@ -2,7 +2,6 @@
 use Rattle.std.specs.Prelude.{◌≡◌, ◌⊎◌, ◌<◌, ℕ, false, List, [], ◌∷◌, length, map, Option, Some, None, slice_get}
 use Rattle.std.specs.Option.{option_map, option_to_list}
 use Rattle.js_base.specs.Counts.{last_count}
-use Rattle.js_base.specs.declared.limits.TheConstants.{PROGRAM_BYTES, SPLIT_FILE_BYTES}
 use Rattle.js_base.specs.declared.status.Status.{Status}
 use Rattle.js_base.specs.declared.status.Status.TheVariants as status
 use Rattle.host_core.specs.Start.{host_at_start}
@@ -17,18 +16,16 @@ use Rattle.front_end.specs.Verdicts.{VerdictShape, Refuse, Print, verdict_shape}
 use Rattle.node_links.specs.Journals.{Named}
 use Rattle.node_engine.specs.declared.node_end.NodeEnd as native
 use Rattle.node_engine.specs.Beginnings.{Beginning, BeginsNothing, EndsUnbegun, LinksBegan}
-use Rattle.node_engine.specs.NodeSources.{NodeStart, ReadyNode, ReadyNodes}
+use Rattle.node_starts.specs.NodeSources.{NodeStart}
+use Rattle.node_engine.specs.ReadyNodes.{ReadyNode, ReadyNodes}
 use Rattle.node_engine.specs.NodeWorlds.{Inside, NodeWorld}
-use Rattle.node_engine.specs.Options.{Asked, IsAsked, SourceName, Program, Code, name_of}
+use Rattle.node_engine.specs.Options.{Asked, IsAsked}
+use Rattle.node_starts.specs.SourceNames.{name_of}
 use Rattle.node_engine.specs.Serving.{Serves}
 use Rattle.node_engine.specs.Statuses.{IsEnded, IsServed}
 use Rattle.node_engine.specs.Told.{Names, NodeChange, Outside, Told, TellsOf}
 
 -- ---- files
-
-abbrev pub most_of : SourceName → ℕ
-most_of (Program name) = PROGRAM_BYTES
-most_of (Code name) = SPLIT_FILE_BYTES
 
 -- the files that are loaded for a node, in order
 abbrev pub files_of : Asked → List (List ℕ)

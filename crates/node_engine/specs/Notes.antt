@@ -6,7 +6,7 @@ use Rattle.host_code.specs.Code.{CodeShape}
 use Rattle.host_core.specs.Host.{HostShape, Outcome}
 use Rattle.host_core.specs.Taking.{IsTaking}
 use Rattle.host_core.specs.Turn.{IsTurn}
-use Rattle.node_engine.specs.declared.arrivals.DropReason.{DropReason}
+use Rattle.node_seals.specs.declared.arrivals.DropReason.{DropReason}
 use Rattle.node_engine.specs.JournalLines.{turn_line, take_line, send_line, done_line, drop_line}
 
 -- ---- lines

@@ -9,8 +9,7 @@ use Rattle.clap.specs.Words.{App, Rule, Text, fault_of, first_of, matches_of, ne
 use Rattle.clap.specs.declared.builder.action.ArgAction.TheVariants.{Set}
 use Rattle.front_end.specs.StepCounts.{IsStepCount}
 use Rattle.node_engine.specs.declared.options.Options.{Options}
-use Rattle.node_engine.specs.declared.options.SourceWord.{SourceWord}
-use Rattle.node_engine.specs.declared.options.SourceWord.TheVariants as word
+use Rattle.node_starts.specs.SourceNames.{SourceName, Program, Code, source_name}
 
 -- ---- the command
 
@@ -40,16 +39,6 @@ value_of words name = first_of name (matches_of node_command words)
 
 -- ---- what is asked for
 
--- where a node's code comes from
-pub data SourceName : Type 0 where
-  Program : List ℕ → SourceName
-  Code : List ℕ → SourceName
-
--- the file that it names
-abbrev pub name_of : SourceName → List ℕ
-name_of (Program name) = name
-name_of (Code name) = name
-
 pub record Asked : Type 0 where
   pub source : SourceName
   pub hosts : List ℕ
@@ -75,10 +64,6 @@ pub record IsAsked (words : List (List ℕ)) (asked : Asked) : Type 0 where
   pub source : IsSource (value_of words (codes "program")) (value_of words (codes "code")) asked.source
 
 -- ---- the options that were read, as contracts see them
-
-abbrev pub source_name : SourceWord → SourceName
-source_name (word.Program name) = Program name.now
-source_name (word.Code name) = Code name.now
 
 abbrev pub asked_shape : Options → Asked
 asked_shape options = record {

@@ -1,6 +1,6 @@
 -- What a node does in so many units, and how it ends.
 use Rattle.std.specs.Prelude.{◌≡◌, ◌⊎◌, ℕ, zero, suc, ◌+◌, Bool, true, false, ◌==◌, ◌&&◌, if◌then◌else◌}
-use Rattle.std.specs.Prelude.{List, [], ◌∷◌, ◌++◌, length}
+use Rattle.std.specs.Prelude.{List, [], ◌++◌, length}
 use Rattle.js_base.specs.declared.ids.HostId.{HostId}
 use Rattle.js_base.specs.declared.status.Status.{Status}
 use Rattle.js_base.specs.declared.status.Status.TheVariants as status
@@ -10,7 +10,7 @@ use Rattle.wire_msg.specs.declared.frame.Frame.TheVariants as frame
 use Rattle.wire_msg.specs.Spelling.{frame_bytes}
 use Rattle.node_engine.specs.declared.node_error.NodeError.{NodeError}
 use Rattle.node_engine.specs.NodeWorlds.{NodeWorld, Part, do_all, BreaksIn}
-use Rattle.node_engine.specs.Seals.{SealsShape, after_sealing}
+use Rattle.node_seals.specs.Seals.{SealsShape, after_sealing}
 use Rattle.node_engine.specs.Statuses.{status_of}
 use Rattle.node_engine.specs.Units.{AreUnitParts, IsUnit, frame_parts}
 

@@ -9,14 +9,14 @@ use Rattle.host_core.specs.Taking.{IsTaking}
 use Rattle.host_core.specs.Turn.{IsTurn}
 use Rattle.wire_msg.specs.declared.frame.Frame.TheVariants as frame
 use Rattle.wire_msg.specs.Spelling.{frame_bytes}
-use Rattle.node_engine.specs.declared.arrivals.Arrival.{Arrival}
-use Rattle.node_engine.specs.declared.arrivals.Arrival.TheVariants.{Dropped, Taken, Done}
-use Rattle.node_engine.specs.Arrivals.{Arrives}
+use Rattle.node_seals.specs.declared.arrivals.Arrival.{Arrival}
+use Rattle.node_seals.specs.declared.arrivals.Arrival.TheVariants.{Dropped, Taken, Done}
+use Rattle.node_seals.specs.Arrivals.{Arrives}
 use Rattle.node_engine.specs.JournalLines.{turn_line, take_line, send_line, done_line, drop_line}
 use Rattle.node_engine.specs.NodeWorlds.{Inside, NodeWorld, Part, inside_of}
 use Rattle.node_engine.specs.NodeWorlds.{Taking, Opening, Step, Hearing, Line, Sealing, Sending}
-use Rattle.node_engine.specs.Seals.{Opened, SealsShape, as_they_are, refused, unsealed, after_opened, opened_of}
-use Rattle.node_engine.specs.Seals.{string_for}
+use Rattle.node_seals.specs.Seals.{Opened, SealsShape, as_they_are, refused, unsealed, after_opened, opened_of}
+use Rattle.node_seals.specs.Seals.{string_for}
 
 -- ---- sending
 

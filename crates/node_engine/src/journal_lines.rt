@@ -5,10 +5,10 @@ ghost use Rattle.std.specs.String.{string_bytes};
 ghost use Rattle.host_code.specs.Messages.{MessageFits};
 ghost use Rattle.node_engine.specs.JournalLines as lines;
 
-use crate::arrivals::DropReason;
 use event_text::{done_text, send_text, take_text};
 use host_code::{Code, Message};
 use js_base::{HostId, OutOfMemory};
+use node_seals::DropReason;
 use std::alloc::Global;
 use wire_msg::WireError;
 

@@ -8,13 +8,13 @@ ghost use Rattle.host_code.specs.Code.{CodeShape};
 ghost use Rattle.wire_msg.specs.declared.error.WireError.TheVariants as wire_error;
 ghost use Rattle.wire_msg.specs.declared.frame.Frame.TheVariants as frame;
 ghost use Rattle.wire_msg.specs.Spelling.{frame_bytes};
-ghost use Rattle.node_engine.specs.declared.arrivals.Arrival.{Arrival};
-ghost use Rattle.node_engine.specs.declared.arrivals.Arrival.TheVariants as arrival;
-ghost use Rattle.node_engine.specs.declared.arrivals.DropReason.TheVariants as dropped;
-ghost use Rattle.node_engine.specs.Arrivals.{Arrives};
+ghost use Rattle.node_seals.specs.declared.arrivals.Arrival.{Arrival};
+ghost use Rattle.node_seals.specs.declared.arrivals.Arrival.TheVariants as arrival;
+ghost use Rattle.node_seals.specs.declared.arrivals.DropReason.TheVariants as dropped;
+ghost use Rattle.node_seals.specs.Arrivals.{Arrives};
 ghost use Rattle.node_engine.specs.NodeWorlds.{Inside, NodeWorld, Part, Taking, Line, Sending};
 ghost use Rattle.node_engine.specs.Notes.{IsNoted};
-ghost use Rattle.node_engine.specs.Seals.{SealsShape};
+ghost use Rattle.node_seals.specs.Seals.{SealsShape};
 ghost use Rattle.node_engine.specs.Serving.{Serves, closing_from};
 ghost use Rattle.node_engine.specs.Units.{AreArrivalParts, AreTakingParts, AreUnitParts};
 

@@ -1,36 +1,27 @@
 //! A node: one host of a program with its links, its seals and its journal.
 #![tactic(auto)]
 
-mod arrivals;
 mod journal_lines;
 mod laws;
 mod node;
 mod node_end;
 mod node_error;
 mod node_files;
-mod node_part;
-mod node_source;
-mod node_start;
 mod options;
 mod outside;
 mod running;
 mod saying;
-mod seals;
-mod seals_file;
 mod seals_laws;
 mod serving;
 mod start_laws;
 mod top;
 mod units;
 
-pub use arrivals::{Arrival, DropReason};
 pub use laws::unit_laws;
 pub use node_end::NodeEnd;
 pub use node_error::NodeError;
-pub use options::{OptionError, Options, SourceWord, option_laws, read_options};
+pub use options::{OptionError, Options, option_laws, read_options};
 pub use saying::say_end;
-pub use seals::Seals;
-pub use seals_file::{SEALS_BYTES, SealsError};
 pub use seals_laws::sealing_laws;
 pub use serving::serve;
 pub use start_laws::node_laws;

@@ -1,10 +1,10 @@
 //! A node: one host of a program, with what it needs to work.
 
-use crate::seals::Seals;
 use host_code::Code;
 use host_core::Host;
 use js_base::{HostId, Sink};
 use node_links::Links;
+use node_seals::Seals;
 use std::alloc::Global;
 
 /// A node at work: the code of all hosts, the number of its own host, and that host with its seals,

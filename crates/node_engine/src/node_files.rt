@@ -5,22 +5,26 @@ ghost use Rattle.js_base.specs.declared.limits.TheConstants.{HOSTS_BYTES, SCRIPT
 ghost use Rattle.front_end.specs.Loading.{EndsAs, IsLoaded, StopsWith};
 ghost use Rattle.front_end.specs.Loads.{AreKept, files_change};
 ghost use Rattle.front_end.specs.Stages.{Then, stopped};
-ghost use Rattle.node_engine.specs.NodeSources.{HostFound, IsStarted, NodeSources, NodeStart as SourcedNode};
-ghost use Rattle.node_engine.specs.NodeSources.{NodeStarts, Sealed, SealedBy, no_key, node_source, node_start};
-ghost use Rattle.node_engine.specs.NodeSources.{ready_node};
-ghost use Rattle.node_engine.specs.Nodes.{IsNodeDue, files_of, most_of};
-ghost use Rattle.node_engine.specs.Options.{asked_shape, name_of, source_name};
+ghost use Rattle.node_engine.specs.ReadyNodes.{HostFound};
+ghost use Rattle.node_starts.specs.NodeSources.{IsStarted, NodeSources, NodeStart as SourcedNode};
+ghost use Rattle.node_engine.specs.ReadyNodes.{NodeStarts, Sealed, SealedBy, no_key};
+ghost use Rattle.node_starts.specs.NodeSources.{node_source, node_start};
+ghost use Rattle.node_engine.specs.ReadyNodes.{ready_node};
+ghost use Rattle.node_engine.specs.Nodes.{IsNodeDue, files_of};
+ghost use Rattle.node_starts.specs.SourceNames.{most_of};
+ghost use Rattle.node_engine.specs.Options.{asked_shape};
+ghost use Rattle.node_starts.specs.SourceNames.{name_of, source_name};
 
-use crate::node_part::part_checked;
-use crate::node_source::{NodeSource, code_source, program_source};
-use crate::node_start::{NodeStart, copies, of_host};
-use crate::options::{Options, SourceWord};
-use crate::seals::Seals;
-use crate::seals_file::{SEALS_BYTES, SealsError};
+use crate::options::Options;
 use front_end::{Asked as File, LineCause, Loaded, Refusal, Stop, Verdict, load_all, stopped};
 use host_code::{Code, host_name};
 use js_base::Files;
 use js_base::limits::{HOSTS_BYTES, PROGRAM_BYTES, SCRIPT_BYTES, SPLIT_FILE_BYTES};
+use node_seals::{SEALS_BYTES, Seals, SealsError};
+use node_starts::{
+    NodeSource, NodeStart, SourceWord, code_source, copies, of_host, part_checked, program_source,
+    source_file,
+};
 use std::alloc::{AllocError, Global};
 
 /// A node that is ready to run: what it is, and its seals.
@@ -98,23 +102,6 @@ fn sealed_node<F: Files>(
         unreachable!();
     };
     sealed_of_loaded(alloc, options, name, source, hosts, start, keys)
-}
-
-/// The file of a node's code.
-fn source_file(source: SourceWord<'_>) -> File<'_>
-    ensures name { result.name.now ≡ name_of (source_name source.entry) }
-    ensures most { result.most ≡ most_of (source_name source.entry) }
-{
-    match source {
-        SourceWord::Program(name) => File {
-            name,
-            most: PROGRAM_BYTES,
-        },
-        SourceWord::Code(name) => File {
-            name,
-            most: SPLIT_FILE_BYTES,
-        },
-    }
 }
 
 /// Its name.

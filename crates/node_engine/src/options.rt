@@ -4,21 +4,14 @@ ghost use Rattle.std.specs.Prelude.{◌≡◌, ◌≢◌, ◌∷◌, [], List, N
 ghost use Rattle.std.specs.Prelude.{IfErr, IfNone, IfOk, IfSome};
 ghost use Rattle.clap.specs.Words.{HasMatchesOf, Text, app_of, fault_of, kind_of, new_app, rule_of};
 ghost use Rattle.node_engine.specs.Options.{Asked, IsAsked, IsSource, asked_shape, node_command, required_option};
-ghost use Rattle.node_engine.specs.Options.{Code, Program, SourceName, set_option, source_name, without_name};
+ghost use Rattle.node_starts.specs.SourceNames.{Code, Program, SourceName, source_name};
+ghost use Rattle.node_engine.specs.Options.{set_option, without_name};
 
 use clap::error::ErrorKind;
 use clap::{Arg, ArgAction, ArgMatches, Command, Error};
 use front_end::step_count;
+use node_starts::SourceWord;
 use std::alloc::{AllocError, Global};
-
-/// Where a node's code comes from.
-#[derive(Clone, Copy)]
-pub enum SourceWord<'a> {
-    /// `--program P`: the program that is split
-    Program(&'a str),
-    /// `--code FILE`: the split file
-    Code(&'a str),
-}
 
 /// What the words of a node ask for.
 #[derive(Clone, Copy)]

@@ -4,7 +4,7 @@ ghost use Rattle.std.specs.Prelude.{◌≡◌, ◌∷◌, [], IfOk, OnOk, IfErr}
 ghost use Rattle.wire_msg.specs.Frames.{NamesHosts};
 ghost use Rattle.wire_msg.specs.Spelling.{frame_bytes};
 ghost use Rattle.node_engine.specs.NodeWorlds.{Taking, Line, Sending};
-ghost use Rattle.node_engine.specs.Seals.{after_sealing};
+ghost use Rattle.node_seals.specs.Seals.{after_sealing};
 ghost use Rattle.node_engine.specs.Told.{Does, HasSameHost, HasSameInside, Stops, Takes, seen};
 ghost use Rattle.node_engine.specs.Units.{frame_parts};
 

@@ -2,7 +2,8 @@
 
 ghost use Rattle.std.specs.Prelude.{◌≡◌, IfErr, IfOk, OnOk, map, string_bytes};
 ghost use Rattle.node_engine.specs.Beginnings.{EndsUnbegun, HasBegun};
-ghost use Rattle.node_engine.specs.NodeSources.{IsStarted, ready_node};
+ghost use Rattle.node_starts.specs.NodeSources.{IsStarted};
+ghost use Rattle.node_engine.specs.ReadyNodes.{ready_node};
 ghost use Rattle.node_engine.specs.Nodes.{RunsNode};
 ghost use Rattle.node_engine.specs.Statuses.{status_in, status_of};
 ghost use Rattle.node_engine.specs.Told.{Faults, Reaches, node_change, outside};

@@ -14,12 +14,12 @@ ghost use Rattle.node_engine.specs.Told.{TellsOf, outside, seen};
 use crate::laws::unit_laws;
 use crate::node::Node;
 use crate::node_error::NodeError;
-use crate::seals::Seals;
 use host_code::Code;
 use host_core::Host;
 use js_base::limits::HOSTS;
 use js_base::{HostId, Sink, Status};
 use node_links::Links;
+use node_seals::Seals;
 use std::alloc::Global;
 use wire_msg::Frame;
 

@@ -5,7 +5,8 @@ ghost use Rattle.front_end.specs.Loads.{FilesChange};
 ghost use Rattle.front_end.specs.Stages.{Outcome, stopped};
 ghost use Rattle.front_end.specs.Verdicts.{Print};
 ghost use Rattle.js_base.specs.declared.status.Status.{Status};
-ghost use Rattle.node_engine.specs.NodeSources.{NodeStart, NodeStarts, ReadyNode, ReadyNodes};
+ghost use Rattle.node_starts.specs.NodeSources.{NodeStart};
+ghost use Rattle.node_engine.specs.ReadyNodes.{NodeStarts, ReadyNode, ReadyNodes};
 ghost use Rattle.node_engine.specs.Nodes.{LoadedNode};
 ghost use Rattle.node_engine.specs.Options.{Asked};
 

@@ -4,16 +4,15 @@ ghost use Rattle.std.specs.Prelude.{◌≡◌, ◌∷◌, [], false, List, None,
 ghost use Rattle.host_code.specs.Sound.{IsHost, IsOther};
 ghost use Rattle.host_code.specs.Messages.{MessageFits};
 ghost use Rattle.host_core.specs.Fits.{SentFits};
-ghost use Rattle.node_engine.specs.Arrivals.{ArrivalFits, Arrives};
+ghost use Rattle.node_seals.specs.Arrivals.{ArrivalFits, Arrives};
 ghost use Rattle.node_engine.specs.JournalLines as lines;
 ghost use Rattle.node_engine.specs.NodeWorlds.{NodeWorld, Part, Line, do_all};
-ghost use Rattle.node_engine.specs.Seals.{after_opened, opened_of};
+ghost use Rattle.node_seals.specs.Seals.{after_opened, opened_of};
 ghost use Rattle.node_engine.specs.Told.{Does, DoesUnit, HasSameHost, HasSameInside, IsReady, IsSameNode, Stops};
 ghost use Rattle.node_engine.specs.Told.{StopsUnit, inside, seen};
 ghost use Rattle.node_engine.specs.Units.{AreArrivalParts, AreDeliveryParts, opening_parts, posting_parts};
 ghost use Rattle.node_engine.specs.Units.{sending_parts};
 
-use crate::arrivals::{Arrival, opened_arrival};
 use crate::journal_lines::{TURN_LINE, done_line, drop_line, send_line, take_line};
 use crate::laws::unit_laws;
 use crate::node::Node;
@@ -23,6 +22,7 @@ use host_core::{HostError, Sent, step_laws};
 use js_base::limits::HOSTS;
 use js_base::{HostId, Sink};
 use node_links::Links;
+use node_seals::{Arrival, opened_arrival};
 use wire_msg::{Frame, wire_laws};
 
 impl<L: Links, R: Sink> Node<'_, '_, L, R> {

@@ -12,3 +12,4 @@ mod step_lines;
 pub use journal::MergeError;
 pub use laws::{merge_laws, single_laws};
 pub use one_list::merge;
+pub use step_lines::{is_send_line, is_take_line, is_turn_line};

@@ -15,8 +15,8 @@ use Rattle.net_world.specs.World.{given, is_absent, state_at, misbehaves, named_
 use Rattle.net_world.specs.World.{host_before, hosts_before, world_at_start}
 use Rattle.agreement.proofs.SplitRuns.{same_absent}
 use Rattle.agreement.specs.Alike.{AreStoresAlike}
-use Rattle.split_cli.specs.Compare.{StartsUnlike, StartAlike}
-use Rattle.split_cli.proofs.SameMessages.{same_option}
+use Rattle.run_comparison.specs.Compare.{StartsUnlike, StartAlike}
+use Rattle.run_comparison.proofs.SameMessages.{same_option}
 use Rattle.split_cli.proofs.SomeCompare.{same_list, same_int}
 
 -- ---- who misbehaves at the start

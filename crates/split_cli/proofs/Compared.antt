@@ -29,24 +29,24 @@ use Rattle.front_end.specs.PlacedCode.{code_of, program_of}
 use Rattle.front_end.specs.PlacedSources.{PlacedSource, PlacedSources}
 use Rattle.front_end.specs.Stages.{Outcome, given, stopped, DueThen}
 use Rattle.front_end.specs.Verdicts.{VerdictShape, Print}
-use Rattle.split_cli.specs.Commands.{Compare, words_of}
-use Rattle.split_cli.specs.Compare.{StartAlike, holds, fails, SameMisbehave, SameStarts, SameEvents}
-use Rattle.split_cli.specs.Compare.{IsPromptRun, Compared, agree, differ}
-use Rattle.split_cli.specs.Compare.{ScriptFollowed, DueForRuns, DueForSaid, DueForCompare}
+use Rattle.split_words.specs.Commands.{Compare, words_of}
+use Rattle.run_comparison.specs.Compare.{StartAlike, holds, fails, SameMisbehave, SameStarts, SameEvents}
+use Rattle.run_comparison.specs.Compare.{IsPromptRun, Compared, agree, differ}
+use Rattle.run_comparison.specs.Compare.{ScriptFollowed, DueForRuns, DueForSaid, DueForCompare}
 use Rattle.split_cli.specs.Due.{Due}
-use Rattle.split_cli.specs.Drive.{first_world}
+use Rattle.script_stages.specs.FirstWorld.{first_world}
 use Rattle.split_cli.specs.Headline.{IsPlacedAs, IsPrivate, OfFourFiles}
-use Rattle.split_cli.specs.Followed.{Followed, FollowedRun, IsFollowed, EventsFollowed, followed, refused}
+use Rattle.run_comparison.specs.Followed.{Followed, FollowedRun, IsFollowed, EventsFollowed, followed, refused}
 use Rattle.net_world.specs.Replay.{events_in}
-use Rattle.split_cli.specs.Replay.{ScriptRead}
+use Rattle.script_stages.specs.Scripts.{ScriptRead}
 use Rattle.split_cli.proofs.AlikeStarts.{alike_stores, alike_swapped}
-use Rattle.split_cli.proofs.DriveDue.{code_hosts}
+use Rattle.script_stages.proofs.ScriptReads.{code_hosts}
 use Rattle.split_cli.proofs.Faithful.{AllLaws, Says, refused_says, placed_says, IsRead, script_says, played}
 use Rattle.split_cli.proofs.Faithful.{SaysOfBytes, OnlyTwo, four_due}
 use Rattle.split_cli.proofs.OneCompare.{differ_not_alike}
 use Rattle.split_cli.proofs.OneDrive.{OneStep}
 use Rattle.net_world.proofs.ReleasedValues.{released_once}
-use Rattle.split_cli.proofs.FollowedEvents.{followed_ran}
+use Rattle.run_comparison.proofs.FollowedEvents.{followed_ran}
 use Rattle.split_cli.proofs.PromptRuns.{followed_runs, followed_seen, all_seen, followed_prompt}
 use Rattle.split_cli.proofs.SetSources.{set_there, results_there}
 

@@ -3,19 +3,15 @@ use Rattle.std.proofs.Common.{◌≡◌, ℕ, List, sym, ap, ◌∙◌, subst}
 use Rattle.std.specs.Prelude.{ℤ}
 use Rattle.host_decl.specs.Hosts.{HostsShape}
 use Rattle.host_code.specs.Code.{CodeShape}
-use Rattle.net_world.specs.World.{WorldShape, AllObey, AreHostsOf, world_at_start}
+use Rattle.net_world.specs.World.{WorldShape, AllObey, world_at_start}
 use Rattle.split_cli.specs.declared.driving.Driven.{Driven}
-use Rattle.split_cli.specs.Drive.{first_world, TellsDrive}
+use Rattle.script_stages.specs.FirstWorld.{first_world}
+use Rattle.split_cli.specs.Drive.{TellsDrive}
 use Rattle.front_end.specs.PlacedCode.{code_of}
 use Rattle.split_cli.specs.Driven.{HasDriven}
 use Rattle.front_end.specs.PlacedSources.{PlacedSource}
 use Rattle.front_end.specs.Verdicts.{Print}
 use Rattle.net_world.proofs.Obeying.{obey_at_start}
-
--- the hosts of the code are those of the file
-pub code_hosts : (placed : PlacedSource) (code : CodeShape) → code ≡ code_of placed →
-    AreHostsOf code placed.source.file.hosts
-code_hosts placed code is = sym (ap (λ (c : CodeShape). c.hosts) is)
 
 pub obey_from : (code : CodeShape) (hosts : HostsShape) (values : List (List ℤ)) (world : WorldShape) →
     world ≡ world_at_start code hosts.hosts 0 values → AllObey world

@@ -40,7 +40,7 @@ use Rattle.simulation.specs.Ending.{EVENTS}
 use Rattle.simulation.specs.Obeying.{IsSet, Follows}
 use Rattle.token_laws.specs.Numbers.{CodeHasNumbers, RowsHaveNumbers, EventHasNumbers}
 use Rattle.token_laws.specs.Reached.{IsReached}
-use Rattle.split_cli.specs.Commands.{CommandShape, Replay, Drive, IsCommand, words_of, files_of}
+use Rattle.split_words.specs.Commands.{CommandShape, Replay, Drive, IsCommand, words_of, files_of}
 use Rattle.front_end.specs.StepCounts.{IsStepCount}
 use Rattle.front_end.specs.Refusals as refusals
 use Rattle.front_end.specs.Refusals.{RefusalShape, refusal_status}
@@ -48,11 +48,13 @@ use Rattle.front_end.specs.Verdicts.{VerdictShape, Refuse, Print}
 use Rattle.front_end.specs.Loads.{FilesChange, Told}
 use Rattle.front_end.specs.Stages.{Outcome, given, stopped}
 use Rattle.front_end.specs.PlacedSources.{PlacedSource, PlacedSources}
-use Rattle.split_cli.specs.Drive.{first_world, drive_text, IsDriveReport, DueForDrive}
+use Rattle.script_stages.specs.FirstWorld.{first_world}
+use Rattle.split_cli.specs.Drive.{drive_text, IsDriveReport, DueForDrive}
 use Rattle.front_end.specs.PlacedCode.{code_of, program_of}
 use Rattle.split_cli.specs.Driven.{DrivesTo, rested, spent}
 use Rattle.net_world.specs.Replay.{events_in}
-use Rattle.split_cli.specs.Replay.{replay_text, ScriptRead, EventsHappen, DueForReplay}
+use Rattle.split_cli.specs.Replay.{replay_text, DueForReplay}
+use Rattle.script_stages.specs.Scripts.{ScriptRead, EventsHappen}
 use Rattle.split_cli.specs.Replay as replay
 use Rattle.front_end.specs.Starting.{StartingValues}
 use Rattle.front_end.specs.Starting as starting
@@ -67,7 +69,7 @@ use Rattle.split_cli.proofs.OneDrive.{driven_run}
 use Rattle.split_cli.proofs.OneVerdict.{fault_verdict, one_command}
 use Rattle.split_cli.proofs.CodeNumbers.{code_has}
 use Rattle.front_end.proofs.PlacedStops.{placed_stops}
-use Rattle.split_cli.proofs.ReplayDue.{OwnAtStart, own_in_first}
+use Rattle.script_stages.proofs.ScriptReads.{OwnAtStart, own_in_first}
 use Rattle.split_cli.proofs.ScriptStarts.{script_starts}
 use Rattle.split_cli.proofs.ScriptNumbers.{events_have, starts_have}
 use Rattle.split_cli.proofs.SetSources.{ReadingLaws, PlanLaws, GrantedLaw, set_there, checked_there, has_numbers}

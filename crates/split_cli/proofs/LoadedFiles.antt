@@ -6,7 +6,7 @@ use Rattle.front_end.specs.declared.load.Asked.{Asked}
 use Rattle.front_end.specs.declared.load.Loaded.{Loaded}
 use Rattle.front_end.specs.declared.stop.Stop.{Stop}
 use Rattle.front_end.specs.declared.verdict.Verdict.{Verdict}
-use Rattle.split_cli.specs.Commands.{CommandShape, Check, files_of}
+use Rattle.split_words.specs.Commands.{CommandShape, Check, files_of}
 use Rattle.front_end.specs.Loads.{FilesChange, AreKept, Told, counted_by}
 use Rattle.front_end.specs.Loading.{IsLoaded, StopsWith, StopsLoading, EndsIn}
 use Rattle.split_cli.specs.Due.{DueForBytes, loaded, SavesFor, IsDueForCommand}

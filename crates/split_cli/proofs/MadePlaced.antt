@@ -30,7 +30,7 @@ use Rattle.front_end.specs.Verdicts.{VerdictShape, Print}
 use Rattle.front_end.proofs.NativeSources.{NativeLaws, source_seen}
 use Rattle.front_end.proofs.ReadSources.{source_given}
 use Rattle.split_cli.specs.Answers.{AnswersTo}
-use Rattle.split_cli.specs.Commands.{CommandShape, IsCommand, IsMadeCount, Make, words_of}
+use Rattle.split_words.specs.Commands.{CommandShape, IsCommand, IsMadeCount, Make, words_of}
 use Rattle.split_cli.specs.Driven.{rested}
 use Rattle.split_cli.specs.Due.{Due, DueForBytes, DueForCommand, IsDue, IsFault, no_words, for_command, absent, loaded}
 use Rattle.split_cli.specs.Making.{DueForMake, made_text}

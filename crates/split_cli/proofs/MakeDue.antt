@@ -2,7 +2,7 @@
 use Rattle.std.proofs.Common.{ℕ, [], inl, Result}
 use Rattle.front_end.specs.declared.stop.Stop.{Stop}
 use Rattle.front_end.specs.declared.verdict.Verdict.{Verdict}
-use Rattle.split_cli.specs.Commands.{Make}
+use Rattle.split_words.specs.Commands.{Make}
 use Rattle.split_cli.specs.Due.{IsDueForCommand, loaded}
 use Rattle.front_end.specs.Loading.{EndsIn}
 use Rattle.front_end.specs.Loads.{FilesChange, AreKept, LoadsWell}

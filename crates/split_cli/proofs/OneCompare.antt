@@ -8,24 +8,24 @@ use Rattle.host_code.specs.Code.{CodeShape, CodeFieldShape}
 use Rattle.net_world.specs.Told.{SentMessage}
 use Rattle.net_world.specs.World.{WorldShape, Refusal}
 use Rattle.net_world.specs.Released.{AreAlike}
-use Rattle.split_cli.specs.Compare.{DifferAt, IsFirstUnlike, Premise, holds}
-use Rattle.split_cli.specs.Compare.{fails, SameMisbehave, SameStarts, GoApart, SameEvents, IsPromptRun, Compared, agree}
-use Rattle.split_cli.specs.Compare.{differ, differ_text, ScriptFollowed, DueForRuns, DueForSaid, DueForCompare}
-use Rattle.split_cli.specs.Drive.{first_world}
+use Rattle.run_comparison.specs.Compare.{DifferAt, IsFirstUnlike, Premise, holds}
+use Rattle.run_comparison.specs.Compare.{fails, SameMisbehave, SameStarts, GoApart, SameEvents, IsPromptRun, Compared, agree}
+use Rattle.run_comparison.specs.Compare.{differ, differ_text, ScriptFollowed, DueForRuns, DueForSaid, DueForCompare}
+use Rattle.script_stages.specs.FirstWorld.{first_world}
 use Rattle.front_end.specs.PlacedCode.{code_of, program_of}
 use Rattle.split_rules.specs.Releases.{ReleasesShape, releases_of}
-use Rattle.split_cli.specs.Followed.{Followed, IsKept, hidden, prompt, untimely, IsFollowed, EventsFollowed, followed}
-use Rattle.split_cli.specs.Followed.{FollowedRun, refused}
-use Rattle.split_cli.specs.ReleaseLines.{release_lines}
+use Rattle.run_comparison.specs.Followed.{Followed, IsKept, hidden, prompt, untimely, IsFollowed, EventsFollowed, followed}
+use Rattle.run_comparison.specs.Followed.{FollowedRun, refused}
+use Rattle.run_comparison.specs.ReleaseLines.{release_lines}
 use Rattle.front_end.specs.PlacedSources.{PlacedSource}
-use Rattle.split_cli.specs.Releases.{first_release}
+use Rattle.run_comparison.specs.Releases.{first_release}
 use Rattle.net_world.specs.Replay.{events_in}
-use Rattle.split_cli.specs.Replay.{event_refused, ScriptRead}
+use Rattle.script_stages.specs.Scripts.{event_refused, ScriptRead}
 use Rattle.front_end.specs.Stages.{DueThen}
 use Rattle.front_end.specs.Verdicts.{VerdictShape, Print, starts_differ, events_differ, not_prompt}
 use Rattle.js_base.specs.declared.status.Status.TheVariants.{Differ}
 use Rattle.net_world.proofs.ReleasedValues.{released_once}
-use Rattle.split_cli.proofs.FollowedEvents.{followed_ran}
+use Rattle.run_comparison.proofs.FollowedEvents.{followed_ran}
 use Rattle.split_cli.proofs.OneReplay.{StepLaws, refused_once, ran_or_refused, script_once}
 use Rattle.front_end.proofs.Places.{same_place, same_here}
 use Rattle.front_end.proofs.Stages.{IsOne, give, stop_with, one_due}

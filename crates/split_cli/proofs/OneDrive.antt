@@ -10,7 +10,8 @@ use Rattle.event_text.specs.declared.event.Event.TheVariants.{Take, Turn, Act}
 use Rattle.host_code.specs.Code.{CodeShape}
 use Rattle.net_world.specs.Choice.{IsNextEvent, IsFirstRunning, IsFirstFrom, IsFirstFlying}
 use Rattle.net_world.specs.World.{WorldShape, IsStep, IsRun}
-use Rattle.split_cli.specs.Drive.{first_world, TellsDrive, DueForDriven}
+use Rattle.script_stages.specs.FirstWorld.{first_world}
+use Rattle.split_cli.specs.Drive.{TellsDrive, DueForDriven}
 use Rattle.front_end.specs.PlacedCode.{code_of}
 use Rattle.simulation.specs.Driven.{IsDriven}
 use Rattle.split_cli.specs.Driven.{DrivesTo, rested, spent}

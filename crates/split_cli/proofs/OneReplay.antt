@@ -6,12 +6,14 @@ use Rattle.event_text.specs.declared.event.Event.{Event}
 use Rattle.event_text.specs.Script.{ScriptShape}
 use Rattle.host_code.specs.Code.{CodeShape}
 use Rattle.net_world.specs.World.{WorldShape, IsStep, IsRun, Refusal, refusal_of}
-use Rattle.split_cli.specs.Drive.{first_world}
+use Rattle.script_stages.specs.FirstWorld.{first_world}
 use Rattle.front_end.specs.PlacedCode.{code_of}
 use Rattle.front_end.specs.PlacedSources.{PlacedSource}
 use Rattle.net_world.specs.Replay.{events_in, IsRefusedAt}
-use Rattle.split_cli.specs.Replay.{event_refused, replay_text, EventsHappen, happened, refused}
-use Rattle.split_cli.specs.Replay.{ScriptRead, long, bad_line, read, DueForEvents, DueForReplay}
+use Rattle.script_stages.specs.Scripts.{event_refused, EventsHappen, happened, refused}
+use Rattle.split_cli.specs.Replay.{replay_text}
+use Rattle.script_stages.specs.Scripts.{ScriptRead, long, bad_line, read}
+use Rattle.split_cli.specs.Replay.{DueForEvents, DueForReplay}
 use Rattle.front_end.specs.Verdicts.{VerdictShape, Print, no_form}
 use Rattle.split_cli.proofs.OneDrive.{OneStep}
 use Rattle.front_end.proofs.Stages.{IsOne, give, stop_with, one_due}

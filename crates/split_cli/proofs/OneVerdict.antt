@@ -5,8 +5,8 @@ use Rattle.std.specs.Fmt.{decimal}
 use Rattle.std.specs.List.{AllZip, AllByRecursion}
 use Rattle.js_base.specs.Counts.{last_count, Rose}
 use Rattle.js_base.specs.declared.status.Status.TheVariants.{Done}
-use Rattle.split_cli.specs.Commands.{CommandShape, Check, Run, Replay, Drive, Compare, Split, Make}
-use Rattle.split_cli.specs.Commands.{IsCommand, words_of, files_of}
+use Rattle.split_words.specs.Commands.{CommandShape, Check, Run, Replay, Drive, Compare, Split, Make}
+use Rattle.split_words.specs.Commands.{IsCommand, words_of, files_of}
 use Rattle.front_end.specs.declared.step_counts.TheConstants.{STEPS}
 use Rattle.front_end.specs.Verdicts.{VerdictShape, Print, no_such_file, file_fault}
 use Rattle.front_end.specs.Loads.{FilesChange, Told, IsHeld, IsFirstAbsent}
@@ -14,7 +14,7 @@ use Rattle.front_end.specs.Sources.{Sources}
 use Rattle.front_end.specs.PlacedSources.{PlacedSources}
 use Rattle.split_cli.specs.Check.{plan_report}
 use Rattle.front_end.specs.PlacedCode.{cost_of}
-use Rattle.split_cli.specs.Compare.{DueForCompare}
+use Rattle.run_comparison.specs.Compare.{DueForCompare}
 use Rattle.made_laws.specs.MadePrograms.{made_hosts, made_program}
 use Rattle.split_cli.specs.Making.{DueForMade, made_text}
 use Rattle.split_cli.specs.PlainRun.{DueForRun}
@@ -33,7 +33,7 @@ use Rattle.front_end.proofs.Places.{of_all}
 use Rattle.front_end.proofs.Stages.{IsOne, one_due}
 use Rattle.front_end.proofs.StepCounts.{same_steps}
 use Rattle.front_end.proofs.AbsentFiles.{held_once, told_held, absent_not_held, absent_once}
-use Rattle.split_cli.proofs.MadeCounts.{as_steps}
+use Rattle.split_words.proofs.MadeCounts.{as_steps}
 
 -- what is known of the parts of a command
 pub record AllLaws : Type 0 where

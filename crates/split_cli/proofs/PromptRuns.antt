@@ -6,7 +6,7 @@ use Rattle.event_text.specs.declared.event.Event.{Event}
 use Rattle.host_code.specs.Code.{CodeShape}
 use Rattle.net_world.specs.Secret.{IsSecret, IsQuiet, IsSeenRun, IsPrompt}
 use Rattle.net_world.specs.World.{WorldShape, IsRun}
-use Rattle.split_cli.specs.Followed.{Followed, IsKept, hidden, prompt, untimely, IsFollowed}
+use Rattle.run_comparison.specs.Followed.{Followed, IsKept, hidden, prompt, untimely, IsFollowed}
 use Rattle.net_world.specs.Replay.{events_in}
 use Rattle.split_cli.proofs.OneDrive.{OneStep}
 

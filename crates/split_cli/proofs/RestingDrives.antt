@@ -16,7 +16,7 @@ use Rattle.front_end.specs.PlacedSources.{PlacedSource}
 use Rattle.front_end.specs.Starting as starting
 use Rattle.front_end.specs.StepCounts.{IsStepCount}
 use Rattle.front_end.specs.Verdicts.{Print}
-use Rattle.split_cli.specs.Commands.{Drive, words_of}
+use Rattle.split_words.specs.Commands.{Drive, words_of}
 use Rattle.split_cli.specs.Drive.{drive_text}
 use Rattle.split_cli.specs.Driven.{rested}
 use Rattle.split_cli.specs.Due.{Due, for_command, loaded}

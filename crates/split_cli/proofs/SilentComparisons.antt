@@ -6,7 +6,7 @@ use Rattle.front_end.specs.PlacedSources.{PlacedSource, PlacedSources}
 use Rattle.front_end.specs.Stages.{given}
 use Rattle.front_end.specs.Verdicts.{Print}
 use Rattle.front_end.proofs.Stages.{IsOne, give}
-use Rattle.split_cli.specs.Commands.{Compare, words_of}
+use Rattle.split_words.specs.Commands.{Compare, words_of}
 use Rattle.split_cli.specs.Due.{Due}
 use Rattle.split_cli.proofs.Compared.{PrivateLaws, compare_is_private}
 use Rattle.split_cli.proofs.Faithful.{AllLaws}

@@ -20,27 +20,27 @@ use Rattle.net_world.specs.Told.{SentMessage}
 use Rattle.net_world.specs.World.{WorldShape, IsStep, state_at}
 use Rattle.net_world.specs.Released.{AreAlike}
 use Rattle.split_rules.specs.Releases.{ReleasesShape, releases_of}
-use Rattle.split_cli.specs.Compare.{DifferAt, StartsUnlike, Premise, holds, fails, ScriptFollowed}
-use Rattle.split_cli.specs.Compare.{SameMisbehave, SameStarts, SameEvents, IsPromptRun, Compared, agree, differ}
-use Rattle.split_cli.specs.Compare.{agree_text, differ_text, DueForRuns, DueForScripts, DueForCompare}
-use Rattle.split_cli.specs.Drive.{first_world}
+use Rattle.run_comparison.specs.Compare.{DifferAt, StartsUnlike, Premise, holds, fails, ScriptFollowed}
+use Rattle.run_comparison.specs.Compare.{SameMisbehave, SameStarts, SameEvents, IsPromptRun, Compared, agree, differ}
+use Rattle.run_comparison.specs.Compare.{agree_text, differ_text, DueForRuns, DueForScripts, DueForCompare}
+use Rattle.script_stages.specs.FirstWorld.{first_world}
 use Rattle.front_end.specs.PlacedCode.{code_of, program_of}
-use Rattle.split_cli.specs.Followed.{Followed, FollowedRun, IsKept, hidden, prompt, untimely, EventsFollowed}
-use Rattle.split_cli.specs.Followed.{followed, refused}
-use Rattle.split_cli.specs.ReleaseLines.{release_lines}
+use Rattle.run_comparison.specs.Followed.{Followed, FollowedRun, IsKept, hidden, prompt, untimely, EventsFollowed}
+use Rattle.run_comparison.specs.Followed.{followed, refused}
+use Rattle.run_comparison.specs.ReleaseLines.{release_lines}
 use Rattle.front_end.specs.PlacedSources.{PlacedSource, PlacedSources}
-use Rattle.split_cli.specs.Releases.{first_release}
+use Rattle.run_comparison.specs.Releases.{first_release}
 use Rattle.net_world.specs.Replay.{events_in}
-use Rattle.split_cli.specs.Replay.{event_refused, ScriptRead, read}
+use Rattle.script_stages.specs.Scripts.{event_refused, ScriptRead, read}
 use Rattle.front_end.specs.Stages.{given, stopped}
 use Rattle.front_end.specs.Verdicts.{VerdictShape, Print, bad_differ, starts_differ, events_differ, not_prompt}
 use Rattle.net_world.proofs.ReleasedValues.{some_released, released_first}
-use Rattle.split_cli.proofs.DriveDue.{code_hosts}
+use Rattle.script_stages.proofs.ScriptReads.{code_hosts}
 use Rattle.split_cli.proofs.DriveEnds.{StepCauses}
 use Rattle.split_cli.proofs.FirstHosts.{first_number_or_none}
 use Rattle.front_end.proofs.NativeParts.{IsSeen}
-use Rattle.split_cli.proofs.ReplayDue.{OwnAtStart, own_in_first}
-use Rattle.split_cli.proofs.SameMessages.{same_event, same_option, same_sent}
+use Rattle.script_stages.proofs.ScriptReads.{OwnAtStart, own_in_first}
+use Rattle.run_comparison.proofs.SameMessages.{same_event, same_option, same_sent}
 use Rattle.split_cli.proofs.SomeDrive.{CodeLaws, sound_code}
 use Rattle.split_cli.proofs.SomeReplay.{SomeScript, script_some}
 use Rattle.front_end.proofs.SomeStages.{HasOutcome, HasVerdict, some_due}

@@ -22,7 +22,8 @@ use Rattle.placement.specs.Placing.{IsPlaced, HasHosts}
 use Rattle.split_rules.specs.Placed.{PlacedProgram}
 use Rattle.split_rules.specs.SplitCode.{split_code}
 use Rattle.split_rules.specs.Splittable.{IsSplittable}
-use Rattle.split_cli.specs.Drive.{first_world, TellsDrive, DueForDriven}
+use Rattle.script_stages.specs.FirstWorld.{first_world}
+use Rattle.split_cli.specs.Drive.{TellsDrive, DueForDriven}
 use Rattle.front_end.specs.PlacedCode.{code_of, program_of}
 use Rattle.front_end.specs.PlacedSources.{PlacedSource, PlacedSources, labelled_source}
 use Rattle.front_end.specs.Stages.{given}
@@ -30,7 +31,7 @@ use Rattle.event_text.specs.Start.{program_form}
 use Rattle.front_end.specs.Starting.{StartingValues}
 use Rattle.front_end.specs.Verdicts.{Print}
 use Rattle.net_world.proofs.Obeying.{obey_at_start}
-use Rattle.split_cli.proofs.DriveDue.{code_hosts}
+use Rattle.script_stages.proofs.ScriptReads.{code_hosts}
 use Rattle.front_end.proofs.NativeParts.{IsSeen}
 use Rattle.front_end.proofs.NativeSources.{NativeLaws, is_read}
 use Rattle.front_end.proofs.ReadLaws.{splittable}

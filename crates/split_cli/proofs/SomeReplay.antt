@@ -9,10 +9,10 @@ use Rattle.event_text.specs.declared.script.EventsError.TheVariants as error
 use Rattle.event_text.specs.Script.{ScriptShape, script_of, EventsFail}
 use Rattle.host_code.specs.Code.{CodeShape}
 use Rattle.net_world.specs.World.{WorldShape, IsStep}
-use Rattle.split_cli.specs.Drive.{first_world}
+use Rattle.script_stages.specs.FirstWorld.{first_world}
 use Rattle.front_end.specs.PlacedCode.{code_of}
 use Rattle.front_end.specs.PlacedSources.{PlacedSource}
-use Rattle.split_cli.specs.Replay.{ScriptRead, long, bad_line, read, EventsHappen, happened, refused, event_refused}
+use Rattle.script_stages.specs.Scripts.{ScriptRead, long, bad_line, read, EventsHappen, happened, refused, event_refused}
 use Rattle.split_cli.specs.Replay.{replay_text, DueForEvents, DueForScript, DueForReplay}
 use Rattle.front_end.specs.Stages.{given, stopped}
 use Rattle.front_end.specs.Verdicts.{Print, too_long, no_form}

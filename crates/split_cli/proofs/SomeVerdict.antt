@@ -6,8 +6,8 @@ use Rattle.js_base.specs.declared.status.Status.TheVariants.{Done}
 use Rattle.front_end.specs.declared.step_counts.TheConstants.{STEPS}
 use Rattle.split_cli.specs.Check.{plan_report}
 use Rattle.front_end.specs.PlacedCode.{cost_of}
-use Rattle.split_cli.specs.Commands.{CommandShape, Check, Run, Replay, Drive, Compare, Split, Make, files_of, forms}
-use Rattle.split_cli.specs.Compare.{DueForCompare}
+use Rattle.split_words.specs.Commands.{CommandShape, Check, Run, Replay, Drive, Compare, Split, Make, files_of, forms}
+use Rattle.run_comparison.specs.Compare.{DueForCompare}
 use Rattle.split_cli.specs.Drive.{DueForDrive, drive_text}
 use Rattle.split_cli.specs.Due.{DueForBytes, DueForCommand, absent, loaded, Due, no_words, for_command}
 use Rattle.front_end.specs.Loads.{Told, IsFirstAbsent}
@@ -33,7 +33,7 @@ use Rattle.split_cli.proofs.SomeRun.{SomeEnd, run_some}
 use Rattle.front_end.proofs.SomeStart.{SomeStart}
 use Rattle.front_end.proofs.SomeStages.{HasOutcome, HasVerdict, some_due}
 use Rattle.split_cli.proofs.SplitStages.{split_some}
-use Rattle.split_cli.proofs.WordForms.{words_form}
+use Rattle.split_words.proofs.WordForms.{words_form}
 
 -- what is known of all stages
 pub record AllCauses : Type 0 where

@@ -5,7 +5,7 @@ use Rattle.std.specs.Prelude.{IfOk, IfErr, OnOk}
 use Rattle.js_base.specs.Counts.{counted, Rose}
 use Rattle.js_base.specs.Files.{ChangesOnly}
 use Rattle.js_base.specs.declared.status.Status.TheVariants.{Done}
-use Rattle.split_cli.specs.Commands.{Split}
+use Rattle.split_words.specs.Commands.{Split}
 use Rattle.split_cli.specs.Due.{DueForCommand, loaded, SavesFor, MaySave, IsDueForCommand}
 use Rattle.front_end.specs.Loading.{StopsWith, EndsIn}
 use Rattle.front_end.specs.Loads.{FilesChange, AreKept, counted_by}

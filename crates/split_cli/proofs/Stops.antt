@@ -1,8 +1,8 @@
 -- What is due for a command where a file was not loaded, and for the words that ask for it.
 use Rattle.std.proofs.Common.{◌≡◌, ℕ, ◌+◌, List, sym}
 use Rattle.std.proofs.Common.{subst, inl, inr, ⊎_elim}
-use Rattle.split_cli.specs.Commands.{CommandShape, Check, Run, Replay, Drive, Compare, Split, Make}
-use Rattle.split_cli.specs.Commands.{IsCommand, words_of, files_of, forms, HaveNoForm}
+use Rattle.split_words.specs.Commands.{CommandShape, Check, Run, Replay, Drive, Compare, Split, Make}
+use Rattle.split_words.specs.Commands.{IsCommand, words_of, files_of, forms, HaveNoForm}
 use Rattle.front_end.specs.Refusals.{RefusalShape}
 use Rattle.front_end.specs.Verdicts.{VerdictShape, Refuse, usage}
 use Rattle.front_end.specs.Loads.{FilesChange, AreKept}

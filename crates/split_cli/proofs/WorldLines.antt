@@ -98,13 +98,6 @@ sent_lines_more code sent i one lt is =
     report.numbered_more (sent_lines code) (sent_line code) (λ n. refl) (λ n x xs. refl) sent i one lt
     ∙ ap (λ m. lines_text (sent_lines code 0 (take i sent)) ++ (sent_line code i m ++ 10 ∷ [])) is
 
-pub range_push : (a n j : ℕ) → a + n ≡ j → range_with_len a (suc n) ≡ range_with_len a n ++ j ∷ []
-range_push a zero j is =
-    let same : a ≡ j = omega (arith, is) in
-    ap (λ (k : ℕ). k ∷ []) same
-range_push a (suc n) j is =
-    ap (λ (numbers : List ℕ). a ∷ numbers) (range_push (a + 1) n j (omega (arith, is)))
-
 -- the lines of the numbers below one more
 pub range_more : (g : ℕ → List (List ℕ)) (n : ℕ) → lines_text (flat_map g (range_with_len 0 (n + 1)))
     ≡ lines_text (flat_map g (range_with_len 0 n)) ++ lines_text (g n)

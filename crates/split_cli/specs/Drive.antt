@@ -7,7 +7,7 @@ use Rattle.jif_tree.specs.Trees.{program_tree}
 use Rattle.event_text.specs.declared.event.Event.{Event}
 use Rattle.event_text.specs.Start.{program_form}
 use Rattle.host_code.specs.Code.{CodeShape}
-use Rattle.net_world.specs.World.{WorldShape, world_at_start}
+use Rattle.net_world.specs.World.{WorldShape}
 use Rattle.split_cli.specs.Driven.{DrivesTo}
 use Rattle.front_end.specs.PlacedCode.{code_of}
 use Rattle.front_end.specs.PlacedSources.{PlacedSource}
@@ -15,11 +15,8 @@ use Rattle.front_end.specs.Stages.{DueThen}
 use Rattle.front_end.specs.Starting.{StartingValues}
 use Rattle.front_end.specs.Text.{lines_text}
 use Rattle.front_end.specs.Verdicts.{VerdictShape, Print}
+use Rattle.script_stages.specs.FirstWorld.{first_world}
 use Rattle.split_cli.specs.WorldReport.{world_lines}
-
--- the world before the first event; bit h of the word says that host h misbehaves
-abbrev pub first_world : PlacedSource → ℕ → List (List ℤ) → WorldShape
-first_world placed bad values = world_at_start (code_of placed) placed.source.file.hosts bad values
 
 -- `events M`, the number of events that were made
 abbrev pub events_line : ℕ → List ℕ

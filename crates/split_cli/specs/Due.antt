@@ -2,8 +2,8 @@
 use Rattle.std.specs.Prelude.{◌≡◌, ℕ, ◌+◌, ◌⊎◌, List, [], ◌∷◌, length, Option, Some}
 use Rattle.std.specs.List.{AllZip}
 use Rattle.js_base.specs.declared.status.Status.TheVariants.{Done}
-use Rattle.split_cli.specs.Commands.{CommandShape, Check, Run, Replay, Drive, Compare, Split, Make}
-use Rattle.split_cli.specs.Commands.{IsCommand, words_of, files_of, forms, HaveNoForm}
+use Rattle.split_words.specs.Commands.{CommandShape, Check, Run, Replay, Drive, Compare, Split, Make}
+use Rattle.split_words.specs.Commands.{IsCommand, words_of, files_of, forms, HaveNoForm}
 use Rattle.front_end.specs.Verdicts.{VerdictShape, Print, usage, no_such_file}
 use Rattle.front_end.specs.Loads.{FilesChange, Told, AreKept, LoadsWell, IsFirstAbsent, IsFileFault, counted_by}
 use Rattle.split_cli.specs.Saves.{SavesUnder, IsSaved, IsSaveFault}
@@ -11,7 +11,7 @@ use Rattle.front_end.specs.Stages.{given, DueThen}
 use Rattle.front_end.specs.Sources.{Sources}
 use Rattle.front_end.specs.PlacedSources.{PlacedSources}
 use Rattle.split_cli.specs.Check.{plan_report}
-use Rattle.split_cli.specs.Compare.{DueForCompare}
+use Rattle.run_comparison.specs.Compare.{DueForCompare}
 use Rattle.split_cli.specs.Making.{DueForMake}
 use Rattle.split_cli.specs.PlainRun.{DueForRun}
 use Rattle.split_cli.specs.Replay.{DueForReplay}

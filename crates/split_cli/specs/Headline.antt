@@ -38,8 +38,9 @@ use Rattle.front_end.specs.PlacedCode.{code_of, program_of}
 use Rattle.front_end.specs.PlacedSources.{PlacedSource, PlacedSources}
 use Rattle.front_end.specs.Stages.{given}
 use Rattle.front_end.specs.Verdicts.{Print}
-use Rattle.split_cli.specs.Compare.{StartAlike, Compared}
-use Rattle.split_cli.specs.Drive.{first_world, drive_text}
+use Rattle.run_comparison.specs.Compare.{StartAlike, Compared}
+use Rattle.script_stages.specs.FirstWorld.{first_world}
+use Rattle.split_cli.specs.Drive.{drive_text}
 use Rattle.split_cli.specs.Driven.{DrivesTo}
 use Rattle.split_cli.specs.Replay.{replay_text}
 

@@ -26,11 +26,11 @@ ghost use Rattle.front_end.specs.Stages.{given};
 ghost use Rattle.front_end.specs.StepCounts.{IsStepCount};
 ghost use Rattle.front_end.specs.Verdicts.{Print, VerdictShape, usage, no_such_file};
 ghost use Rattle.front_end.specs.Loads.{FilesChange};
-ghost use Rattle.split_cli.specs.Commands.{Compare, Drive, IsMadeCount, Make, Replay, forms, words_of};
+ghost use Rattle.split_words.specs.Commands.{Compare, Drive, IsMadeCount, Make, Replay, forms, words_of};
 ghost use Rattle.split_cli.specs.Due.{Due, IsDue};
 ghost use Rattle.split_cli.specs.Headline.{IsFaithful, IsFaithfulDrive, IsPlacedAs, IsPrivate};
 ghost use Rattle.split_cli.specs.Headline.{OfFourFiles, OfThreeFiles};
-ghost use Rattle.split_cli.specs.Releases.{program_releases};
+ghost use Rattle.run_comparison.specs.Releases.{program_releases};
 ghost use Rattle.front_end.specs.Text.{lines_text};
 
 use event_text::script_laws;

@@ -17,8 +17,8 @@ ghost use Rattle.split_shades.specs.Sites.{ReleasesNothing};
 ghost use Rattle.front_end.specs.PlacedSources.{PlacedSource, PlacedSources};
 ghost use Rattle.front_end.specs.Stages.{given};
 ghost use Rattle.split_cli.specs.Answers.{AnswersReport, AnswersTo};
-ghost use Rattle.split_cli.specs.Commands as command;
-ghost use Rattle.split_cli.specs.Asked.{command_shape};
+ghost use Rattle.split_words.specs.Commands as command;
+ghost use Rattle.split_words.specs.Asked.{command_shape};
 ghost use Rattle.split_cli.specs.Due.{Due, IsDue, IsDueForCommand, MaySave, OfCommand};
 ghost use Rattle.split_cli.specs.Headline.{IsFaithful, IsFaithfulDrive, IsPlacedAs, IsPrivate};
 ghost use Rattle.split_cli.specs.Headline.{OfFourFiles, OfThreeFiles, Puts};
@@ -36,9 +36,9 @@ use crate::commands::replay::due_for_replay;
 use crate::commands::run::due_for_run;
 use crate::commands::split::due_for_split;
 use crate::laws::{due_laws, headline_laws};
-use crate::words::{Command, command_of};
 use front_end::{Stop, Verdict, answer};
 use js_base::{Files, OutOfMemory, Sink, Status};
+use split_words::{Command, command_of};
 use std::alloc::Global;
 
 /// The program's name, which stands in front of its lines on the error output.

@@ -43,5 +43,6 @@ mod writing;
 pub use error::WireError;
 pub use frame::Frame;
 pub use laws::wire_laws;
+pub use ranges::message_law;
 pub use reading::read;
 pub use writing::write;

@@ -32,7 +32,7 @@ fn riders_law(riders: &[(VarId, i64)])
 }
 
 /// Each number of a message fits its type.
-fn message_law(message: Message)
+pub fn message_law(message: Message)
     ensures { IsMessage message }
 {
     match message {

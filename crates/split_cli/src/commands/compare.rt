@@ -3,8 +3,8 @@
 ghost use Rattle.std.specs.Prelude.{◌≡◌, ◌≤◌, ◌+◌, ◌∷◌, [], ℕ, List, All, IfOk};
 ghost use Rattle.js_base.specs.declared.limits.TheConstants.{PROGRAM_BYTES, HOSTS_BYTES, SCRIPT_BYTES};
 ghost use Rattle.event_text.specs.OwnTokens.{IsOwnEvent};
-ghost use Rattle.split_cli.specs.Commands as command;
-ghost use Rattle.split_cli.specs.Compare.{DueForSaid};
+ghost use Rattle.split_words.specs.Commands as command;
+ghost use Rattle.run_comparison.specs.Compare.{DueForSaid};
 ghost use Rattle.front_end.specs.PlacedCode.{code_of};
 ghost use Rattle.split_cli.specs.Due.{DueForBytes, IsDueForCommand};
 ghost use Rattle.front_end.specs.Loading.{EndsIn, IsLoaded};
@@ -12,15 +12,14 @@ ghost use Rattle.front_end.specs.Loads.{AreKept, files_change};
 ghost use Rattle.front_end.specs.PlacedShapes.{placed_shape};
 
 use crate::commands::{host_file, program_file, script_file};
-use crate::comparing::{
-    compared, is_prompt, same_events, same_misbehave, same_starts, unlike_field,
-};
-use crate::following::follow;
-use crate::scripts::{first_world, read_script};
 use event_text::Script;
 use front_end::{Loaded, PlacedSource, Stop, Verdict, code_of, load_all, read_places, releases_of};
 use host_code::Code;
 use js_base::Files;
+use run_comparison::{
+    compared, follow, is_prompt, same_events, same_misbehave, same_starts, unlike_field,
+};
+use script_stages::{first_world, read_script};
 use std::alloc::Global;
 
 /// What is due for `compare P H EVENTS1 EVENTS2`.

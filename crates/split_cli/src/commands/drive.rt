@@ -3,7 +3,7 @@
 ghost use Rattle.std.specs.Prelude.{◌≡◌, ◌≤◌, ◌+◌, ◌∷◌, [], ℕ, List, IfOk};
 ghost use Rattle.js_base.specs.declared.limits.TheConstants.{PROGRAM_BYTES, HOSTS_BYTES, SCRIPT_BYTES};
 ghost use Rattle.front_end.specs.declared.step_counts.TheConstants.{STEPS};
-ghost use Rattle.split_cli.specs.Commands as command;
+ghost use Rattle.split_words.specs.Commands as command;
 ghost use Rattle.front_end.specs.StepCounts.{IsStepCount};
 ghost use Rattle.split_cli.specs.Drive.{IsDriveReport};
 ghost use Rattle.split_cli.specs.Due.{DueForBytes, IsDueForCommand};

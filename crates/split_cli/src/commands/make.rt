@@ -4,7 +4,7 @@ ghost use Rattle.std.specs.Prelude.{◌≡◌, [], IfOk};
 ghost use Rattle.js_base.specs.declared.limits.TheConstants.{PROGRAM_BYTES, HOSTS_BYTES};
 ghost use Rattle.front_end.specs.declared.step_counts.TheConstants.{STEPS};
 ghost use Rattle.front_end.specs.PlacedCode.{cost_of};
-ghost use Rattle.split_cli.specs.Commands as command;
+ghost use Rattle.split_words.specs.Commands as command;
 ghost use Rattle.split_cli.specs.Drive.{TellsDrive};
 ghost use Rattle.split_cli.specs.Due.{IsDueForCommand};
 ghost use Rattle.front_end.specs.Loading.{EndsIn, IsLoaded};

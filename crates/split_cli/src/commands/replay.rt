@@ -3,7 +3,7 @@
 ghost use Rattle.std.specs.Prelude.{◌≡◌, ◌≤◌, ◌+◌, ◌∷◌, [], ℕ, List, All};
 ghost use Rattle.js_base.specs.declared.limits.TheConstants.{PROGRAM_BYTES, HOSTS_BYTES, SCRIPT_BYTES};
 ghost use Rattle.event_text.specs.OwnTokens.{IsOwnEvent};
-ghost use Rattle.split_cli.specs.Commands as command;
+ghost use Rattle.split_words.specs.Commands as command;
 ghost use Rattle.front_end.specs.PlacedCode.{code_of};
 ghost use Rattle.split_cli.specs.Due.{DueForBytes, IsDueForCommand};
 ghost use Rattle.front_end.specs.Loading.{EndsIn, IsLoaded};
@@ -12,12 +12,12 @@ ghost use Rattle.front_end.specs.PlacedShapes.{placed_shape};
 ghost use Rattle.split_cli.specs.Replay.{DueForSaid};
 
 use crate::commands::{host_file, program_file, script_file};
-use crate::scripts::{events_happen, first_world, read_script};
 use crate::world_report::replay_text;
 use event_text::Script;
 use front_end::{Loaded, PlacedSource, Stop, Verdict, code_of, load_all, read_places};
 use host_code::Code;
 use js_base::{Files, Status};
+use script_stages::{events_happen, first_world, read_script};
 use std::alloc::Global;
 
 /// What is due for `replay P H EVENTS`.

@@ -4,7 +4,7 @@ ghost use Rattle.std.specs.Prelude.{◌≡◌, ◌≤◌, ◌+◌, ◌++◌, ◌
 ghost use Rattle.std.specs.String.{string_bytes};
 ghost use Rattle.js_base.specs.declared.limits.TheConstants.{PROGRAM_BYTES, HOSTS_BYTES, SCRIPT_BYTES};
 ghost use Rattle.jif_tree.specs.Trees.{field_tree};
-ghost use Rattle.split_cli.specs.Commands as command;
+ghost use Rattle.split_words.specs.Commands as command;
 ghost use Rattle.split_cli.specs.Due.{DueForBytes, IsDueForCommand};
 ghost use Rattle.front_end.specs.Loading.{EndsIn, IsLoaded};
 ghost use Rattle.front_end.specs.Loads.{AreKept, files_change};

@@ -4,7 +4,7 @@ ghost use Rattle.std.specs.Prelude.{◌≡◌, ◌≤◌, ◌+◌, ℕ, List, st
 ghost use Rattle.js_base.specs.Counts.{Rose};
 ghost use Rattle.js_base.specs.declared.limits.TheConstants.{PROGRAM_BYTES, HOSTS_BYTES};
 ghost use Rattle.js_base.specs.declared.status.Status.{Status};
-ghost use Rattle.split_cli.specs.Commands as command;
+ghost use Rattle.split_words.specs.Commands as command;
 ghost use Rattle.split_cli.specs.Due.{IsDueForCommand, MaySave};
 ghost use Rattle.front_end.specs.Loading.{EndsAs, EndsIn, IsLoaded, StopsWith};
 ghost use Rattle.front_end.specs.Loads.{files_change};

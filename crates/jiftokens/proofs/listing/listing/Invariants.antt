@@ -1,7 +1,7 @@
 use Rattle.std.proofs.Common.{◌≡◌, take, drop, length}
 use Rattle.std.specs.String.{string_bytes}
 use Rattle.jiftokens.specs.Listing.{token_rows}
-use Rattle.jiftokens.specs.Places.{column_behind, line_behind}
+use Rattle.text_places.specs.Places.{column_behind, line_behind}
 use Rattle.jiftokens.proofs.TokenOrder.{AreInOrder}
 use Rattle.jiftokens.proofs.listing.listing.Given as goal
 

@@ -1,5 +1,5 @@
 use Rattle.std.proofs.Common.{refl}
-use Rattle.node_engine.specs.Seals.{opened_of}
+use Rattle.node_seals.specs.Seals.{opened_of}
 use Rattle.node_engine.proofs.Noting.{steps_noted}
 use Rattle.node_engine.proofs.OneUnit.{one_arrival, one_parts}
 use Rattle.node_engine.proofs.UnitParts.{some_arrival, some_parts, some_taking}

@@ -1,6 +1,8 @@
 use Rattle.front_end.proofs.Stages.{handed_on, then_ends, then_stops}
-use Rattle.node_engine.specs.NodeSources.{HostFound, NodeSources, OfHost, node_source, node_start}
-use Rattle.node_engine.specs.Options.{asked_shape, name_of, source_name}
+use Rattle.node_engine.specs.ReadyNodes.{HostFound}
+use Rattle.node_starts.specs.NodeSources.{NodeSources, OfHost, node_source, node_start}
+use Rattle.node_engine.specs.Options.{asked_shape}
+use Rattle.node_starts.specs.SourceNames.{name_of, source_name}
 use Rattle.node_engine.proofs.node_files.host_of_loaded.Goals as goal
 
 pub returns-in_err-source-clause-due : goal.returns-in_err-source-clause-due

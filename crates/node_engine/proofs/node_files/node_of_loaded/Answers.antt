@@ -1,6 +1,8 @@
 use Rattle.front_end.proofs.Stages.{handed_on, then_ends, then_stops}
-use Rattle.node_engine.specs.NodeSources.{HostFound, NodeStarts, PartChecked, node_start}
-use Rattle.node_engine.specs.Options.{asked_shape, source_name}
+use Rattle.node_engine.specs.ReadyNodes.{HostFound, NodeStarts}
+use Rattle.node_starts.specs.NodeSources.{PartChecked, node_start}
+use Rattle.node_engine.specs.Options.{asked_shape}
+use Rattle.node_starts.specs.SourceNames.{source_name}
 use Rattle.node_engine.proofs.node_files.node_of_loaded.Goals as goal
 
 pub returns-in_err-node-clause-due : goal.returns-in_err-node-clause-due

@@ -1,7 +1,8 @@
 use Rattle.std.proofs.Common.{[], None, ap, inl}
 use Rattle.front_end.specs.Stages.{given}
 use Rattle.front_end.proofs.Stages.{handed_on, then_stops}
-use Rattle.node_engine.specs.NodeSources.{NodeStarts, Sealed, node_start, ready_node}
+use Rattle.node_engine.specs.ReadyNodes.{NodeStarts, Sealed, ready_node}
+use Rattle.node_starts.specs.NodeSources.{node_start}
 use Rattle.front_end.specs.Stages.{Then}
 use Rattle.node_engine.specs.Options.{asked_shape}
 use Rattle.node_engine.proofs.node_files.plain_of_loaded.Goals as goal

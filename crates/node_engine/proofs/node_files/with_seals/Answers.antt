@@ -1,6 +1,5 @@
-use Rattle.std.proofs.Common.{◌∙◌, sym}
-use Rattle.front_end.specs.Loading.{IsLoaded}
-use Rattle.node_engine.specs.NodeSources.{node_start}
+use Rattle.std.proofs.Common.{◌∙◌}
+use Rattle.node_starts.specs.NodeSources.{node_start}
 use Rattle.node_engine.proofs.LoadedNodes.{seals_stop}
 use Rattle.node_engine.proofs.node_files.with_seals.Goals as goal
 

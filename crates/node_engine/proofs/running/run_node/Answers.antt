@@ -1,8 +1,8 @@
 use Rattle.std.proofs.Common.{ap, refl}
-use Rattle.node_engine.specs.NodeSources.{ready_node}
+use Rattle.node_engine.specs.ReadyNodes.{ready_node}
 use Rattle.node_engine.proofs.Breaking.{faults_later}
 use Rattle.node_engine.proofs.Ends.{broke_early, served_begun}
-use Rattle.node_engine.proofs.Rows.{row_at}
+use Rattle.node_starts.proofs.Rows.{row_at}
 use Rattle.node_engine.proofs.running.run_node.Goals as goal
 
 pub returns-in-Ok-begin-clause-runs : goal.returns-in-Ok-begin-clause-runs

@@ -1,7 +1,7 @@
-use Rattle.std.proofs.Common.{◌∙◌, Ok, Err, arith}
+use Rattle.std.proofs.Common.{Ok, Err, arith}
 use Rattle.link_seal.specs.declared.errors.OpenError.TheVariants as refusal
 use Rattle.link_seal.specs.Links.{after_one}
-use Rattle.node_engine.specs.Seals.{link_of, raised}
+use Rattle.node_seals.specs.Seals.{link_of, raised}
 use Rattle.node_engine.proofs.SealedFrames.{nothing_lacks, opens_as, raised_link, sealed_for, taken_by}
 use Rattle.node_engine.proofs.seals_laws.sealing_laws.Goals as goal
 

@@ -5,8 +5,10 @@ use Rattle.front_end.specs.Stages.{given, stopped}
 use Rattle.front_end.specs.Verdicts.{Print, hosts_refused}
 use Rattle.front_end.proofs.SomeStages.{HasOutcome}
 use Rattle.node_engine.proofs.OnlyRefusals.{node_refuses, ready_refuses}
-use Rattle.node_engine.proofs.OneNode.{OneSources, loaded_once, node_once, ready_once}
-use Rattle.node_engine.proofs.SomeNode.{SomeSources, node_some, ready_some}
+use Rattle.node_starts.proofs.OneSource.{OneSources}
+use Rattle.node_engine.proofs.OneNode.{loaded_once, node_once, ready_once}
+use Rattle.node_starts.proofs.SomeSource.{SomeSources}
+use Rattle.node_engine.proofs.SomeNode.{node_some, ready_some}
 use Rattle.node_engine.proofs.start_laws.node_laws.Goals as goal
 
 sources : (c : goal.After-script_laws) → OneSources

@@ -6,8 +6,8 @@ use Rattle.split_cli.proofs.OneVerdict.{AllLaws, due_once, answer_once}
 use Rattle.front_end.proofs.NativeSources.{NativeLaws}
 use Rattle.split_cli.proofs.SilentPrograms.{silent_program}
 use Rattle.split_cli.proofs.SomeVerdict.{AllCauses, due_some}
-use Rattle.split_cli.proofs.WordForms.{none_asked}
-use Rattle.split_cli.specs.Commands.{Check}
+use Rattle.split_words.proofs.WordForms.{none_asked}
+use Rattle.split_words.specs.Commands.{Check}
 use Rattle.split_cli.specs.Due.{no_words, for_command, absent}
 use Rattle.front_end.specs.Verdicts.{no_such_file}
 use Rattle.split_cli.proofs.laws.due_laws.Goals as goal

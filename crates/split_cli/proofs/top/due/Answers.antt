@@ -1,6 +1,6 @@
 use Rattle.std.proofs.Common.{refl}
 use Rattle.std.proofs.lemmas.Result.{IfOk-weaker}
-use Rattle.split_cli.specs.Asked.{command_shape}
+use Rattle.split_words.specs.Asked.{command_shape}
 use Rattle.front_end.specs.Verdicts.{verdict_shape}
 use Rattle.split_cli.proofs.Stops.{due_for_words, usage_due}
 use Rattle.split_cli.proofs.top.due.Goals as goal

@@ -3,7 +3,7 @@ use Rattle.js_base.specs.declared.status.Status.{Status}
 use Rattle.js_base.specs.declared.status.Status.TheVariants.{Done, Differ}
 use Rattle.front_end.proofs.Answering.{answers_to}
 use Rattle.front_end.specs.Verdicts.{Print}
-use Rattle.split_cli.specs.Commands.{Compare, words_of}
+use Rattle.split_words.specs.Commands.{Compare, words_of}
 use Rattle.split_cli.specs.Due.{Due}
 use Rattle.split_cli.specs.Headline.{IsFaithful, IsFaithfulDrive, IsPrivate, OfThreeFiles, OfFourFiles}
 use Rattle.split_cli.proofs.Completeness.{complete}

@@ -1,4 +1,3 @@
-use Rattle.std.proofs.Common.{◌∙◌}
 use Rattle.std.proofs.lemmas.Result.{on_ok_weaker, IfErr-weaker}
 use Rattle.node_engine.proofs.Sealing.{frame_does, frame_stops}
 use Rattle.node_engine.proofs.node.Node.sent.Goals as goal

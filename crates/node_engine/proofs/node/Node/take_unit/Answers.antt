@@ -1,7 +1,7 @@
 use Rattle.std.proofs.Common.{◌∙◌, ap, ap₂}
 use Rattle.std.proofs.lemmas.Result.{IfOk-weaker, IfErr-weaker}
 use Rattle.host_core.specs.Host.{state_of}
-use Rattle.node_engine.specs.Seals.{opened_of}
+use Rattle.node_seals.specs.Seals.{opened_of}
 use Rattle.node_engine.specs.Told.{inside, seen}
 use Rattle.node_engine.specs.Units.{inside_opened}
 use Rattle.node_engine.proofs.Breaking.{handed}

@@ -1,4 +1,4 @@
-use Rattle.split_cli.specs.Commands.{Check}
+use Rattle.split_words.specs.Commands.{Check}
 use Rattle.split_cli.specs.Due.{IsDueForCommand}
 use Rattle.split_cli.proofs.LoadedFiles.{loading_stops, two_due}
 use Rattle.front_end.proofs.LoadedFiles.{two_files, two_names}

@@ -1,7 +1,7 @@
 use Rattle.std.proofs.Common.{◌≡◌, [], ◌∷◌, ap, inl}
 use Rattle.js_base.specs.declared.status.Status.TheVariants.{Done}
 use Rattle.split_cli.specs.Check.{plan_report}
-use Rattle.split_cli.specs.Commands.{Check}
+use Rattle.split_words.specs.Commands.{Check}
 use Rattle.split_cli.specs.Due.{DueForBytes}
 use Rattle.front_end.specs.PlacedShapes.{placed_shape}
 use Rattle.front_end.specs.PlacedSources.{PlacedSource, PlacedSources}

@@ -1,5 +1,5 @@
 use Rattle.std.proofs.Common.{refl}
-use Rattle.split_cli.specs.Commands.{Compare}
+use Rattle.split_words.specs.Commands.{Compare}
 use Rattle.split_cli.specs.Due.{IsDueForCommand}
 use Rattle.split_cli.proofs.LoadedFiles.{loading_stops, four_due}
 use Rattle.front_end.proofs.LoadedFiles.{four_names}

@@ -1,13 +1,13 @@
 use Rattle.std.proofs.Common.{[], ◌∷◌, inl, refl}
-use Rattle.split_cli.specs.Commands.{Compare}
-use Rattle.split_cli.specs.Compare.{DueForCompare, DueForSaid}
+use Rattle.split_words.specs.Commands.{Compare}
+use Rattle.run_comparison.specs.Compare.{DueForCompare, DueForSaid}
 use Rattle.split_cli.specs.Due.{DueForBytes}
 use Rattle.front_end.specs.PlacedShapes.{placed_shape}
 use Rattle.front_end.specs.PlacedSources.{PlacedSources}
-use Rattle.split_cli.specs.Replay.{ScriptRead}
+use Rattle.script_stages.specs.Scripts.{ScriptRead}
 use Rattle.front_end.specs.Stages.{given, stopped}
-use Rattle.split_cli.proofs.CompareDue.{first_stops, second_stops, both_read}
-use Rattle.split_cli.proofs.ReplayDue.{script_of_program}
+use Rattle.run_comparison.proofs.CompareDue.{first_stops, second_stops, both_read}
+use Rattle.script_stages.proofs.ScriptReads.{script_of_program}
 use Rattle.front_end.proofs.Stages.{due_handed_on, due_stops, ends_weaker, memory_ran_out, stops_weaker}
 use Rattle.split_cli.proofs.commands.compare.due_for_loaded.Goals as goal
 

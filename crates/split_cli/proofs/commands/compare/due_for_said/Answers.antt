@@ -1,11 +1,11 @@
 use Rattle.std.proofs.Common.{inl, inr}
 use Rattle.net_world.specs.Fits.{world_of}
-use Rattle.split_cli.specs.Compare.{DueForSaid, SameBits, SameValues, SameEvents, IsPromptRun}
-use Rattle.split_cli.specs.Followed.{EventsFollowed}
-use Rattle.split_cli.specs.FollowedRuns.{run_of}
+use Rattle.run_comparison.specs.Compare.{DueForSaid, SameBits, SameValues, SameEvents, IsPromptRun}
+use Rattle.run_comparison.specs.Followed.{EventsFollowed}
+use Rattle.run_comparison.specs.FollowedRuns.{run_of}
 use Rattle.front_end.specs.PlacedShapes.{placed_shape}
 use Rattle.front_end.specs.Stages.{given, stopped}
-use Rattle.split_cli.proofs.CompareDue.{followed_as, misbehave_as, starts_as, compared_as, runs_due}
+use Rattle.run_comparison.proofs.CompareDue.{followed_as, misbehave_as, starts_as, compared_as, runs_due}
 use Rattle.front_end.proofs.Stages.{due_handed_on, memory_ran_out, stops_weaker}
 use Rattle.split_cli.proofs.commands.compare.due_for_said.Goals as goal
 

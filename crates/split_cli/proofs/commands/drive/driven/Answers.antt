@@ -1,7 +1,8 @@
 use Rattle.net_world.specs.Fits.{world_of}
 use Rattle.split_cli.specs.Drive.{drive_text}
 use Rattle.front_end.specs.PlacedShapes.{placed_shape}
-use Rattle.split_cli.proofs.DriveDue.{code_hosts, obey_from, report_made}
+use Rattle.script_stages.proofs.ScriptReads.{code_hosts}
+use Rattle.split_cli.proofs.DriveDue.{obey_from, report_made}
 use Rattle.split_cli.proofs.commands.drive.driven.Goals as goal
 
 pub start-requires : goal.start-requires

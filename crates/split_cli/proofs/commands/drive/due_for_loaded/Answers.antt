@@ -2,7 +2,7 @@ use Rattle.std.proofs.Common.{[], ◌∷◌, ◌∙◌, ap, subst, inl, inr, Lis
 use Rattle.jif_tree.specs.declared.program.Field.{Field}
 use Rattle.jif_tree.specs.Trees.{program_tree}
 use Rattle.event_text.specs.Start.{program_form}
-use Rattle.split_cli.specs.Commands.{Drive}
+use Rattle.split_words.specs.Commands.{Drive}
 use Rattle.split_cli.specs.Due.{DueForBytes}
 use Rattle.front_end.specs.PlacedShapes.{PlacedModel, placed_shape}
 use Rattle.front_end.specs.PlacedSources.{PlacedSources}

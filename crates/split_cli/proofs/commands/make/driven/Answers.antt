@@ -3,7 +3,8 @@ use Rattle.front_end.specs.PlacedCode.{cost_of}
 use Rattle.split_cli.specs.Making.{made_text}
 use Rattle.front_end.specs.PlacedShapes.{placed_shape}
 use Rattle.front_end.specs.declared.step_counts.TheConstants.{STEPS}
-use Rattle.split_cli.proofs.DriveDue.{code_hosts, obey_from, report_made}
+use Rattle.script_stages.proofs.ScriptReads.{code_hosts}
+use Rattle.split_cli.proofs.DriveDue.{obey_from, report_made}
 use Rattle.split_cli.proofs.commands.make.driven.Goals as goal
 
 pub start-requires : goal.start-requires

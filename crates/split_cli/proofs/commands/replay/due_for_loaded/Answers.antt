@@ -1,11 +1,13 @@
 use Rattle.std.proofs.Common.{[], ◌∷◌, inl, refl}
-use Rattle.split_cli.specs.Commands.{Replay}
+use Rattle.split_words.specs.Commands.{Replay}
 use Rattle.split_cli.specs.Due.{DueForBytes}
 use Rattle.front_end.specs.PlacedShapes.{placed_shape}
 use Rattle.front_end.specs.PlacedSources.{PlacedSources}
-use Rattle.split_cli.specs.Replay.{ScriptRead, DueForReplay, DueForSaid}
+use Rattle.script_stages.specs.Scripts.{ScriptRead}
+use Rattle.split_cli.specs.Replay.{DueForReplay, DueForSaid}
 use Rattle.front_end.specs.Stages.{given, stopped}
-use Rattle.split_cli.proofs.ReplayDue.{script_of_program, script_stops, script_happens}
+use Rattle.script_stages.proofs.ScriptReads.{script_of_program}
+use Rattle.split_cli.proofs.ReplayDue.{script_stops, script_happens}
 use Rattle.front_end.proofs.Stages.{due_handed_on, due_stops, ends_weaker, memory_ran_out, stops_weaker}
 use Rattle.split_cli.proofs.commands.replay.due_for_loaded.Goals as goal
 

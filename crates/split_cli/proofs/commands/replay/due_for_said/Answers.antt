@@ -1,8 +1,10 @@
 use Rattle.net_world.specs.Fits.{world_of}
 use Rattle.front_end.specs.PlacedShapes.{placed_shape}
-use Rattle.split_cli.specs.Replay.{DueForSaid, EventsHappen}
+use Rattle.split_cli.specs.Replay.{DueForSaid}
+use Rattle.script_stages.specs.Scripts.{EventsHappen}
 use Rattle.front_end.specs.Stages.{given, stopped}
-use Rattle.split_cli.proofs.ReplayDue.{events_as, events_stop, events_reported}
+use Rattle.script_stages.proofs.ScriptReads.{events_as}
+use Rattle.split_cli.proofs.ReplayDue.{events_stop, events_reported}
 use Rattle.front_end.proofs.Stages.{due_handed_on, memory_ran_out, stops_weaker}
 use Rattle.split_cli.proofs.commands.replay.due_for_said.Goals as goal
 

@@ -2,7 +2,7 @@ use Rattle.std.proofs.Common.{[], ◌∷◌, ap, subst, inl, inr, List, map}
 use Rattle.jif_tree.specs.declared.program.Field.{Field}
 use Rattle.jif_tree.specs.Trees.{program_tree}
 use Rattle.event_text.specs.Start.{program_form}
-use Rattle.split_cli.specs.Commands.{Run}
+use Rattle.split_words.specs.Commands.{Run}
 use Rattle.split_cli.specs.Due.{DueForBytes}
 use Rattle.split_cli.specs.PlainRun.{DueForRun}
 use Rattle.front_end.specs.SourceShapes.{SourceModel, source_shape}

@@ -1,5 +1,5 @@
 use Rattle.std.proofs.Common.{refl}
-use Rattle.split_cli.specs.Commands.{Run}
+use Rattle.split_words.specs.Commands.{Run}
 use Rattle.split_cli.specs.Due.{IsDueForCommand}
 use Rattle.split_cli.proofs.LoadedFiles.{loading_stops, three_due}
 use Rattle.front_end.proofs.LoadedFiles.{three_names}

@@ -1,5 +1,5 @@
 use Rattle.std.proofs.Common.{refl, inl}
-use Rattle.split_cli.specs.Commands.{Split}
+use Rattle.split_words.specs.Commands.{Split}
 use Rattle.split_cli.specs.Due.{IsDueForCommand}
 use Rattle.split_cli.specs.Split.{split_shape}
 use Rattle.split_cli.proofs.LoadedFiles.{loading_stops}

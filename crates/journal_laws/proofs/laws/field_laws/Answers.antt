@@ -1,0 +1,10 @@
+use Rattle.journal_laws.proofs.SameFields.{determined, played_fields}
+use Rattle.journal_laws.proofs.laws.field_laws.Goals as goal
+
+pub returns-clause-determined : goal.returns-clause-determined
+returns-clause-determined c code values me key other lines steps others last end sound own there =
+    determined code sound own values me key other lines steps others last end there
+
+pub returns-clause-played : goal.returns-clause-played
+returns-clause-played c code values me key other lines shown steps last sound own there =
+    played_fields code sound own values me key other lines shown steps last there

@@ -1,0 +1,2 @@
+pub mod KeyLines
+pub mod OpenedLinks

@@ -1,0 +1,2 @@
+pub mod NodeSources
+pub mod SourceNames

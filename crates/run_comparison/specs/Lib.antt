@@ -1,0 +1,7 @@
+pub mod Compare
+pub mod Followed
+pub mod FollowedRuns
+pub mod MessageParts
+pub mod ReleaseLines
+pub mod Releases
+pub mod ReleasingKinds

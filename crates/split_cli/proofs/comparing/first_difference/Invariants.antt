@@ -1,6 +1,0 @@
-use Rattle.std.proofs.Common.{◌≡◌, take}
-use Rattle.split_cli.proofs.comparing.first_difference.Given as goal
-
--- the messages so far are the same
-abbrev pub invariant-loop-place : goal.invariant-loop-place
-invariant-loop-place l = take l.place l.one ≡ take l.place l.other

@@ -1,7 +1,0 @@
-use Rattle.std.proofs.Common.{◌≡◌, take}
-use Rattle.split_cli.proofs.AlikeLists.{events_of}
-use Rattle.split_cli.proofs.comparing.going_apart.Given as goal
-
--- the events so far are the same
-abbrev pub invariant-loop-place : goal.invariant-loop-place
-invariant-loop-place l = take l.place (events_of l.one) ≡ take l.place (events_of l.other)

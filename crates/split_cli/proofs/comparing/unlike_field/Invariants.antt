@@ -1,7 +1,0 @@
-use Rattle.net_world.specs.Fits.{world_of}
-use Rattle.split_cli.proofs.AlikeLists.{AlikeBelow}
-use Rattle.split_cli.proofs.comparing.unlike_field.Given as goal
-
--- no field so far starts unlike
-abbrev pub invariant-loop-number : goal.invariant-loop-number
-invariant-loop-number l = AlikeBelow l.code (world_of l.world) l.one l.other l.number

@@ -1,0 +1,103 @@
+# Completion in bash for the programs of jifsplit: their commands, and the files that each word names.
+
+# The files whose names end so, and folders.
+_jif_files() {
+  local file
+  COMPREPLY=()
+  compopt -o filenames 2>/dev/null
+  while IFS= read -r file; do
+    COMPREPLY+=("$file")
+  done < <(compgen -f -X "!*$1" -- "$2"; [ -z "$1" ] || compgen -d -- "$2")
+}
+
+# The words of a list that begin with the word.
+_jif_words() {
+  COMPREPLY=($(compgen -W "$1" -- "$2"))
+}
+
+_jifsplit() {
+  local word=${COMP_WORDS[COMP_CWORD]}
+  COMPREPLY=()
+  case "$COMP_CWORD ${COMP_WORDS[1]}" in
+    '1 '*) _jif_words 'check split run replay drive compare make' "$word" ;;
+    *' make') ;;
+    '2 '*) _jif_files .jif "$word" ;;
+    '3 '*) _jif_files .toml "$word" ;;
+    '4 split' | '4 run' | '4 replay' | '4 drive' | '4 compare' | '5 compare') _jif_files '' "$word" ;;
+  esac
+}
+
+_jifhost() {
+  local word=${COMP_WORDS[COMP_CWORD]} hosts='' at
+  COMPREPLY=()
+  case ${COMP_WORDS[COMP_CWORD - 1]} in
+    --program) _jif_files .jif "$word" ;;
+    --hosts) _jif_files .toml "$word" ;;
+    --code | --start | --seals) _jif_files '' "$word" ;;
+    --turns) ;;
+    --host)
+      for ((at = 1; at + 1 < ${#COMP_WORDS[@]}; at++)); do
+        [ "${COMP_WORDS[at]}" != --hosts ] || hosts=${COMP_WORDS[at + 1]}
+      done
+      [ ! -f "$hosts" ] || _jif_words "$(_jif_hosts "$hosts")" "$word"
+      ;;
+    *) _jif_words '--program --code --hosts --host --start --turns --seals' "$word" ;;
+  esac
+}
+
+# The names of the hosts of a host file.
+_jif_hosts() {
+  sed -n '/^\[\[host\]\]/,/^\[\[link\]\]/s/^name *= *"\([A-Za-z0-9_]*\)".*/\1/p' "$1"
+}
+
+_jifrun() {
+  local word=${COMP_WORDS[COMP_CWORD]}
+  COMPREPLY=()
+  case $COMP_CWORD in
+    1) _jif_files .jif "$word" ;;
+    2) _jif_files .toml "$word" ;;
+    3) _jif_files '' "$word" ;;
+  esac
+}
+
+_jifmerge() {
+  local word=${COMP_WORDS[COMP_CWORD]}
+  COMPREPLY=()
+  case $COMP_CWORD in
+    1) _jif_files .jif "$word" ;;
+    2) _jif_files .toml "$word" ;;
+    *) _jif_files '' "$word" ;;
+  esac
+}
+
+_jifpicture() {
+  local word=${COMP_WORDS[COMP_CWORD]}
+  COMPREPLY=()
+  case $COMP_CWORD in
+    1) _jif_files .jif "$word" ;;
+    2) _jif_files .toml "$word" ;;
+  esac
+}
+
+_jiftokens() {
+  COMPREPLY=()
+  [ "$COMP_CWORD" -ne 1 ] || _jif_files .jif "${COMP_WORDS[1]}"
+}
+
+_jifkeys() {
+  local word=${COMP_WORDS[COMP_CWORD]}
+  COMPREPLY=()
+  case $COMP_CWORD in
+    1) _jif_files .toml "$word" ;;
+    2) [ ! -f "${COMP_WORDS[1]}" ] || _jif_words "$(_jif_hosts "${COMP_WORDS[1]}")" "$word" ;;
+    3) _jif_files '' "$word" ;;
+  esac
+}
+
+complete -F _jifsplit jifsplit
+complete -F _jifhost jifhost
+complete -F _jifrun jifrun
+complete -F _jifmerge jifmerge
+complete -F _jifpicture jifpicture
+complete -F _jiftokens jiftokens
+complete -F _jifkeys jifkeys

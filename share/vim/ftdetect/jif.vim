@@ -1,0 +1,2 @@
+" Files of the language of jifsplit.
+autocmd BufRead,BufNewFile *.jif setfiletype jif
