@@ -4,8 +4,10 @@
 //! principal, its source and what it came through.
 
 use crate::placed_programs::{hosts_of, resolved};
+use js_base::limits::VARIABLES;
 use js_base::{FieldId, StmtId, VarId};
-use label_reasons::{Cause, Reason, Source, Trait, Via, Wanted, label_refusal};
+use label_reasons::{Cause, Reason, Refusal, Source, Trait, Via, Wanted, label_refusal};
+use std::alloc::Global;
 use std::process::Abort;
 use std::test::Fail;
 
@@ -37,12 +39,18 @@ fn pair(owner: u8, reader: u8, field: u32, via: Via) -> Reason {
     }
 }
 
+/// Why the labels of a text are refused, among four principals.
+fn refusal_of(rt: &impl Abort, alloc: Global, text: &str) -> Result<Option<Refusal>, Fail> {
+    let hosts = hosts_of(alloc, FOUR)?;
+    let program = resolved(alloc, text, hosts.principals())?;
+    assert!(rt; program.vars.len() <= VARIABLES);
+    Ok(label_refusal(alloc, &program, hosts.principals())?)
+}
+
 #[test]
 fn a_refused_statement_has_its_reasons(rt: HostRuntime) -> Result<(), Fail> {
     let alloc = rt.alloc();
-    let hosts = hosts_of(alloc, FOUR)?;
-    let program = resolved(alloc, UNRELEASED, hosts.principals())?;
-    let told = label_refusal(alloc, &program, hosts.principals())?.expect(&rt, "refused");
+    let told = refusal_of(&rt, alloc, UNRELEASED)?.expect(&rt, "refused");
     assert!(rt; told.statement == StmtId(3));
     assert!(rt; told.wanted == Wanted::KeptInField(FieldId(2)));
     let by_r = Via::ByLocal(VarId(0), StmtId(1));
@@ -62,9 +70,7 @@ fn a_refused_statement_has_its_reasons(rt: HostRuntime) -> Result<(), Fail> {
 #[test]
 fn a_guard_is_what_it_came_through(rt: HostRuntime) -> Result<(), Fail> {
     let alloc = rt.alloc();
-    let hosts = hosts_of(alloc, FOUR)?;
-    let program = resolved(alloc, GUARDED, hosts.principals())?;
-    let told = label_refusal(alloc, &program, hosts.principals())?.expect(&rt, "refused");
+    let told = refusal_of(&rt, alloc, GUARDED)?.expect(&rt, "refused");
     assert!(rt; told.statement == StmtId(2));
     assert!(rt; told.wanted == Wanted::KeptInField(FieldId(1)));
     let by_guard = Via::ByGuard(StmtId(1));
@@ -76,8 +82,6 @@ fn a_guard_is_what_it_came_through(rt: HostRuntime) -> Result<(), Fail> {
 #[test]
 fn what_is_accepted_is_not_refused(rt: HostRuntime) -> Result<(), Fail> {
     let alloc = rt.alloc();
-    let hosts = hosts_of(alloc, FOUR)?;
-    let program = resolved(alloc, ACCEPTED, hosts.principals())?;
-    assert!(rt; label_refusal(alloc, &program, hosts.principals())?.is_none());
+    assert!(rt; refusal_of(&rt, alloc, ACCEPTED)?.is_none());
     Ok(())
 }

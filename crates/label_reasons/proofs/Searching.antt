@@ -83,11 +83,11 @@ offered_before principals held authority asks before found is = rw is refl
 
 -- ---- what is found in parts
 
-abbrev or_later : Option Ask → Option Ask → Option Ask
+abbrev pub or_later : Option Ask → Option Ask → Option Ask
 or_later None later = later
 or_later (Some ask) later = Some ask
 
-first_in_two : (principals : Declared) (first second : List Ask) →
+pub first_in_two : (principals : Declared) (first second : List Ask) →
     first_refused principals (first ++ second)
     ≡ or_later (first_refused principals first) (first_refused principals second)
 first_in_two principals [] second = refl
