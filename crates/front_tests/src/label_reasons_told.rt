@@ -16,7 +16,8 @@ const FOUR: &str = "principals = [\"Alice\", \"Bob\", \"Vault\", \"Purse\"]\n\
     [[host]]\nname = \"A\"\nlabel = \"{}\"\n";
 
 /// Two secrets meet, and nobody releases the answer.
-const UNRELEASED: &str = "int{Alice:; ?: Alice, Vault} reserve; int{Bob:; ?: Bob, Purse} offer; int{?: Alice, Bob} deal;\n\
+const UNRELEASED: &str =
+    "int{Alice:; ?: Alice, Vault} reserve; int{Bob:; ?: Bob, Purse} offer; int{?: Alice, Bob} deal;\n\
     void main{?: Alice, Bob}() where authority(Alice, Bob) {\n\
     int r = endorse(reserve, {?: Alice, Bob});\n\
     int o = endorse(offer, {?: Alice, Bob});\n\
@@ -74,7 +75,11 @@ fn a_guard_is_what_it_came_through(rt: HostRuntime) -> Result<(), Fail> {
     assert!(rt; told.statement == StmtId(2));
     assert!(rt; told.wanted == Wanted::KeptInField(FieldId(1)));
     let by_guard = Via::ByGuard(StmtId(1));
-    let wanted = [pair(0, 1, 0, by_guard), pair(0, 2, 0, by_guard), pair(0, 3, 0, by_guard)];
+    let wanted = [
+        pair(0, 1, 0, by_guard),
+        pair(0, 2, 0, by_guard),
+        pair(0, 3, 0, by_guard),
+    ];
     assert!(rt; told.reasons.as_slice() == wanted.as_slice());
     Ok(())
 }

@@ -1,5 +1,5 @@
 -- The reasons that were found are those that are told.
-use Rattle.std.proofs.Common.{◌≡◌, ℕ, ◌<◌, ◌+◌, List, [], ◌∷◌, ◌++◌, length, map, take, get_or, refl, sym, ap, ◌∙◌, subst}
+use Rattle.std.proofs.Common.{◌≡◌, ℕ, ◌<◌, ◌+◌, List, [], ◌∷◌, ◌++◌, length, take, get_or, sym, ap, ◌∙◌, subst}
 use Rattle.std.specs.Prelude.{All, Bool, Option, Some, None, unwrap_or}
 use Rattle.std.specs.List.{filter_map, cons_option}
 use Rattle.std.specs.Option.{option_map}
@@ -15,9 +15,9 @@ use Rattle.label_reasons.specs.declared.reason.Reason.{Reason}
 use Rattle.label_reasons.specs.declared.reason.Wanted.{Wanted}
 use Rattle.label_reasons.specs.declared.search_place.Located.{Located}
 use Rattle.label_reasons.specs.Traits.{IsTrait, IsDeclaredTrait}
-use Rattle.label_reasons.specs.Asks.{Ask, program_asks}
+use Rattle.label_reasons.specs.Asks.{Ask}
 use Rattle.label_reasons.specs.Listed.{listed}
-use Rattle.label_reasons.specs.Reasons.{fails_in, constraint_of, listed_in, reason_of, label_reasons, first_refused}
+use Rattle.label_reasons.specs.Reasons.{fails_in, constraint_of, listed_in, reason_of, label_reasons}
 use Rattle.label_reasons.specs.Reasons.{Explained, explained}
 use Rattle.label_reasons.specs.Search.{ShowsIfAny, Locates, authority_of, found_cause, IsFirstRefused}
 use Rattle.label_reasons.proofs.Failing.{listed_within}

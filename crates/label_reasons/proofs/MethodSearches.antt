@@ -1,5 +1,5 @@
 -- A search along the methods of a program.
-use Rattle.std.proofs.Common.{◌≡◌, ℕ, ◌<◌, ◌+◌, suc, List, [], ◌∷◌, ◌++◌, length, map, get_or, refl, sym, ap, ◌∙◌, subst}
+use Rattle.std.proofs.Common.{◌≡◌, ℕ, ◌<◌, ◌+◌, List, [], ◌∷◌, length, map, get_or, refl, sym, ap, ◌∙◌, subst}
 use Rattle.std.specs.Prelude.{All, Option, Some, None, unwrap_or, slice_get}
 use Rattle.std.specs.Option.{option_map}
 use Rattle.std.proofs.lemmas.List.{length-map, get_or-map}
@@ -18,7 +18,7 @@ use Rattle.label_reasons.specs.declared.search_place.Found.{Found}
 use Rattle.label_reasons.specs.Causes.{begin_cause, causes_after, declared_causes}
 use Rattle.label_reasons.specs.Asks.{Ask, Spot, spot_after, block_asks, method_spot, methods_asks, program_asks}
 use Rattle.label_reasons.specs.Reasons.{first_refused}
-use Rattle.label_reasons.specs.Search.{listed_cause, IsKnown, Shows, ShowsIfAny, Finds, Walks, WalksMethod}
+use Rattle.label_reasons.specs.Search.{listed_cause, IsKnown, Shows, ShowsIfAny, Walks, WalksMethod}
 use Rattle.label_reasons.specs.Search.{authority_of, IsFirstRefused}
 use Rattle.label_reasons.proofs.Searching.{or_later, first_in_two}
 use Rattle.label_reasons.proofs.Walking.{found_in}
@@ -120,9 +120,12 @@ is_found principals program held place old new method rest found reached walks s
     let later : List Ask = methods_asks principals program (place + 1) after.labels after.causes rest in
     let some = some_shown held method.authority (first_refused principals asks) found
     (walks.found reached.causes reached.seen) in
-    let P : List PrincipalId → Type 0 = λ authority. Shows held authority some.0 found in
-    (some.0, reached.left ∙ first_in_two principals asks later
-    ∙ ap (λ first. or_later first (first_refused principals later)) some.1, subst P (sym same) some.2)
+    let P : List PrincipalId → Type 0 = λ authority. Shows held authority some.0 found in (
+      some.0,
+      reached.left ∙ first_in_two principals asks later
+          ∙ ap (λ first. or_later first (first_refused principals later)) some.1,
+      subst P (sym same) some.2,
+    )
 
 -- ---- methods at places
 

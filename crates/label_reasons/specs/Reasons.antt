@@ -1,5 +1,5 @@
 -- Why a constraint does not hold: what is listed of what fails, each with what brings it in.
-use Rattle.std.specs.Prelude.{ℕ, ◌≡◌, ◌==◌, ◌&&◌, Bool, false, not, IsTrue, List, [], ◌∷◌}
+use Rattle.std.specs.Prelude.{ℕ, ◌≡◌, ◌==◌, ◌&&◌, Bool, false, not, List, [], ◌∷◌}
 use Rattle.std.specs.Prelude.{Any, Option, Some, None}
 use Rattle.std.specs.List.{filter, filter_map, list_any}
 use Rattle.std.specs.Option.{option_map}

@@ -8,7 +8,7 @@ use Rattle.js_base.specs.declared.ids.PrincipalId.{PrincipalId}
 use Rattle.principals.specs.ActsFor.{Declared, AreDeclared}
 use Rattle.label_lattice.specs.declared.label.Label.{Label}
 use Rattle.jif_tree.specs.Trees.{ExprTree, BlockTree, MethodTree, ProgramTree, program_tree, method_tree}
-use Rattle.jif_tree.specs.LabelRules.{Constraint, MethodSetting, VariableLabels, setting_of, expr_label, guarded, labels_after}
+use Rattle.jif_tree.specs.LabelRules.{Constraint, MethodSetting, setting_of, expr_label, guarded, labels_after}
 use Rattle.label_reasons.specs.declared.reason.Trait.{Trait}
 use Rattle.label_reasons.specs.declared.reason.Cause.{Cause}
 use Rattle.label_reasons.specs.declared.search_place.Place.{Place}
@@ -132,7 +132,8 @@ pub record WalksMethod (principals : Declared) (program : ProgramTree) (held : T
   pub labels : labels_after (setting_of principals program method) method.begin old.labels.items method.body
       ≡ new.labels.items
   pub causes : causes_after held (setting_of principals program method) method.begin
-      (begin_cause held (record { 0 = place }) method.begin) old.labels.items (listed_cause old.causes.items) method.body
+      (begin_cause held (record { 0 = place }) method.begin) old.labels.items (listed_cause old.causes.items)
+      method.body
       ≡ listed_cause new.causes.items
   pub long : IsKnown new
   pub found : (causes : Trait → VarId → Option Cause) → causes held ≡ listed_cause old.causes.items →

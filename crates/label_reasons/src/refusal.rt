@@ -238,7 +238,14 @@ pub fn label_refusal(
     let pairs = all_pairs(alloc, principals)?;
     let distrusts = all_distrusts(alloc, principals)?;
     // Which trait is looked for makes no difference to what is refused.
-    let located = search(alloc, principals, program, Trait::Distrusts(0), &pairs, &distrusts)?;
+    let located = search(
+        alloc,
+        principals,
+        program,
+        Trait::Distrusts(0),
+        &pairs,
+        &distrusts,
+    )?;
     let Some(located) = located else {
         return Ok(None);
     };
