@@ -13,6 +13,8 @@ mod files;
 #[cfg(test)]
 mod host_files;
 #[cfg(test)]
+mod label_reasons_told;
+#[cfg(test)]
 mod labels;
 #[cfg(test)]
 mod limits;

@@ -1,5 +1,5 @@
 -- The test of who acts for whom tells of chains.
-use Rattle.std.proofs.Common.{◌↔◌, ◌⊎◌, inl, inr, ◌≡◌, IsTrue, ℕ, Bool, ◌||◌, ◌&&◌, List, [], ◌∷◌, Contains, refl}
+use Rattle.std.proofs.Common.{◌↔◌, ◌⊎◌, inl, inr, IsTrue, ℕ, Bool, ◌&&◌, List, [], ◌∷◌, Contains, refl}
 use Rattle.std.proofs.Common.{◌∙◌, zero, suc, subst, arith}
 use Rattle.std.proofs.lemmas.Bool.{or_cases, or_left, or_right, and_parts, and_from, eqb-true, eq-eqb}
 use Rattle.principals.specs.ActsFor.{Declared, ActsFor, IsPreorder}

@@ -1,6 +1,6 @@
 -- What fails of a constraint, and that it holds where nothing fails.
-use Rattle.std.proofs.Common.{◌≡◌, ◌≢◌, ◌==◌, ◌&&◌, ◌↔◌, ◌⊎◌, inl, inr, IsTrue, ℕ, zero, suc, ◌+◌, ◌<◌, ◌≤◌, Bool, true, false, not}
-use Rattle.std.proofs.Common.{List, [], ◌∷◌, ◌++◌, map, length, All, Any, filter, flat_map, filter_map, get_or, refl, sym, ap}
+use Rattle.std.proofs.Common.{◌≡◌, ◌≢◌, ◌==◌, inl, inr, IsTrue, ℕ, zero, suc, ◌+◌, ◌<◌, ◌≤◌, Bool, true, not}
+use Rattle.std.proofs.Common.{List, [], ◌∷◌, length, All, Any, filter, flat_map, filter_map, get_or, refl, sym, ap}
 use Rattle.std.proofs.Common.{◌∙◌, subst, arith}
 use Rattle.std.specs.Prelude.{Option, Some, None, IsSome, is_some, unwrap_or}
 use Rattle.std.specs.List.{cons_option, list_any, range_with_len}
@@ -14,8 +14,7 @@ use Rattle.js_base.specs.declared.ids.PrincipalId.{PrincipalId}
 use Rattle.js_base.specs.declared.limits.TheConstants.{PRINCIPALS}
 use Rattle.principals.specs.ActsFor.{Declared, ActsFor, AreDeclared, IsDeclared, IsReader, outsider}
 use Rattle.label_lattice.specs.declared.label.Label.{Label}
-use Rattle.label_lattice.specs.declared.label.TheConstants.{READERS}
-use Rattle.label_lattice.specs.Label.{Forbids, Trusts, PolicyForbids, KeepsOut}
+use Rattle.label_lattice.specs.Label.{Trusts, PolicyForbids}
 use Rattle.label_lattice.specs.Over.{IsLabelOver}
 use Rattle.label_lattice.specs.Printed.{forbids, is_trusted_by}
 use Rattle.jif_tree.specs.LabelRules.{Constraint, may_release, trusted, may_endorse, may_begin, may_flow, Holds}
@@ -25,10 +24,10 @@ use Rattle.label_reasons.specs.declared.reason.Cause.{Cause}
 use Rattle.label_reasons.specs.declared.reason.Reason.{Reason}
 use Rattle.label_reasons.specs.Traits.{has, Fails, IsTrait, IsDeclaredTrait}
 use Rattle.label_reasons.specs.Listed.{acts_for, declared_numbers, readers, pairs_of, all_pairs, all_distrusts, failing}
-use Rattle.label_reasons.specs.Listed.{is_of_another, unless_none, goes_without_saying, said_pairs, listed_pairs, listed}
+use Rattle.label_reasons.specs.Listed.{is_of_another, unless_none, goes_without_saying, listed_pairs, listed}
 use Rattle.label_reasons.specs.Asks.{Ask}
 use Rattle.label_reasons.specs.Reasons.{fails, may_tell, release_fails, trust_fails, endorse_fails, fails_in, asked_label}
-use Rattle.label_reasons.specs.Reasons.{listed_in, reason_of, label_reasons, ReleaseFails, TrustFails, EndorseFails, FailsIn}
+use Rattle.label_reasons.specs.Reasons.{listed_in, reason_of, label_reasons, FailsIn}
 use Rattle.label_reasons.specs.Reasons.{IsLabelReason, IsTold, IsOver}
 use Rattle.label_reasons.proofs.TraitTests.{AreTrusted, forbids_is, not_both, fails_flow, flows_else}
 use Rattle.label_reasons.proofs.ExpressionCauses.{is_trait}

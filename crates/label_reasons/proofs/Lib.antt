@@ -12,3 +12,6 @@ pub mod ListableTraits
 pub mod Searching
 pub mod ShownAsks
 pub mod Walking
+pub mod DeclaredCauses
+pub mod MethodSearches
+pub mod FoundReasons

@@ -1,5 +1,5 @@
 -- What may be listed.
-use Rattle.std.proofs.Common.{◌≡◌, ◌↔◌, ◌⊎◌, inl, inr, IsTrue, ℕ, ◌<◌, ◌≤◌, false, List, [], ◌∷◌, length, All, refl, subst, arith}
+use Rattle.std.proofs.Common.{◌≡◌, ◌↔◌, inl, inr, IsTrue, ℕ, ◌<◌, ◌≤◌, false, [], ◌∷◌, length, All, refl, subst, arith}
 use Rattle.std.proofs.lemmas.Bool.{false_from_ne_true}
 use Rattle.std.proofs.lemmas.List.Elements.{All-append, All-nil, All-cons, All-map}
 use Rattle.principals.specs.ActsFor.{Declared, ActsFor, IsDeclared, IsReader, outsider}

@@ -1,5 +1,5 @@
 -- What is found in parts is found in the whole.
-use Rattle.std.proofs.Common.{◌≡◌, ◌≢◌, ◌⊎◌, inl, inr, ℕ, Bool, true, false, List, [], ◌∷◌, ◌++◌, filter, refl, sym, ap, ◌∙◌, subst, cond}
+use Rattle.std.proofs.Common.{◌≡◌, inl, inr, Bool, true, false, List, [], ◌∷◌, ◌++◌, filter, refl, sym, ◌∙◌, subst, cond}
 use Rattle.std.specs.Prelude.{Option, Some, None}
 use Rattle.std.specs.List.{list_any}
 use Rattle.std.proofs.lemmas.Bool.{or_parts, or_cases, cases_Bool, true≢false}
@@ -12,7 +12,7 @@ use Rattle.label_reasons.specs.declared.search_place.Found.{Found}
 use Rattle.label_reasons.specs.declared.search_place.Place.{Place}
 use Rattle.label_reasons.specs.declared.search_place.Stand.{Stand}
 use Rattle.label_reasons.specs.declared.search_place.Known.{Known}
-use Rattle.label_reasons.specs.Listed.{all_pairs, all_distrusts, is_of_another, listed}
+use Rattle.label_reasons.specs.Listed.{all_pairs, all_distrusts}
 use Rattle.label_reasons.specs.Asks.{Ask, Spot}
 use Rattle.label_reasons.specs.Reasons.{fails_in, constraint_of, listed_in, refused_or, first_refused}
 use Rattle.label_reasons.specs.Search.{authority_at, spot_at, some_fails_in, Shows, ShowsIfAny, Finds, FindsAt}
@@ -83,11 +83,11 @@ offered_before principals held authority asks before found is = rw is refl
 
 -- ---- what is found in parts
 
-abbrev or_later : Option Ask → Option Ask → Option Ask
+abbrev pub or_later : Option Ask → Option Ask → Option Ask
 or_later None later = later
 or_later (Some ask) later = Some ask
 
-first_in_two : (principals : Declared) (first second : List Ask) →
+pub first_in_two : (principals : Declared) (first second : List Ask) →
     first_refused principals (first ++ second)
     ≡ or_later (first_refused principals first) (first_refused principals second)
 first_in_two principals [] second = refl

@@ -1,7 +1,7 @@
 -- What is asked for is told of: there is a cause exactly where the label that is asked about has a trait. And its
 -- labels are over the declared principals.
-use Rattle.std.proofs.Common.{◌≡◌, ◌≢◌, ◌⊎◌, inl, inr, IsTrue, ℕ, ◌+◌, ◌<◌, List, [], ◌∷◌, ◌++◌, length, All, flat_map, refl}
-use Rattle.std.proofs.Common.{sym, ap, ◌∙◌, subst, map}
+use Rattle.std.proofs.Common.{◌≡◌, inl, inr, ℕ, ◌+◌, List, [], ◌∷◌, ◌++◌, All, flat_map, refl}
+use Rattle.std.proofs.Common.{sym, subst}
 use Rattle.std.specs.Prelude.{Option, Some, None, unwrap_or, slice_get, slice_set}
 use Rattle.std.specs.List.{AllByRecursion}
 use Rattle.std.specs.Option.{option_map}
@@ -15,15 +15,14 @@ use Rattle.js_base.specs.declared.ids.MethodId.{MethodId}
 use Rattle.js_base.specs.declared.ids.StmtId.{StmtId}
 use Rattle.principals.specs.ActsFor.{Declared, AreDeclared}
 use Rattle.label_lattice.specs.declared.label.Label.{Label}
-use Rattle.label_lattice.specs.Label.{IsLabel}
 use Rattle.label_lattice.specs.Over.{IsLabelOver}
 use Rattle.label_lattice.specs.Lattice.{empty_label, join_of}
 use Rattle.jif_tree.specs.Trees.{ExprTree, number, local, scalar, element, inverted, negated, binary, declassified}
 use Rattle.jif_tree.specs.Trees.{endorsed, BlockTree, done, set_local, set_field, set_element, branch, loop, call}
-use Rattle.jif_tree.specs.Trees.{give_back, FieldTree, VarTree, MethodTree, ProgramTree}
-use Rattle.jif_tree.specs.LabelRules.{MethodSetting, VariableLabels, expr_label, variable_label, field_label}
+use Rattle.jif_tree.specs.Trees.{give_back, VarTree, MethodTree, ProgramTree}
+use Rattle.jif_tree.specs.LabelRules.{VariableLabels, variable_label, field_label}
 use Rattle.jif_tree.specs.LabelRules.{labels_after_assignment, method_at, begin_label, params_of, result_of}
-use Rattle.jif_tree.specs.LabelRules.{declared_labels, guarded}
+use Rattle.jif_tree.specs.LabelRules.{declared_labels}
 use Rattle.jif_tree.specs.ValueLabels.{IsExprLabelled, AreValuesLabelled, AreAllValuesLabelled}
 use Rattle.jif_tree.specs.WrittenLabels.{written_in, written_in_block, label_of_variable}
 use Rattle.label_check.specs.RuleLaws.{AreNamedOver}

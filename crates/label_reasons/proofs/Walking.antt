@@ -1,12 +1,11 @@
 -- A search along a block: what each statement does, and what is left.
-use Rattle.std.proofs.Common.{◌≡◌, List, [], ◌∷◌, ◌++◌, length, refl, sym, ap, ap₂, ◌∙◌, subst}
+use Rattle.std.proofs.Common.{◌≡◌, List, [], ◌∷◌, ◌++◌, refl, sym, ap, ap₂, ◌∙◌, subst}
 use Rattle.std.specs.Prelude.{Option}
 use Rattle.js_base.specs.declared.ids.StmtId.{StmtId}
 use Rattle.js_base.specs.declared.ids.VarId.{VarId}
-use Rattle.label_lattice.specs.declared.label.Label.{Label}
 use Rattle.label_lattice.specs.Lattice.{join_of}
-use Rattle.jif_tree.specs.Trees.{Heading, ExprTree, BlockTree, done, set_local, set_field, branch, loop}
-use Rattle.jif_tree.specs.LabelRules.{VariableLabels, labels_after, labels_after_assignment, expr_label, variable_label}
+use Rattle.jif_tree.specs.Trees.{Heading, ExprTree, BlockTree, done, set_local, branch, loop}
+use Rattle.jif_tree.specs.LabelRules.{labels_after, labels_after_assignment, variable_label}
 use Rattle.label_reasons.specs.declared.reason.Trait.{Trait}
 use Rattle.label_reasons.specs.declared.reason.Cause.{Cause}
 use Rattle.label_reasons.specs.declared.reason.Wanted.TheVariants.{KeptInLocal}

@@ -8,7 +8,6 @@
 -- A released value has the confidentiality of the label that is written and of the program label, and the integrity of
 -- its operand; an endorsed one the other way round. So where the cause is looked for depends on the trait.
 use Rattle.std.specs.Prelude.{◌↔◌, ⊤, Bool, if◌then◌else◌, ◌==◌, Option, Some, None, IsSome, IsTrue, slice_get}
-use Rattle.js_base.specs.declared.ids.FieldId.{FieldId}
 use Rattle.js_base.specs.declared.ids.VarId.{VarId}
 use Rattle.js_base.specs.declared.ids.MethodId.{MethodId}
 use Rattle.js_base.specs.declared.ids.StmtId.{StmtId}

@@ -1,6 +1,5 @@
 -- Some refused programs of Alice and Bob, to see what is told of them.
-use Rattle.std.specs.Prelude.{ℕ, ◌+◌, ◌-◌, ◌^◌, pos, false, List, [], ◌∷◌, Option, Some, None, codes}
-use Rattle.std.specs.Option.{option_map}
+use Rattle.std.specs.Prelude.{ℕ, ◌+◌, ◌-◌, ◌^◌, pos, false, List, [], ◌∷◌, Some, None, codes}
 use Rattle.js_base.specs.declared.bits.TheConstants.{WORD_BITS}
 use Rattle.js_base.specs.declared.binary_operator.BinOp.TheVariants.{GreaterEqual}
 use Rattle.js_base.specs.declared.ids.FieldId.{FieldId}
@@ -11,9 +10,8 @@ use Rattle.js_base.specs.declared.ids.PrincipalId.{PrincipalId}
 use Rattle.principals.specs.ActsFor.{Declared, outsider}
 use Rattle.label_lattice.specs.declared.label.Label.{Label}
 use Rattle.label_lattice.specs.Lattice.{first_bits, empty_label}
-use Rattle.label_lattice.specs.PrintedExamples.{alice_and_bob}
-use Rattle.jif_tree.specs.Trees.{ExprTree, Heading, number, local, scalar, binary, declassified, endorsed, BlockTree}
-use Rattle.jif_tree.specs.Trees.{done, set_local, set_field, branch, call, FieldTree, VarTree, MethodTree, ProgramTree}
+use Rattle.jif_tree.specs.Trees.{Heading, number, local, scalar, binary, declassified, endorsed, BlockTree}
+use Rattle.jif_tree.specs.Trees.{done, set_local, set_field, branch, call, FieldTree, MethodTree, ProgramTree}
 use Rattle.label_reasons.specs.declared.reason.Trait.{Trait}
 use Rattle.label_reasons.specs.declared.reason.Trait.TheVariants.{Keeps, Distrusts}
 use Rattle.label_reasons.specs.declared.reason.Source.{Source}
@@ -23,17 +21,7 @@ use Rattle.label_reasons.specs.declared.reason.Via.TheVariants.{Itself, ByLocal,
 use Rattle.label_reasons.specs.declared.reason.Reason.{Reason}
 use Rattle.label_reasons.specs.declared.reason.Wanted.{Wanted}
 use Rattle.label_reasons.specs.declared.reason.Wanted.TheVariants.{KeptInField, Begun, Released, ReleaseTrusted}
-use Rattle.label_reasons.specs.Asks.{Ask, program_asks}
-use Rattle.label_reasons.specs.Reasons.{label_reasons, first_refused}
-
--- what is told: the statement, what it wants, and why it may not
-abbrev pub Explained : Type 0
-Explained = Option (StmtId × Wanted × List Reason)
-
-abbrev pub explained : Declared → ProgramTree → Explained
-explained principals program =
-    option_map (λ ask. (ask.statement, ask.wanted, label_reasons principals ask))
-    (first_refused principals (program_asks principals program))
+use Rattle.label_reasons.specs.Reasons.{Explained}
 
 abbrev tells : ℕ → Wanted → List Reason → Explained
 tells place wanted reasons = Some (record { 0 = place }, wanted, reasons)

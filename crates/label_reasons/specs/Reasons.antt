@@ -1,5 +1,5 @@
 -- Why a constraint does not hold: what is listed of what fails, each with what brings it in.
-use Rattle.std.specs.Prelude.{ℕ, ◌≡◌, ◌==◌, ◌&&◌, Bool, false, not, IsTrue, List, [], ◌∷◌}
+use Rattle.std.specs.Prelude.{ℕ, ◌≡◌, ◌==◌, ◌&&◌, Bool, false, not, List, [], ◌∷◌}
 use Rattle.std.specs.Prelude.{Any, Option, Some, None}
 use Rattle.std.specs.List.{filter, filter_map, list_any}
 use Rattle.std.specs.Option.{option_map}
@@ -16,10 +16,12 @@ use Rattle.label_reasons.specs.declared.reason.Cause.{Cause}
 use Rattle.label_reasons.specs.declared.demand.Demand.{Demand}
 use Rattle.label_reasons.specs.declared.demand.Demand.TheVariants.{Release, Trust, Endorse, Begin, Flow}
 use Rattle.label_reasons.specs.declared.reason.Reason.{Reason}
+use Rattle.label_reasons.specs.declared.reason.Wanted.{Wanted}
+use Rattle.jif_tree.specs.Trees.{ProgramTree}
 use Rattle.label_reasons.specs.Traits.{has, Fails, IsDeclaredTrait}
 use Rattle.label_reasons.specs.Causes.{Tells}
 use Rattle.label_reasons.specs.Listed.{acts_for, listed}
-use Rattle.label_reasons.specs.Asks.{Ask}
+use Rattle.label_reasons.specs.Asks.{Ask, program_asks}
 
 -- ---- what fails of a constraint
 
@@ -145,3 +147,12 @@ first_refused principals (ask ∷ asks) = refused_or ask (listed_in principals a
 -- what a statement asks for
 abbrev pub asked_by : StmtId → List Ask → List Ask
 asked_by statement asks = filter (λ ask. ask.statement.0 == statement.0) asks
+
+-- what is told: the statement, what it wants, and why it may not
+abbrev pub Explained : Type 0
+Explained = Option (StmtId × Wanted × List Reason)
+
+abbrev pub explained : Declared → ProgramTree → Explained
+explained principals program =
+    option_map (λ ask. (ask.statement, ask.wanted, label_reasons principals ask))
+    (first_refused principals (program_asks principals program))

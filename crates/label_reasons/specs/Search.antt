@@ -1,25 +1,27 @@
 -- What a search for the refused statement finds, step by step.
-use Rattle.std.specs.Prelude.{◌≡◌, ◌||◌, Bool, List, Option, Some, None, unwrap_or, slice_get, length, ⊤}
+use Rattle.std.specs.Prelude.{◌≡◌, ◌||◌, ℕ, Bool, List, [], Option, Some, None, unwrap_or, slice_get, length, ⊤}
 use Rattle.std.specs.List.{list_any}
+use Rattle.std.specs.Option.{option_map}
 use Rattle.js_base.specs.declared.ids.StmtId.{StmtId}
 use Rattle.js_base.specs.declared.ids.VarId.{VarId}
 use Rattle.js_base.specs.declared.ids.PrincipalId.{PrincipalId}
 use Rattle.principals.specs.ActsFor.{Declared, AreDeclared}
 use Rattle.label_lattice.specs.declared.label.Label.{Label}
-use Rattle.jif_tree.specs.Trees.{ExprTree, BlockTree, program_tree, method_tree}
-use Rattle.jif_tree.specs.LabelRules.{Constraint, MethodSetting, VariableLabels, setting_of, expr_label, guarded}
-use Rattle.jif_tree.specs.LabelRules.{labels_after}
+use Rattle.jif_tree.specs.Trees.{ExprTree, BlockTree, MethodTree, ProgramTree, program_tree, method_tree}
+use Rattle.jif_tree.specs.LabelRules.{Constraint, MethodSetting, setting_of, expr_label, guarded, labels_after}
 use Rattle.label_reasons.specs.declared.reason.Trait.{Trait}
 use Rattle.label_reasons.specs.declared.reason.Cause.{Cause}
 use Rattle.label_reasons.specs.declared.search_place.Place.{Place}
 use Rattle.label_reasons.specs.declared.search_place.Stand.{Stand}
 use Rattle.label_reasons.specs.declared.search_place.Known.{Known}
 use Rattle.label_reasons.specs.declared.search_place.Found.{Found}
+use Rattle.label_reasons.specs.declared.search_place.Located.{Located}
+use Rattle.label_reasons.specs.declared.refusal.Refusal.{Refusal}
 use Rattle.label_reasons.specs.Traits.{IsTrait}
-use Rattle.label_reasons.specs.Causes.{expr_cause, guarded_cause, causes_after}
+use Rattle.label_reasons.specs.Causes.{expr_cause, guarded_cause, causes_after, begin_cause}
 use Rattle.label_reasons.specs.Listed.{all_pairs, all_distrusts}
-use Rattle.label_reasons.specs.Asks.{Spot, Ask, block_asks}
-use Rattle.label_reasons.specs.Reasons.{fails_in, constraint_of, first_refused}
+use Rattle.label_reasons.specs.Asks.{Spot, Ask, block_asks, method_spot, program_asks}
+use Rattle.label_reasons.specs.Reasons.{fails_in, constraint_of, first_refused, Explained}
 
 -- the cause of a variable in a list of causes
 abbrev pub listed_cause : List (Option Cause) → VarId → Option Cause
@@ -120,3 +122,45 @@ pub record Walks (place : Place) (stand : Stand) (old : Known) (old_found : Opti
   pub long : IsKnown new
   pub found : (end : Option Found) → FindsAt place stand new (λ spot. block_asks spot left) new_found end →
       FindsAt place stand old (λ spot. block_asks spot block) old_found end
+
+-- ---- programs
+
+-- Over the body of a method: its labels and causes are those behind it, and what is found is the first that is refused
+-- of what it asks for.
+pub record WalksMethod (principals : Declared) (program : ProgramTree) (held : Trait) (place : ℕ) (method : MethodTree)
+    (old new : Known) (new_found : Option Found) : Type 0 where
+  pub labels : labels_after (setting_of principals program method) method.begin old.labels.items method.body
+      ≡ new.labels.items
+  pub causes : causes_after held (setting_of principals program method) method.begin
+      (begin_cause held (record { 0 = place }) method.begin) old.labels.items (listed_cause old.causes.items)
+      method.body
+      ≡ listed_cause new.causes.items
+  pub long : IsKnown new
+  pub found : (causes : Trait → VarId → Option Cause) → causes held ≡ listed_cause old.causes.items →
+      Finds principals held method.authority
+      (block_asks (method_spot principals program place old.labels.items causes method) method.body) None
+      new_found
+
+-- the authority of the method at a place
+abbrev pub authority_of : ProgramTree → ℕ → List PrincipalId
+authority_of program place = unwrap_or (option_map (λ tree. tree.authority) (slice_get program.methods place)) []
+
+-- What is found shows the first that is refused, by the authority of its method.
+abbrev pub Locates : Declared → ProgramTree → Trait → Option Located → Type 0
+Locates principals program held None = first_refused principals (program_asks principals program) ≡ None
+Locates principals program held (Some located) =
+    (ask : Ask) × (first_refused principals (program_asks principals program) ≡ Some ask)
+    × Shows held (authority_of program located.method) ask located.found
+
+-- what brings the trait in, where something was found
+abbrev pub found_cause : Option Located → Option Cause
+found_cause None = None
+found_cause (Some located) = located.found.cause
+
+-- the first that is refused of what a program asks for
+abbrev pub IsFirstRefused : Declared → ProgramTree → Ask → Type 0
+IsFirstRefused principals program ask = first_refused principals (program_asks principals program) ≡ Some ask
+
+-- a refusal as it is told
+abbrev pub seen_refusal : Option Refusal → Explained
+seen_refusal refusal = option_map (λ told. (told.statement, told.wanted, told.reasons.items)) refusal

@@ -3,7 +3,7 @@
 -- A label may flow to another one exactly where nothing is held against the first that is not held against the second.
 -- A join has a trait exactly where a part has it, for pairs and for principals alike. So one walk over the parts of a
 -- label finds what brought the trait in, whichever it is.
-use Rattle.std.specs.Prelude.{ℕ, ◌<◌, Bool, not, IsTrue, length}
+use Rattle.std.specs.Prelude.{◌<◌, Bool, not, IsTrue, length}
 use Rattle.js_base.specs.declared.limits.TheConstants.{PRINCIPALS}
 use Rattle.principals.specs.ActsFor.{Declared}
 use Rattle.label_lattice.specs.declared.label.Label.{Label}

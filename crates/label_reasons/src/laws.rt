@@ -27,9 +27,9 @@ ghost use Rattle.label_reasons.specs.CauseExamples.{cause_behind, told_before, s
 ghost use Rattle.label_reasons.specs.CauseExamples.{copied, copied_inside, told, overwritten, released_again};
 ghost use Rattle.label_reasons.specs.declared.reason.Reason.{Reason};
 ghost use Rattle.label_reasons.specs.Reasons.{label_reasons, IsLabelReason, IsOver, IsTold};
-ghost use Rattle.label_reasons.specs.Reasons.{first_refused, asked_by};
+ghost use Rattle.label_reasons.specs.Reasons.{first_refused, asked_by, explained};
 ghost use Rattle.label_reasons.specs.Programs.{IsProgramOver};
-ghost use Rattle.label_reasons.specs.ReasonExamples.{explained, guarded_assignment, by_the_guard, alice_for_bob};
+ghost use Rattle.label_reasons.specs.ReasonExamples.{guarded_assignment, by_the_guard, alice_for_bob};
 ghost use Rattle.label_reasons.specs.ReasonExamples.{acted_for, by_alice_alone, released_for_nobody};
 ghost use Rattle.label_reasons.specs.ReasonExamples.{by_the_begin_label, released_by_nobody, by_no_authority, four};
 ghost use Rattle.label_reasons.specs.ReasonExamples.{unreleased, by_two_locals, not_trusted, by_trust, guarded_call};

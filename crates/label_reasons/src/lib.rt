@@ -5,6 +5,7 @@ mod demand;
 mod laws;
 mod listed_traits;
 mod reason;
+mod refusal;
 mod search;
 mod search_place;
 mod traits;
@@ -15,3 +16,4 @@ pub use laws::{
     trait_laws,
 };
 pub use reason::{Cause, Reason, Source, Trait, Via, Wanted};
+pub use refusal::{Refusal, label_refusal};

@@ -46,3 +46,10 @@ pub struct Found {
     /// What brings the trait into the label that is asked about.
     pub cause: Option<Cause>,
 }
+
+/// What a refused statement asks for, and the place of its method.
+#[derive(Clone, Copy)]
+pub struct Located {
+    pub method: usize,
+    pub found: Found,
+}

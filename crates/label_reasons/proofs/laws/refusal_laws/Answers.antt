@@ -1,8 +1,7 @@
-use Rattle.std.proofs.Common.{◌≡◌, List, [], All, map, sym, ◌∙◌, subst}
+use Rattle.std.proofs.Common.{List, [], All, sym, ◌∙◌, subst}
 use Rattle.principals.specs.ActsFor.{Declared, IsDeclared}
-use Rattle.jif_tree.specs.LabelRules.{Obligation, Meets, obligations}
-use Rattle.label_check.proofs.LabelOrder.{LabelOrder}
-use Rattle.label_reasons.specs.Asks.{program_asks, obligation_of}
+use Rattle.jif_tree.specs.LabelRules.{Obligation, Meets}
+use Rattle.label_reasons.specs.Asks.{program_asks}
 use Rattle.label_reasons.proofs.TraitTests.{AreTrusted}
 use Rattle.label_reasons.proofs.ExpressionCauses.{LabelLaws}
 use Rattle.label_reasons.proofs.ActsTests.{ActsLaws}

@@ -1,7 +1,6 @@
-use Rattle.std.proofs.Common.{◌≡◌, ◌==◌, false, take}
+use Rattle.std.proofs.Common.{◌≡◌, false, take}
 use Rattle.std.specs.List.{list_any}
-use Rattle.label_reasons.specs.Listed.{acts_for, is_declared_pair_of}
-use Rattle.label_reasons.specs.Reasons.{may_tell, fails_in, constraint_of}
+use Rattle.label_reasons.specs.Listed.{is_declared_pair_of}
 use Rattle.label_reasons.proofs.listed_traits.has_declared_pair.Given as goal
 
 -- none so far passes

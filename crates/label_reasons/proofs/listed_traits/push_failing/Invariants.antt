@@ -1,5 +1,4 @@
-use Rattle.std.proofs.Common.{◌≡◌, ◌++◌, not, take, filter}
-use Rattle.label_reasons.specs.Listed.{is_of_another, goes_without_saying}
+use Rattle.std.proofs.Common.{◌≡◌, ◌++◌, take, filter}
 use Rattle.label_reasons.specs.Reasons.{fails_in, constraint_of}
 use Rattle.label_reasons.proofs.listed_traits.push_failing.Given as goal
 

@@ -1,6 +1,5 @@
-use Rattle.std.proofs.Common.{◌≡◌, ◌++◌, not, take, filter}
-use Rattle.label_reasons.specs.Listed.{is_of_another, goes_without_saying}
-use Rattle.label_reasons.specs.Reasons.{fails_in, constraint_of}
+use Rattle.std.proofs.Common.{◌≡◌, not, take, filter}
+use Rattle.label_reasons.specs.Listed.{goes_without_saying}
 use Rattle.label_reasons.proofs.listed_traits.said_pairs.Given as goal
 
 -- those of the first that pass are kept

@@ -1,5 +1,4 @@
-use Rattle.std.proofs.Common.{◌≡◌, ℕ, suc, List, [], ◌∷◌, map, flat_map, drop, refl, sym, subst, add-one, arith}
-use Rattle.std.proofs.lemmas.List.{drop_all}
+use Rattle.std.proofs.Common.{suc, List, map, drop, refl, sym, subst, add-one, arith}
 use Rattle.js_base.proofs.Lists.{next_of}
 use Rattle.jif_tree.specs.declared.program.Stmt.{Stmt}
 use Rattle.jif_tree.specs.Trees.{BlockTree, done, block_tree, tree_before, head_of, expr_tree}
@@ -10,7 +9,7 @@ use Rattle.jif_tree.proofs.NestingTrees.{if_is, while_is}
 use Rattle.label_reasons.specs.declared.reason.Wanted.TheVariants.{KeptInField}
 use Rattle.label_reasons.specs.Asks.{value_asks, element_asks, call_asks, return_asks}
 use Rattle.label_reasons.specs.Search.{Walks}
-use Rattle.label_reasons.proofs.Walking.{walks_none, walks_on, plain, branch_walks, loop_walks}
+use Rattle.label_reasons.proofs.Walking.{walks_on, plain, branch_walks, loop_walks}
 use Rattle.label_reasons.proofs.search.+blocks.Goals as goal
 
 -- ---- blocks

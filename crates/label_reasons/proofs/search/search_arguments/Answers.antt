@@ -1,4 +1,4 @@
-use Rattle.std.proofs.Common.{ℕ, suc, List, [], ◌∷◌, map, flat_map, drop, sym, subst, add-one}
+use Rattle.std.proofs.Common.{suc, List, map, flat_map, drop, sym, subst, add-one}
 use Rattle.std.proofs.lemmas.List.{drop_all}
 use Rattle.js_base.proofs.Lists.{next_of}
 use Rattle.jif_tree.specs.declared.program.Expr.{Expr}

@@ -1,15 +1,10 @@
-use Rattle.std.proofs.Common.{◌∙◌, ℕ, List, [], ◌∷◌, ◌++◌, map, flat_map, refl, sym, ap, ap₂}
-use Rattle.std.specs.Prelude.{Option}
-use Rattle.label_lattice.specs.declared.label.Label.{Label}
-use Rattle.label_lattice.specs.Lattice.{join_of}
+use Rattle.std.proofs.Common.{[], ◌∷◌, ◌++◌, map, flat_map, refl, sym, ap}
 use Rattle.jif_tree.specs.Trees.{expr_tree, program_tree}
-use Rattle.jif_tree.specs.LabelRules.{method_at, params_of, result_of, may_release, may_endorse, may_begin, may_flow, variable_label, field_label}
-use Rattle.label_reasons.specs.Causes.{or_else}
-use Rattle.label_reasons.specs.Asks.{Spot, release_ask, trust_ask, endorse_ask, value_ask, element_ask, begin_ask}
-use Rattle.label_reasons.specs.Asks.{expr_asks, argument_asks, result_asks, cause_at}
-use Rattle.label_reasons.specs.Search.{authority_at, spot_at, label_is, cause_is}
-use Rattle.label_reasons.proofs.Searching.{finds_two, at_then}
-use Rattle.label_reasons.proofs.ShownAsks.{cause_seen, joined_seen}
+use Rattle.jif_tree.specs.LabelRules.{method_at, params_of, result_of, may_begin}
+use Rattle.label_reasons.specs.Asks.{Spot, begin_ask}
+use Rattle.label_reasons.specs.Asks.{expr_asks, argument_asks, result_asks}
+use Rattle.label_reasons.specs.Search.{spot_at}
+use Rattle.label_reasons.proofs.Searching.{at_then}
 use Rattle.label_reasons.proofs.search.search_call.Goals as goal
 
 pub returns : goal.returns

@@ -1,14 +1,10 @@
-use Rattle.std.proofs.Common.{◌∙◌, ℕ, List, [], ◌∷◌, ◌++◌, map, flat_map, refl, sym, ap, ap₂}
-use Rattle.std.specs.Prelude.{Option}
-use Rattle.label_lattice.specs.declared.label.Label.{Label}
+use Rattle.std.proofs.Common.{◌∙◌, refl, ap}
 use Rattle.label_lattice.specs.Lattice.{join_of}
 use Rattle.jif_tree.specs.Trees.{expr_tree}
-use Rattle.jif_tree.specs.LabelRules.{may_release, may_endorse, may_begin, may_flow, variable_label, field_label}
-use Rattle.label_reasons.specs.Causes.{or_else}
-use Rattle.label_reasons.specs.Asks.{Spot, release_ask, trust_ask, endorse_ask, value_ask, element_ask, begin_ask}
-use Rattle.label_reasons.specs.Asks.{expr_asks, argument_asks, result_asks, cause_at}
-use Rattle.label_reasons.specs.Search.{authority_at, spot_at, label_is, cause_is}
-use Rattle.label_reasons.proofs.Searching.{finds_two, at_then}
+use Rattle.jif_tree.specs.LabelRules.{may_flow}
+use Rattle.label_reasons.specs.Asks.{Spot, value_ask}
+use Rattle.label_reasons.specs.Asks.{cause_at}
+use Rattle.label_reasons.specs.Search.{spot_at}
 use Rattle.label_reasons.proofs.ShownAsks.{cause_seen, joined_seen}
 use Rattle.label_reasons.proofs.search.search_flow.Goals as goal
 
