@@ -77,10 +77,6 @@ offered_none principals held authority ask asked shows none =
     let Q : Option Ask → Type 0 = λ one. ShowsIfAny held authority one None in
     subst Q (sym (passed_over principals ask (subst P shows.constraint none))) tt
 
-pub offered_before : (principals : Declared) (held : Trait) (authority : List PrincipalId) (asks : List Ask)
-    (before : Option Found) (found : Found) → before ≡ Some found → Finds principals held authority asks before before
-offered_before principals held authority asks before found is = rw is refl
-
 -- ---- what is found in parts
 
 abbrev pub or_later : Option Ask → Option Ask → Option Ask

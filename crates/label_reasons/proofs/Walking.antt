@@ -1,5 +1,5 @@
 -- A search along a block: what each statement does, and what is left.
-use Rattle.std.proofs.Common.{◌≡◌, List, [], ◌∷◌, ◌++◌, refl, sym, ap, ap₂, ◌∙◌, subst}
+use Rattle.std.proofs.Common.{◌≡◌, List, [], ◌∷◌, ◌++◌, sym, ap, ap₂, ◌∙◌, subst}
 use Rattle.std.specs.Prelude.{Option}
 use Rattle.js_base.specs.declared.ids.StmtId.{StmtId}
 use Rattle.js_base.specs.declared.ids.VarId.{VarId}
@@ -19,15 +19,6 @@ use Rattle.label_reasons.specs.Asks.{spot_assigned, value_ask}
 use Rattle.label_reasons.specs.Search.{listed_cause, setting_at, authority_at, Finds, FindsAt, Sees, spot_at, IsKnown}
 use Rattle.label_reasons.specs.Search.{Walks, stand_inside, label_is, cause_is}
 use Rattle.label_reasons.proofs.Searching.{finds_none, finds_two}
-
-pub walks_none : (place : Place) (stand : Stand) (known : Known) (found : Option Found) (block : BlockTree) →
-    IsKnown known → Walks place stand known found block known found block
-walks_none place stand known found block is = record {
-  labels = refl;
-  causes = refl;
-  long = is;
-  found = λ end at. at;
-}
 
 pub walks_on : (place : Place) (stand : Stand) (old mid new : Known) (old_found mid_found new_found : Option Found)
     (block between left : BlockTree) → Walks place stand old old_found block mid mid_found between →
