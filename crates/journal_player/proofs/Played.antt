@@ -1,12 +1,13 @@
 -- A journal that is played as far as a place.
 use Rattle.std.proofs.Common.{◌≡◌, ◌∙◌, ◌⊎◌, ◌↔◌, ◌+◌, ◌-◌, ◌<◌, ◌≤◌, ℕ, refl, ap, sym, subst, inl, inr}
 use Rattle.std.proofs.Common.{List, [], ◌∷◌, ◌++◌, Bool, true, false, arith, add-one, append_assoc, drop-drop}
-use Rattle.std.proofs.Common.{drop, get_or, length, take}
-use Rattle.std.specs.Prelude.{IsTrue, Option}
+use Rattle.std.proofs.Common.{suc, drop, get_or, length, take, take-append-drop, Ok, Err}
+use Rattle.std.specs.Prelude.{IfErr, IsErr, IsErrAnd, IsTrue, Option, Result}
 use Rattle.std.proofs.Math.ListN.{drop_of_length-le}
-use Rattle.std.proofs.Math.Seq.{drop-cons}
+use Rattle.std.proofs.Math.Seq.{drop-cons, split_at, take-suc}
 use Rattle.std.proofs.lemmas.Bool.{false≢true}
-use Rattle.std.proofs.lemmas.List.{append-nil, drop-map, length-drop, length-map, take_all}
+use Rattle.std.proofs.lemmas.List.{append-nil, drop-map, length-drop, length-map, take_all, append_cancel_right}
+use Rattle.std.proofs.lemmas.List.{map-append, take-map}
 use Rattle.js_base.specs.declared.ids.HostId.{HostId}
 use Rattle.host_code.specs.declared.message.Message.{Message}
 use Rattle.host_code.specs.Code.{CodeShape}
@@ -20,7 +21,9 @@ use Rattle.record_merge.specs.JournalLines.{journal_of}
 use Rattle.journal_laws.specs.Plays.{AreNotedOf, MayStep, step_words}
 use Rattle.journal_laws.specs.Steps.{Step, takes, turns}
 use Rattle.journal_laws.specs.ToldPlays.{IsPlayed, IsToldStep, ToldPlays}
-use Rattle.journal_player.specs.Playing.{IsBehind, Makes, MakesTake, MakesTurn}
+use Rattle.journal_player.specs.declared.player.PlayError.{PlayError}
+use Rattle.journal_player.specs.declared.player.PlayError.TheVariants as error
+use Rattle.journal_player.specs.Playing.{IsBehind, Makes, MakesTake, MakesTurn, IsBadLine, IsBadNext, IsPlayError}
 
 -- ---- the lines of a slice
 
@@ -182,3 +185,83 @@ played_whole code start host of place ended played = (played.steps, played.all, 
     by (inl whole) =
         inl (whole ∙ ap (λ (rest : List (List Word)). played.all ++ rest) none ∙ append-nil played.all)
     by (inr (ended, missing)) = inr missing
+
+-- ---- a line by which the host does not go on
+
+pub bad_next : {X : Type 0} (code : CodeShape) (host : HostShape) (line : Line) (others : List Line)
+    (sent : Option (HostId × Message)) (after : HostShape) (result : Result X PlayError) →
+    Makes code host (words line.bytes.now) sent after → IfErr result (IsBadNext (sent_words code sent) others) →
+    IfErr result (IsBadLine code host line others)
+bad_next code host line others sent after (Ok made) makes bad = bad
+bad_next code host line others sent after (Err error.OutOfMemory) makes bad = bad
+bad_next code host line others sent after (Err (error.NoRun number)) makes bad = inr (sent, after, makes, bad)
+
+-- where lines are left, those of the steps are the lines before the place
+all_before : (code : CodeShape) (start host : HostShape) (lines : List Line) (place : ℕ) (other : Line) →
+    place < length lines → (played : IsPlayedTo code start (journal_of lines) place host) →
+    played.all ≡ journal_of (take place lines)
+all_before code start host lines place other within played = by played.left
+  where
+    by : (journal_of lines ≡ played.all ++ drop place (journal_of lines))
+        ⊎ ((drop place (journal_of lines) ≡ [])
+        × ((sent : List Word) × IsSendLine sent × (played.all ≡ journal_of lines ++ sent ∷ []))) →
+        played.all ≡ journal_of (take place lines)
+    by (inl whole) =
+        append_cancel_right played.all (take place (journal_of lines)) (drop place (journal_of lines))
+        (sym whole ∙ sym (take-append-drop place (journal_of lines)))
+        ∙ take-map (λ (line : Line). words line.bytes.now) place lines
+    by (inr (none, missing)) = absurd (let clash = sym none ∙ line_here lines place other within in cc)
+
+pub refused_by : (code : CodeShape) (start host : HostShape) (lines : List Line) (place : ℕ) (other : Line)
+    (why : PlayError) → place < length lines → IsPlayedTo code start (journal_of lines) place host →
+    IsBadLine code host (get_or lines place other) (take (length lines - (place + 1)) (drop (place + 1) lines)) why →
+    IsPlayError code start lines why
+refused_by code start host lines place other error.OutOfMemory within played bad = bad
+refused_by code start host lines place other (error.NoRun number) within played (inl (number_is, none)) =
+    record {
+      front = take place lines;
+      line = get_or lines place other;
+      behind = drop (suc place) lines;
+      lines_are = split_at lines place other within;
+      number_is = number_is;
+      steps = played.steps;
+      all = played.all;
+      last = host;
+      plays = played.plays;
+      bad = inl (all_before code start host lines place other within played, none);
+    }
+refused_by code start host lines place other (error.NoRun number) within played (inr (sent, after, makes, unsaid)) =
+    let line : List Word = words (get_or lines place other).bytes.now in
+    let front : played.all ++ line ∷ [] ≡ journal_of (take (place + 1) lines) =
+    ap (λ (front : List (List Word)). front ++ line ∷ []) (all_before code start host lines place other within played)
+    ∙ sym (map-append (λ (one : Line). words one.bytes.now) (take place lines) (get_or lines place other ∷ []))
+    ∙ ap journal_of (sym (take-suc lines place other within) ∙ ap (λ n. take n lines) (sym (add-one place))) in
+    record {
+      front = take (place + 1) lines;
+      line = unsaid.next;
+      behind = unsaid.behind;
+      lines_are =
+          sym (take-append-drop (place + 1) lines)
+          ∙ ap (λ (rest : List Line). take (place + 1) lines ++ rest)
+          (sym (all_taken lines (place + 1)) ∙ unsaid.others_are);
+      number_is = unsaid.number_is;
+      steps = played.steps ++ makes.step ∷ [];
+      all = played.all ++ step_words code makes.step ∷ (sent_words code sent ++ []);
+      last = after;
+      plays = plays_more code played.steps start host played.all line sent after played.plays makes;
+      bad = inr (
+        unsaid.sent,
+        ap (λ (rest : List (List Word)). played.all ++ step_words code makes.step ∷ rest)
+            (append-nil (sent_words code sent) ∙ unsaid.said_is)
+            ∙ ap (λ (one : List Word). played.all ++ one ∷ unsaid.sent ∷ []) (sym makes.line_is)
+            ∙ sym (append_assoc played.all (line ∷ []) (unsaid.sent ∷ []))
+            ∙ ap (λ (rest : List (List Word)). rest ++ unsaid.sent ∷ []) front,
+        unsaid.other,
+      );
+    }
+
+-- an error that is handed on
+pub error_on : {X : Type 0} (P : PlayError → Type 0) (why : PlayError) (result : Result X PlayError) →
+    IsErr result × IsErrAnd result (λ other. other ≡ why) → P why → IfErr result P
+error_on P why (Ok value) is so = absurd is.1
+error_on P why (Err other) is so = subst P (sym is.1) so

@@ -1,15 +1,22 @@
 -- One line of a journal that is played.
-use Rattle.std.specs.Prelude.{◌≡◌, ◌<◌, ◌⊎◌, ⊤, List, [], ◌∷◌, ◌++◌, Option, IsSome, false}
+use Rattle.std.specs.Prelude.{◌≡◌, ◌≢◌, ◌<◌, ◌⊎◌, ⊤, ℕ, List, [], ◌∷◌, ◌++◌, Option, IsSome, None, false}
+use Rattle.event_text.specs.declared.lines.Line.{Line}
+use Rattle.event_text.specs.Lines.{words}
+use Rattle.record_merge.specs.JournalLines.{journal_of}
+use Rattle.journal_player.specs.declared.player.PlayError.{PlayError}
+use Rattle.journal_player.specs.declared.player.PlayError.TheVariants as error
 use Rattle.js_base.specs.declared.ids.HostId.{HostId}
 use Rattle.host_code.specs.declared.message.Message.{Message}
 use Rattle.host_code.specs.Code.{CodeShape}
+use Rattle.host_code.specs.Messages.{MessageFits}
+use Rattle.host_code.specs.Sound.{IsOther}
 use Rattle.host_core.specs.declared.host.TheConstants.{MOST_CALLS}
 use Rattle.host_core.specs.Host.{HostModel, HostShape}
-use Rattle.event_text.specs.JournalText.{IsSendLine, take_words, turn_words}
+use Rattle.event_text.specs.JournalText.{IsSendLine, sent_words, take_words, turn_words}
 use Rattle.event_text.specs.Words.{Word}
-use Rattle.journal_laws.specs.Plays.{MayStep, MayTake, step_words}
+use Rattle.journal_laws.specs.Plays.{HaveOwnNames, MayStep, MayTake, step_words}
 use Rattle.journal_laws.specs.Steps.{Step, takes, turns}
-use Rattle.journal_laws.specs.ToldPlays.{IsToldStep}
+use Rattle.journal_laws.specs.ToldPlays.{IsToldStep, ToldPlays}
 
 -- the host answers one call more
 pub record AnswersOn (host : HostModel) : Type 0 where
@@ -48,3 +55,62 @@ abbrev pub IsBehind : List (List Word) → List (List Word) → List (List Word)
 IsBehind said others left =
     (others ≡ said ++ left)
     ⊎ ((others ≡ []) × (left ≡ []) × ((sent : List Word) × IsSendLine sent × (said ≡ sent ∷ [])))
+
+-- no thread runs, another host of the code sent the message, and what it names is in the code
+pub record CanTake (code : CodeShape) (host : HostShape) (from : HostId) (message : Message) : Type 0 where
+  pub rest : host.running ≡ None
+  pub other : IsOther code host.me from
+  pub fits : MessageFits code message
+
+-- ---- lines by which a host does not go on
+
+-- the host makes no step of which this is the line, where a line tells which names are meant
+abbrev pub HasNoStep : CodeShape → HostShape → List Word → Type 0
+HasNoStep code host line =
+    HaveOwnNames code → (step : Step) → MayStep code host step → line ≢ step_words code step
+
+-- the line that comes next has this number, and another was said
+pub record IsUnsaid (said : List (List Word)) (others : List Line) (number : ℕ) : Type 0 where
+  pub next : Line
+  pub behind : List Line
+  pub others_are : others ≡ next ∷ behind
+  pub number_is : next.number ≡ number
+  pub sent : List Word
+  pub said_is : said ≡ sent ∷ []
+  pub other : words next.bytes.now ≢ sent
+
+abbrev pub IsBadNext : List (List Word) → List Line → PlayError → Type 0
+IsBadNext said others error.OutOfMemory = ⊤
+IsBadNext said others (error.NoRun number) = IsUnsaid said others number
+
+abbrev pub IsBadStep : CodeShape → HostShape → Line → PlayError → Type 0
+IsBadStep code host line error.OutOfMemory = ⊤
+IsBadStep code host line (error.NoRun number) =
+    (line.number ≡ number) × HasNoStep code host (words line.bytes.now)
+
+-- either of both
+abbrev pub IsBadLine : CodeShape → HostShape → Line → List Line → PlayError → Type 0
+IsBadLine code host line others error.OutOfMemory = ⊤
+IsBadLine code host line others (error.NoRun number) =
+    ((line.number ≡ number) × HasNoStep code host (words line.bytes.now))
+    ⊎ ((sent : Option (HostId × Message)) × (after : HostShape) × Makes code host (words line.bytes.now) sent after
+    × IsUnsaid (sent_words code sent) others number)
+
+-- The lines before one with this number were played. The host that was played makes no step of the line; or its last
+-- step sent what has another line.
+pub record IsRefused (code : CodeShape) (start : HostShape) (lines : List Line) (number : ℕ) : Type 0 where
+  pub front : List Line
+  pub line : Line
+  pub behind : List Line
+  pub lines_are : lines ≡ front ++ line ∷ behind
+  pub number_is : line.number ≡ number
+  pub steps : List Step
+  pub all : List (List Word)
+  pub last : HostShape
+  pub plays : ToldPlays code start steps last all
+  pub bad : ((all ≡ journal_of front) × HasNoStep code last (words line.bytes.now))
+      ⊎ ((sent : List Word) × (all ≡ journal_of front ++ sent ∷ []) × (words line.bytes.now ≢ sent))
+
+abbrev pub IsPlayError : CodeShape → HostShape → List Line → PlayError → Type 0
+IsPlayError code start lines error.OutOfMemory = ⊤
+IsPlayError code start lines (error.NoRun number) = IsRefused code start lines number

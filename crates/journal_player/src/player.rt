@@ -1,7 +1,7 @@
 //! The lines of a journal, one after the other.
 
 ghost use Rattle.std.specs.Prelude.{◌≡◌, ◌<◌, ◌≤◌, ◌+◌, ◌↔◌, drop, length, Option, IfOk, IfSome, OnOk, IsTrue};
-ghost use Rattle.std.specs.Prelude.{IsSome, None, ℕ, List};
+ghost use Rattle.std.specs.Prelude.{◌≢◌, IfErr, IfNone, IsSome, None, ℕ, List};
 ghost use Rattle.js_base.specs.declared.ids.HostId.{HostId};
 ghost use Rattle.host_code.specs.declared.message.Message.{Message};
 ghost use Rattle.host_code.specs.Messages.{MessageFits};
@@ -11,13 +11,14 @@ ghost use Rattle.host_core.specs.Fits.{HostFits, SentFits};
 ghost use Rattle.host_core.specs.Host.{HostShape, state_of};
 ghost use Rattle.host_core.specs.Start.{host_at_start};
 ghost use Rattle.host_core.specs.Told.{told_key};
-ghost use Rattle.event_text.specs.JournalText.{sent_words};
+ghost use Rattle.event_text.specs.JournalText.{sent_words, take_words, turn_words};
 ghost use Rattle.event_text.specs.Lines.{words};
 ghost use Rattle.record_merge.specs.JournalLines.{journal_of};
-ghost use Rattle.journal_laws.specs.Plays.{HaveOwnNames, IsJournalOf};
+ghost use Rattle.journal_laws.specs.Plays.{HaveOwnNames, IsJournalOf, MayTake};
 ghost use Rattle.journal_laws.specs.Steps.{Step};
 ghost use Rattle.journal_laws.specs.ToldPlays.{IsPlayed};
 ghost use Rattle.journal_player.specs.Playing.{AnswersOn, IsBehind, Makes, MakesTurn, MakesTake, TurnsNext};
+ghost use Rattle.journal_player.specs.Playing.{CanTake, HasNoStep, IsBadLine, IsBadNext, IsBadStep, IsPlayError};
 
 use crate::letters::taken;
 use event_text::Line;
@@ -69,6 +70,7 @@ pub fn play(
         HaveOwnNames code.now →
         IsJournalOf code.now (host_at_start code.now store.now key me) (journal_of lines.now) steps last →
         last.rows ≡ host.stores.rows) }
+    ensures refused { IfErr result (IsPlayError code.now (host_at_start code.now store.now told_key me) lines.now) }
 {
     field_laws();
     sound_code(code);
@@ -92,8 +94,9 @@ fn play_all(
 ) -> Result<ToldHost, PlayError>
     requires me { IsHost code.now me }
     requires few { length lines.now < MOST_CALLS }
-    ensures { IfOk result (λ host. IsPlayed code.now (host_at_start code.now store.now told_key me)
+    ensures played { IfOk result (λ host. IsPlayed code.now (host_at_start code.now store.now told_key me)
         (journal_of lines.now) (state_of host)) }
+    ensures refused { IfErr result (IsPlayError code.now (host_at_start code.now store.now told_key me) lines.now) }
 {
     let mut host = ToldHost::start(alloc, code, me, store)?;
     let mut place = 0;
@@ -123,6 +126,7 @@ fn play_line(
         × Makes code.now (state_of host.old) (words line.entry.bytes.now) sent (state_of host.new)
         × IsBehind (sent_words code.now sent) (journal_of others.now) (drop more (journal_of others.now))) }
     ensures few { IfOk result (λ more. more ≤ length others.now) }
+    ensures refused { IfErr result (IsBadLine code.now (state_of host.old) line.entry others.now) }
     ensures fits { HostFits code.now host.new }
     ensures counts { OnOk result ((host.new.calls ≡ host.old.calls + 1) × (host.new.stopped ≡ host.old.stopped)) }
 {
@@ -151,9 +155,11 @@ fn make_turn(
     line: Line<'_>,
     others: &[Line<'_>],
 ) -> Result<Sent, PlayError>
+    requires line { words line.bytes.now ≡ turn_words }
     requires fits { HostFits code.now host.old }
     requires answers { AnswersOn host.old }
     ensures own { host.new.me ≡ host.old.me }
+    ensures refused { IfErr result (IsBadStep code.now (state_of host.old) line.entry) }
     ensures made { IfOk result (λ sent. MakesTurn code.now (state_of host.old) sent (state_of host.new)) }
     ensures sent { IfOk result (SentFits code.now host.old.me) }
     ensures fits { HostFits code.now host.new }
@@ -181,26 +187,21 @@ fn make_take(
     line: Line<'_>,
     others: &[Line<'_>],
 ) -> Result<Sent, PlayError>
+    requires line { words line.bytes.now ≢ turn_words }
     requires own { host.old.me ≡ me }
     requires fits { HostFits code.now host.old }
     requires answers { AnswersOn host.old }
     ensures own { host.new.me ≡ host.old.me }
+    ensures refused { IfErr result (IsBadStep code.now (state_of host.old) line.entry) }
     ensures made { IfOk result (λ sent. MakesTake code.now (state_of host.old) (words line.entry.bytes.now) sent
         (state_of host.new)) }
     ensures sent { IfOk result (SentFits code.now host.old.me) }
     ensures fits { HostFits code.now host.new }
     ensures counts { OnOk result ((host.new.calls ≡ host.old.calls + 1) × (host.new.stopped ≡ host.old.stopped)) }
 {
-    let Some((from, message)) = taken(code, line.bytes) else {
+    let Some((from, message)) = takeable(alloc, code, me, host, line)? else {
         return Err(PlayError::NoRun(line.number));
     };
-    if !host.rest() || from == me || from.0 as usize >= code.hosts().len() {
-        return Err(PlayError::NoRun(line.number));
-    }
-    if !message.fits(code) || !is_take_line(alloc, code, line.bytes, from, &message)? {
-        return Err(PlayError::NoRun(line.number));
-    }
-    message_law(message);
     let _open = host.is_open_taking(&message);
     let passes = turns_next(others);
     let mut sent = None;
@@ -209,6 +210,45 @@ fn make_take(
         Err(HostError::OutOfMemory) => Err(PlayError::OutOfMemory),
         Err(HostError::Stopped) => unreachable!(),
     }
+}
+
+/// The message of a line, where the host may take it.
+fn takeable(
+    alloc: Global,
+    code: &Code,
+    me: HostId,
+    host: &ToldHost,
+    line: Line<'_>,
+) -> Result<Option<(HostId, Message)>, OutOfMemory>
+    requires line { words line.bytes.now ≢ turn_words }
+    requires own { host.now.me ≡ me }
+    ensures some { IfOk result (λ found. IfSome found (λ letter.
+        MayTake code.now (state_of host.now) letter.0 letter.1
+        × (words line.entry.bytes.now ≡ take_words code.now letter.0 letter.1))) }
+    ensures none { IfOk result (λ found. IfNone found (HasNoStep code.now (state_of host.now)
+        (words line.entry.bytes.now))) }
+{
+    sound_code(code);
+    let Some((from, message)) = taken(code, line.bytes) else {
+        return Ok(None);
+    };
+    message_law(message);
+    if !may_take(code, me, host, from, &message) {
+        return Ok(None);
+    }
+    if is_take_line(alloc, code, line.bytes, from, &message)? {
+        Ok(Some((from, message)))
+    } else {
+        Ok(None)
+    }
+}
+
+/// Whether the host may take a message from another.
+fn may_take(code: &Code, me: HostId, host: &ToldHost, from: HostId, message: &Message) -> bool
+    requires own { host.now.me ≡ me }
+    ensures { IsTrue result ↔ CanTake code.now (state_of host.now) from message.now }
+{
+    host.rest() && from != me && (from.0 as usize) < code.hosts().len() && message.fits(code)
 }
 
 /// The number of lines that are played behind a step that sent this.
@@ -222,6 +262,7 @@ fn behind_step(
     ensures behind { IfOk result (λ more.
         IsBehind (sent_words code.now sent) (journal_of others.now) (drop more (journal_of others.now))) }
     ensures few { IfOk result (λ more. more ≤ length others.now) }
+    ensures refused { IfErr result (IsBadNext (sent_words code.now sent) others.now) }
 {
     let Some((to, message)) = sent else {
         return Ok(0);
