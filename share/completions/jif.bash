@@ -50,38 +50,30 @@ _jif_hosts() {
   sed -n '/^\[\[host\]\]/,/^\[\[link\]\]/s/^name *= *"\([A-Za-z0-9_]*\)".*/\1/p' "$1"
 }
 
-_jifrun() {
-  local word=${COMP_WORDS[COMP_CWORD]}
+# The files that the words behind a program's name are, one after the other, by how their names end.
+_jif_in_order() {
+  local at=$((COMP_CWORD - 1)) endings=("$@")
   COMPREPLY=()
-  case $COMP_CWORD in
-    1) _jif_files .jif "$word" ;;
-    2) _jif_files .toml "$word" ;;
-    3) _jif_files '' "$word" ;;
-  esac
+  [ "$at" -ge "${#endings[@]}" ] || _jif_files "${endings[at]}" "${COMP_WORDS[COMP_CWORD]}"
+}
+
+_jifrun() {
+  _jif_in_order .jif .toml ''
 }
 
 _jifmerge() {
-  local word=${COMP_WORDS[COMP_CWORD]}
-  COMPREPLY=()
-  case $COMP_CWORD in
-    1) _jif_files .jif "$word" ;;
-    2) _jif_files .toml "$word" ;;
-    *) _jif_files '' "$word" ;;
-  esac
+  local -a journals=()
+  local at
+  for ((at = 3; at <= COMP_CWORD; at++)); do journals+=(''); done
+  _jif_in_order .jif .toml "${journals[@]}"
 }
 
 _jifpicture() {
-  local word=${COMP_WORDS[COMP_CWORD]}
-  COMPREPLY=()
-  case $COMP_CWORD in
-    1) _jif_files .jif "$word" ;;
-    2) _jif_files .toml "$word" ;;
-  esac
+  _jif_in_order .jif .toml
 }
 
 _jiftokens() {
-  COMPREPLY=()
-  [ "$COMP_CWORD" -ne 1 ] || _jif_files .jif "${COMP_WORDS[1]}"
+  _jif_in_order .jif
 }
 
 _jifkeys() {
