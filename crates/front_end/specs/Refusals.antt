@@ -58,6 +58,11 @@ pub data RefusalShape : Type 0 where
   WeakEntry : (file : List ℕ) (entry : EntryId) (place : ℕ) → RefusalShape
   Reveals : (file : List ℕ) (place : ℕ) → RefusalShape
   WrongJournals : RefusalShape
+  NoRun : (file : List ℕ) (line : ℕ) (host : List ℕ) → RefusalShape
+  TwoFields : (file name : List ℕ) → RefusalShape
+  TwoVariables : (file name : List ℕ) → RefusalShape
+  SourceExplained : (text : List ℕ) → RefusalShape
+  InputExplained : (text : List ℕ) → RefusalShape
 
 -- what a refusal of the program says
 abbrev pub refusal_shape : native.Refusal → RefusalShape
@@ -81,6 +86,11 @@ refusal_shape (variants.NoKey file host) = NoKey (string_bytes file) (string_byt
 refusal_shape (variants.WeakEntry file entry place) = WeakEntry (string_bytes file) entry place
 refusal_shape (variants.Reveals file place) = Reveals (string_bytes file) place
 refusal_shape variants.WrongJournals = WrongJournals
+refusal_shape (variants.NoRun file line host) = NoRun (string_bytes file) line (string_bytes host)
+refusal_shape (variants.TwoFields file name) = TwoFields (string_bytes file) (string_bytes name)
+refusal_shape (variants.TwoVariables file name) = TwoVariables (string_bytes file) (string_bytes name)
+refusal_shape (variants.SourceExplained text) = SourceExplained (string_bytes text)
+refusal_shape (variants.InputExplained text) = InputExplained (string_bytes text)
 
 -- the status with which a refused program ends
 abbrev pub refusal_status : RefusalShape → Status
@@ -104,6 +114,11 @@ refusal_status (NoKey file host) = status.InputRefused
 refusal_status (WeakEntry file entry place) = status.InputRefused
 refusal_status (Reveals file place) = status.InputRefused
 refusal_status WrongJournals = status.InputRefused
+refusal_status (NoRun file line host) = status.InputRefused
+refusal_status (TwoFields file name) = status.InputRefused
+refusal_status (TwoVariables file name) = status.InputRefused
+refusal_status (SourceExplained text) = status.SourceRefused
+refusal_status (InputExplained text) = status.InputRefused
 
 -- ---- programs
 
@@ -205,6 +220,7 @@ why_not_line line_cause.NotMisbehaving = codes "not misbehaving"
 why_not_line line_cause.EventsDiffer = codes "events differ"
 why_not_line line_cause.NotPrompt = codes "not prompt"
 why_not_line line_cause.NoMatch = codes "no list meets this"
+why_not_line line_cause.NotEnded = codes "not ended"
 why_not_line (line_cause.NoSuchToken number count) =
     codes "no such token " ++ (decimal number ++ (codes ", " ++ (decimal count ++ codes " sent")))
 
@@ -246,6 +262,12 @@ refusal_text (WeakEntry file entry place) =
 refusal_text (Reveals file place) =
     file ++ (codes ": instruction " ++ (decimal place ++ codes " shows a host what it may not see"))
 refusal_text WrongJournals = codes "wrong number of journals"
+refusal_text (NoRun file line host) =
+    file ++ (codes " line " ++ (decimal line ++ (codes ": no run of " ++ (host ++ codes " has this line here"))))
+refusal_text (TwoFields file name) = file ++ (codes ": " ++ (name ++ codes " is the name of two fields"))
+refusal_text (TwoVariables file name) = file ++ (codes ": " ++ (name ++ codes " is the name of two variables"))
+refusal_text (SourceExplained text) = text
+refusal_text (InputExplained text) = text
 
 -- a line of a program of this name on the error output
 abbrev pub error_line : (program text : List ℕ) → List ℕ

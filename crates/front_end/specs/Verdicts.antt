@@ -102,6 +102,10 @@ event_no_token file line number count = at_line file line (cause.NoSuchToken num
 abbrev pub no_match : List ℕ → ℕ → VerdictShape
 no_match file line = at_line file line cause.NoMatch
 
+-- a journal ends within this line
+abbrev pub not_ended : List ℕ → ℕ → VerdictShape
+not_ended file line = at_line file line cause.NotEnded
+
 -- there is not one journal for each host
 abbrev pub wrong_journals : VerdictShape
 wrong_journals = Refuse refusals.WrongJournals

@@ -5,8 +5,8 @@ ghost use Rattle.std.specs.String.{string_bytes};
 ghost use Rattle.front_end.specs.Refusals.{refusal_shape, refusal_status, refusal_text};
 
 use crate::refusal_texts::{
-    at_line_text, code_text, hosts_text, labels_text, lexed_text, no_key_text, parsed_text,
-    resolved_text, reveals_text, weak_entry_text,
+    at_line_text, code_text, hosts_text, labels_text, lexed_text, no_key_text, no_run_text,
+    parsed_text, resolved_text, reveals_text, weak_entry_text,
 };
 use host_decl::HostsError;
 use jif_lex::LexError;
@@ -37,6 +37,8 @@ pub enum LineCause {
     NotPrompt,
     /// No list of events meets the journal behind this line.
     NoMatch,
+    /// It is the last, and no line feed ends it.
+    NotEnded,
 }
 
 /// Why words or files are refused: the cause, with its place. It says nothing of the program that refuses them, which
@@ -123,6 +125,30 @@ pub enum Refusal {
     },
     /// There is not one journal for each host.
     WrongJournals,
+    /// No run of the host has the lines of its journal up to this line, from 1.
+    NoRun {
+        file: String,
+        line: u32,
+        host: String,
+    },
+    /// Two fields of the code have this name.
+    TwoFields {
+        file: String,
+        name: String,
+    },
+    /// Two variables of the code have this name.
+    TwoVariables {
+        file: String,
+        name: String,
+    },
+    /// A program is refused, which these words explain. They are lines, and no line feed ends the last.
+    SourceExplained {
+        text: String,
+    },
+    /// So is another file, or what is asked of a program.
+    InputExplained {
+        text: String,
+    },
 }
 
 impl Refusal {
@@ -137,7 +163,8 @@ impl Refusal {
             | Refusal::Parse(_)
             | Refusal::Resolve(_)
             | Refusal::Labels { .. }
-            | Refusal::Places { .. } => Status::SourceRefused,
+            | Refusal::Places { .. }
+            | Refusal::SourceExplained { .. } => Status::SourceRefused,
             Refusal::NoSuchFile { .. }
             | Refusal::Hosts(_)
             | Refusal::TooLong { .. }
@@ -150,7 +177,11 @@ impl Refusal {
             | Refusal::NoKey { .. }
             | Refusal::WeakEntry { .. }
             | Refusal::Reveals { .. }
-            | Refusal::WrongJournals => Status::InputRefused,
+            | Refusal::WrongJournals
+            | Refusal::NoRun { .. }
+            | Refusal::TwoFields { .. }
+            | Refusal::TwoVariables { .. }
+            | Refusal::InputExplained { .. } => Status::InputRefused,
         }
     }
 
@@ -185,6 +216,16 @@ impl Refusal {
             }
             Refusal::Reveals { file, place } => reveals_text(alloc, file, *place),
             Refusal::WrongJournals => String::from_str(alloc, "wrong number of journals"),
+            Refusal::NoRun { file, line, host } => no_run_text(alloc, file, *line, host),
+            Refusal::TwoFields { file, name } => {
+                format!(in alloc; "{file}: {name} is the name of two fields")
+            }
+            Refusal::TwoVariables { file, name } => {
+                format!(in alloc; "{file}: {name} is the name of two variables")
+            }
+            Refusal::SourceExplained { text } | Refusal::InputExplained { text } => {
+                String::from_str(alloc, text)
+            }
         }
     }
 }

@@ -100,6 +100,14 @@ pub fn no_key_text(alloc: Global, file: &str, host: &str) -> Result<String, Allo
     format!(in alloc; "{file}: no key for host {host}")
 }
 
+/// The words of a journal of which a line, with those before it, is in no run of its host.
+pub fn no_run_text(alloc: Global, file: &str, line: u32, host: &str) -> Result<String, AllocError>
+    ensures { IfOk result (λ text.
+        string_bytes text ≡ refusals.refusal_text (refusals.NoRun file.now line host.now)) }
+{
+    format!(in alloc; "{file} line {line}: no run of {host} has this line here")
+}
+
 /// The words of a split file in which an entry leads to an instruction that names more than its need has.
 pub fn weak_entry_text(
     alloc: Global,
@@ -300,6 +308,7 @@ fn why_not_line(alloc: Global, why: LineCause) -> Result<String, AllocError>
         LineCause::EventsDiffer => String::from_str(alloc, "events differ"),
         LineCause::NotPrompt => String::from_str(alloc, "not prompt"),
         LineCause::NoMatch => String::from_str(alloc, "no list meets this"),
+        LineCause::NotEnded => String::from_str(alloc, "not ended"),
         LineCause::NoSuchToken { number, count } => {
             format!(in alloc; "no such token {number}, {count} sent")
         }

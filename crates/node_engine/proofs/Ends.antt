@@ -52,6 +52,11 @@ refused_calmly (refusal.NoKey file host) there = (refl, refl)
 refused_calmly (refusal.WeakEntry file entry place) there = (refl, refl)
 refused_calmly (refusal.Reveals file place) there = (refl, refl)
 refused_calmly refusal.WrongJournals there = (refl, refl)
+refused_calmly (refusal.NoRun file line host) there = (refl, refl)
+refused_calmly (refusal.TwoFields file name) there = (refl, refl)
+refused_calmly (refusal.TwoVariables file name) there = (refl, refl)
+refused_calmly (refusal.SourceExplained text) there = (refl, refl)
+refused_calmly (refusal.InputExplained text) there = (refl, refl)
 
 due_calmly : (verdict : VerdictShape) (there : Outside) → Faults (end_of verdict).status there there
 due_calmly (Refuse why) there = refused_calmly why there

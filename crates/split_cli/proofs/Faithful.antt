@@ -354,6 +354,11 @@ refusal_fails (refusals.NoKey file host) = input_fails
 refusal_fails (refusals.WeakEntry file entry place) = input_fails
 refusal_fails (refusals.Reveals file place) = input_fails
 refusal_fails refusals.WrongJournals = input_fails
+refusal_fails (refusals.NoRun file line host) = input_fails
+refusal_fails (refusals.TwoFields file name) = input_fails
+refusal_fails (refusals.TwoVariables file name) = input_fails
+refusal_fails (refusals.SourceExplained text) = program_fails
+refusal_fails (refusals.InputExplained text) = input_fails
 
 -- a report is such a text with its status; nothing is said of a refusal
 unfoldable pub Says : (Status → List ℕ → Type 0) → VerdictShape → Type 0
