@@ -1,4 +1,10 @@
 //! The words of a command line.
+//!
+//! **Promises.** The words of a command line as texts, none where one is no text.
+//!
+//! **Begin** with `words`, the only call.
+//!
+//! **Stays.** It has no contract that a word could break: what the system hands over is taken as it is.
 #![tactic(auto)]
 
 use js_base::OutOfMemory;

@@ -1,4 +1,22 @@
 //! Events of a run, and the scripts that say them.
+//!
+//! **Promises.** Scripts, files of starting values and the lines of journals are read as they are written
+//! (`script_laws`, `journal_laws`).
+//!
+//! **Begin** with `specs/Script.antt` and `specs/Events.antt`; `read_events` is the call.
+//!
+//! **Stays.** The words of lines: users' scripts and journals hold them (docs/FORMATS.md).
+//!
+//! - `event`: events, and the messages that a misbehaving host may make
+//! - `lines`, `words`, `numbers`: the lines that are not skipped, their words, and numbers
+//! - `settings`: the lines that set starting values, over any fields with names and sizes
+//! - `parts`, `acts`, `tokens`: the words of a message, and the messages and tokens that they say, as scripts present
+//!   them and as they are printed
+//! - `journal_texts`: the lines that tell what a host did, and a law that their words are those by which they are known
+//!   again
+//! - `misbehaving`: the lines that name misbehaving hosts
+//! - `event_lines`, `script`, `start`: the lines of events, the whole script, and files of starting values
+//! - `event_texts`: how events are printed
 #![tactic(auto)]
 
 mod acts;

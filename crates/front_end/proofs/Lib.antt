@@ -1,3 +1,13 @@
+-- `Stages`, `SomeStages`, `PlacedStops`, `RefusedStages`: stages one after another: how a result ends them, that they
+--     have one outcome and some outcome, that what holds of each refusal of a program or of its hosts holds of what
+--     stops them, and that this is a refusal
+-- `OneSource`, `OnePlaced`, `OneStart`, `OneFault`: each stage has one outcome
+-- `SomeSource`, `SomePlaced`, `SomeStart`: and some outcome
+-- `ReadSources`, `ReadLaws`: what is known of a program that was accepted, and that it can be split
+-- `NativeSources` and what it cites: its tree is that of a program of the code
+-- `Stops`, `LoadedFiles`, `Loading`: what loads say of what is held
+-- `BlockParts`: what a walk of nested blocks collects
+-- `Answering`: what a put leaves, and what follows of answers
 pub mod AbsentFiles
 pub mod Answering
 pub mod BlockParts

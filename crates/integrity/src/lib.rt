@@ -1,4 +1,17 @@
 //! What holds of hosts that run the code of a split program, though some of them misbehave: definitions and their laws.
+//!
+//! **Promises.** Whatever misbehaving hosts send, the fields that they may not affect follow one altered run
+//! (`integrity_laws`).
+//!
+//! **Begin** with `specs/Exposed.antt` (what they may affect) and `specs/Altering.antt` (what is promised).
+//!
+//! **Stays.** This is one half of the headline: its clauses are cited word for word by `split_cli`.
+//!
+//! It has definitions and laws alone. `specs/Exposed` says which hosts misbehave, what they may affect and what they
+//! leave as it was, `specs/Outside` when all that goes on could be their doing, and `specs/Altering` what hosts promise
+//! together though some misbehave. `specs/Holding` has the chain of entries and the holder of its token, and that all
+//! but these is outside; `specs/Standing` ties them to a configuration of an altered run, by the records of
+//! `typed_steps`; `specs/Loose` does so where a misbehaving host was handed the token of the first entry.
 #![tactic(auto)]
 
 mod laws;

@@ -1,4 +1,11 @@
 //! Runs the part of one host of a program that computes over the secrets of several parties, over Unix sockets.
+//!
+//! **Promises.** `main` makes the real links, journal and files, hands them to `node_engine`, and gives its status
+//! back.
+//!
+//! **Begin** with `main`; all that is promised stands in `node_engine`.
+//!
+//! **Stays.** Nothing is decided here.
 #![tactic(auto)]
 
 use command_words::words;

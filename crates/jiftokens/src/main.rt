@@ -1,5 +1,11 @@
 //! Prints the tokens of a program with their numbers, lines and columns, so that a refusal which names a token can be
 //! found in the text.
+//!
+//! **Promises.** Each token of a program is listed with its number, line and column.
+//!
+//! **Begin** with `specs/Listing.antt`.
+//!
+//! **Stays.** The numbers are those of refusals.
 #![tactic(auto)]
 
 mod answers;

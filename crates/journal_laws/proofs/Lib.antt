@@ -1,3 +1,14 @@
+-- The proofs go from changes of a host (`BareHosts`) over messages (`BareTakings`) and instructions (`BareTurns`) to
+-- steps (`BareSteps`). A message or an instruction more is a row of `Bare` and a case there, in `WithoutHalt` and in
+-- `SameChecks`.
+--
+-- `WithoutHalt`: a host without the entry that ends the program makes the same steps, but for taking off the top entry
+-- `SameChecks`: whether a check passes is told without tags, but where an entry is taken off
+-- `TakenOff`: what is left where the top entry is taken off, or a token ignored
+-- `PartsAgain`, `SaidMessages`: the parts of a message that is printed, and the message, are read again
+-- `AlikeSteps`: what two steps with one line leave of hosts of which the same is told
+-- `CloseJournals`: lists of lines of one journal, of which either may have one more at its end
+-- `SameFields`: whole runs, and hosts that are played
 pub mod BareHosts
 pub mod BareTakings
 pub mod BareTurns

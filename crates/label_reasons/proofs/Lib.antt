@@ -1,3 +1,8 @@
+-- The proofs go from the tests of labels (`TraitTests`) over expressions (`ExpressionCauses`) to blocks
+-- (`BlockCauses`). What is listed is proved of lists (`Listing`), what fails of constraints (`Failing`), and that there
+-- is a cause for each of them by one walk over the program (`ToldAsks`), which needs the labels to be over the declared
+-- principals. Of the search, `Searching` has lists of what is asked for, `Walking` blocks, `MethodSearches` methods,
+-- and `FoundReasons` what is listed.
 pub mod TraitTests
 pub mod ExpressionCauses
 pub mod BlockCauses

@@ -1,5 +1,12 @@
 //! What a node has of the outside beside its files: links to the other nodes, and a journal, as traits, in memory and
 //! over the system.
+//!
+//! **Promises.** Links and journals in memory tell what was sent, noted and refused; every call that fails counts a
+//! fault.
+//!
+//! **Begin** with `specs/Links.antt` and `specs/Journals.antt`.
+//!
+//! **Stays.** The adapters `unix_links` and `real_journal` are the few lines that are trusted (docs/ASSUMPTIONS.md).
 #![tactic(auto)]
 
 mod copies;

@@ -2,6 +2,10 @@
 //! starting values; which host it is; and whether that host may run its part of a split file.
 //!
 //! Start at `specs/NodeSources.antt`: each stage has one outcome, a value or the refusal that is due.
+//!
+//! - `source_word`: the file that a node's code comes from
+//! - `node_source`, `node_start`: what a node begins with, from a program or from a split file, and which host it is
+//! - `node_part`: whether the host may run its part of a split file
 #![tactic(auto)]
 
 mod node_part;

@@ -1,3 +1,5 @@
+-- `Sequels`: the laws of readers in a row that read places
+-- `SoundCodes`: from what is tested while reading to a code that is sound
 pub mod Appends
 pub mod ExpressionLaws
 pub mod FileLaws

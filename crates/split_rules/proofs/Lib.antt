@@ -1,3 +1,14 @@
+-- Each thing that is proved of all programs is one induction over blocks, which shows that what the walk gives obeys a
+-- judgement on its list. From the list it is read off the code, and no block is looked at any more.
+--
+-- `Flow`: `proofs/Walked*`; read off the list: `proofs/Sound*`: the code is sound
+-- `Typing`: `proofs/Typed*`; read off the list: `TypedPlaces`: the table of `TypedCode`
+-- `Asking`: `proofs/Told*`, from what `proofs/Seen*` find of the labels of each statement; read off the list:
+--     `ToldCode`: what is asked is granted
+-- `Pace`: `proofs/Paced*`: how much is ahead; read off the list: `PacedPlaces`: the numbers at the places
+-- how much a walk gives: `proofs/Few*`; read off the list: the lists of the code are short
+-- what a pass over a host is told (`Tells`): `proofs/ReleasedBlocks`; read off the list: `ReleasedPrograms`: the table
+--     of releases
 pub mod Places
 pub mod Pendings
 pub mod Standing

@@ -1,3 +1,7 @@
+-- The proofs go from values (`KeptValues`, `FlowingBlocks`, `FlowingPrograms`) over the walk (`ShadedStates`, and the
+-- files on values, statements, moves, branches, calls and blocks, to `ShadedPrograms`) to code: `ReadOff` reads a table
+-- off any walk in steps, and `ShadedSplit` does so for shades. `ForwardExits` tells where the branch of a loop leads,
+-- before its guard was walked over.
 pub mod BasisLabels
 pub mod KeptValues
 pub mod FlowingBlocks

@@ -1,3 +1,16 @@
+-- `TreeValues`, `Alike`: an expression's nodes give what it may give; values that are the same or affected
+-- `Basics`: facts on lists
+-- `KnownReaders`, `SeenResults`: which hosts see what a statement reads; hosts that keep a result see it
+-- `Calls`: the calls of a configuration, and their variables
+-- `Owing`: what is due, as what is still to be done
+-- `Instructions`, `Transfers`, `Arguments`, `CallsMade`, `ResultsGiven`: what each instruction makes of what is still
+--     to be done, by the law of its position alone: values, transfers, frames with their parameters, calls, results
+-- `Rows`, `Holding`, `HeldSteps`, `Pops`: what all hosts have of a configuration is kept; the chain with an entry more
+--     or less
+-- `Fuel`: how many events are enough behind each instruction, by its pace
+-- `Turns`, `CallTurns`, `HolderTurns`, `Takes`: turns and takes at the host, by the instructions without calls, by
+--     those for calls, and by any
+-- `RidingExamples`: what rides with a thread, in small cases
 pub mod Basics
 pub mod TreeValues
 pub mod Alike

@@ -1,3 +1,6 @@
+-- `Sequels`: the laws of `whole` and `known`
+-- `Sizes`, `Layouts`, `FaultLaws`: how many bytes each reader takes, what fields are refused for, and from there to the
+--     first fault
 pub mod Appends
 pub mod FaultLaws
 pub mod FieldLaws

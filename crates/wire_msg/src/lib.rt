@@ -25,6 +25,15 @@
 //! four bytes, and a count of eight. A token is its host, a byte below 16, its frame, its entry, its serial number of
 //! eight bytes, and the 16 bytes of its tag. A pair is a variable and the value that rides for it, and their count is a
 //! byte, 1 to 8. All numbers have their highest byte first, signed ones in two's complement.
+//!
+//! As in `split_file`, `write` puts each field behind the others, and `read` has one small function for each reader of
+//! `specs/Reading`. It takes no memory, so that each refusal is a fault of the bytes. The body is read to its end apart
+//! from what follows it (`whole` and `known` of `specs/Reader`).
+//!
+//! A further kind of message takes a case of `message_bytes`, of `IsMessage` and of `message_at`, a row of
+//! `message_layout`, a function in `messages` and one in `message_bytes`, and a case in each of the lemmas over
+//! messages. The reader of an rgoto with which values ride has a file of its own, `riding`, since it tests the host of
+//! the token and the count before it reads the pairs.
 #![tactic(auto)]
 
 mod appending;
