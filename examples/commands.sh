@@ -1,6 +1,6 @@
 # Runs the commands and the nodes of examples and cases, and compares what they print and how they end with what the files
-# there say. `program`, `node`, `tokens`, `picture`, `runner` and `merged` are the programs, `scratch` is a folder to work in, and
-# `passed` and `failed` count.
+# there say. `program`, `node`, `tokens`, `picture`, `runner`, `merged` and `fields` are the programs, `scratch` is a folder to
+# work in, and `passed` and `failed` count.
 
 # compares one command of an example: its folder, its words, of which `SCRATCH/NAME` is a file of the scratch folder, and
 # in the scratch folder what is wanted; where the first word is another program, that is run
@@ -13,6 +13,7 @@ compare() {
     jifpicture) ran=$picture words=("${words[@]:1}") ;;
     jifrun) ran=$runner words=("${words[@]:1}") ;;
     jifmerge) ran=$merged words=("${words[@]:1}") ;;
+    jiffields) ran=$fields words=("${words[@]:1}") ;;
     jifhost) ran=$node words=("${words[@]:1}") ;;
   esac
   (cd "$folder" && "$ran" "${words[@]}" >"$scratch/out" 2>"$scratch/err" </dev/null)
@@ -87,7 +88,7 @@ nodes() {
 }
 
 # starts all nodes of an example in a copy of its folder by one command, and compares what it prints, the journals, the
-# script that these are merged into, and what its replay prints
+# script that these are merged into, what its replay prints, and the fields that each host's journal tells by itself
 launched() {
   local folder=$1 copy=$scratch/launched host
   rm -rf "$copy"
@@ -114,11 +115,21 @@ launched() {
     "$program" replay program.jif hosts.toml merged.script) >"$scratch/out" 2>>"$scratch/err" </dev/null
   if cmp -s "$copy/merged.script" "$folder/merged" && cmp -s "$scratch/out" "$folder/replayed"; then
     passed=$((passed + 1))
+  else
+    failed=$((failed + 1))
+    echo "$(basename "$folder"): the journals of its nodes were not merged, or not replayed"
+    cat "$scratch/err"
+    diff -u --label 'wanted script' --label script "$folder/merged" "$copy/merged.script"
+    diff -u --label 'wanted report' --label report "$folder/replayed" "$scratch/out"
+  fi
+  (cd "$copy" && for host in $(sed '/^#/d' nodes); do
+    "$fields" --program program.jif hosts.toml "$host" start.txt "$host.journal"
+  done) >"$scratch/out" 2>"$scratch/err" </dev/null
+  if cmp -s <(sort "$scratch/out") <(grep '^field ' "$folder/replayed" | sort); then
+    passed=$((passed + 1))
     return
   fi
   failed=$((failed + 1))
-  echo "$(basename "$folder"): the journals of its nodes were not merged, or not replayed"
-  cat "$scratch/err"
-  diff -u --label 'wanted script' --label script "$folder/merged" "$copy/merged.script"
-  diff -u --label 'wanted report' --label report "$folder/replayed" "$scratch/out"
+  echo "$(basename "$folder"): the journals of its hosts tell other fields"
+  cat "$scratch/out" "$scratch/err"
 }

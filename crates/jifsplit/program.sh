@@ -5,6 +5,7 @@ tokens=$top/crates/jiftokens/out/jiftokens
 picture=$top/crates/jifpicture/out/jifpicture
 runner=$top/crates/jifrun/out/jifrun
 merged=$top/crates/jifmerge/out/jifmerge
+fields=$top/crates/jiffields/out/jiffields
 unchanged=''
 
 # A program is newer than all sources. To look at each of them takes far longer than a small answer, so a stamp beside
@@ -107,5 +108,6 @@ build_all() {
   build "$picture" jifpicture data/program.jif data/hosts.toml || return 1
   build "$runner" jifrun || return 1
   lay_node
-  build "$merged" jifmerge data/program.jif data/hosts.toml data/start.txt data/A.journal data/B.journal
+  build "$merged" jifmerge data/program.jif data/hosts.toml data/start.txt data/A.journal data/B.journal || return 1
+  build "$fields" jiffields
 }

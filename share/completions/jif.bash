@@ -68,6 +68,23 @@ _jifmerge() {
   _jif_in_order .jif .toml "${journals[@]}"
 }
 
+_jiffields() {
+  local word=${COMP_WORDS[COMP_CWORD]} first=1
+  COMPREPLY=()
+  [ "${COMP_WORDS[1]}" != --program ] || [ "$COMP_CWORD" -eq 1 ] || first=2
+  case $((COMP_CWORD - first)) in
+    0)
+      case $word in
+        --*) _jif_words --program "$word" ;;
+        *) [ "$first" -eq 2 ] && _jif_files .jif "$word" || _jif_files '' "$word" ;;
+      esac
+      ;;
+    1) _jif_files .toml "$word" ;;
+    2) [ ! -f "${COMP_WORDS[first + 1]}" ] || _jif_words "$(_jif_hosts "${COMP_WORDS[first + 1]}")" "$word" ;;
+    3 | 4) _jif_files '' "$word" ;;
+  esac
+}
+
 _jifpicture() {
   _jif_in_order .jif .toml
 }
@@ -90,6 +107,7 @@ complete -F _jifsplit jifsplit
 complete -F _jifhost jifhost
 complete -F _jifrun jifrun
 complete -F _jifmerge jifmerge
+complete -F _jiffields jiffields
 complete -F _jifpicture jifpicture
 complete -F _jiftokens jiftokens
 complete -F _jifkeys jifkeys
