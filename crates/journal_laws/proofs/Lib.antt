@@ -10,3 +10,8 @@ pub mod PartsAgain
 pub mod SaidMessages
 pub mod AlikeSteps
 pub mod SameFields
+pub mod Retagged
+pub mod KeptStacks
+pub mod OwnTags
+pub mod OffAgain
+pub mod NoRuns
