@@ -15,3 +15,5 @@ pub mod KeptStacks
 pub mod OwnTags
 pub mod OffAgain
 pub mod NoRuns
+pub mod CountedNames
+pub mod FatedTags
