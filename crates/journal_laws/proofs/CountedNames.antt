@@ -29,7 +29,7 @@ use Rattle.host_code.specs.Code.{CodeShape, CodeFieldShape, entry_at, field_at, 
 use Rattle.host_core.specs.Host.{HostShape, Outcome, after_entering, after_pop, after_push, new_token, with_running}
 use Rattle.host_core.specs.Host.{with_temporary, with_token, with_variable_set, with_variables_set, value_in_thread}
 use Rattle.host_core.specs.Taking.{after_taking, after_passing, after_answer, place_of_awaiting}
-use Rattle.host_core.specs.Told.{told_key}
+use Rattle.host_core.specs.Told.{settled, told_key}
 use Rattle.host_core.specs.Turn.{after_operation, after_read, after_put, after_branch, after_own_push, after_ask}
 use Rattle.host_core.specs.Turn.{after_go, after_go_with, after_own_call, after_call, after_return, after_back}
 use Rattle.journal_laws.specs.Steps.{Step, turns, takes, told_step, after_turn, after_running}
@@ -84,6 +84,11 @@ count name host = running_hits name host.running + (waiting_hits name host.waiti
 -- those that wait or are kept
 abbrev pub lying : ℕ → HostShape → ℕ
 lying name host = waiting_hits name host.waiting + entries_hits name host.entries
+
+-- no thread runs where a message is taken
+abbrev pub Rests : HostShape → Step → Type 0
+Rests host turns = host.me ≡ host.me
+Rests host (takes from letter) = host.running ≡ None
 
 -- ---- changes
 
@@ -311,6 +316,12 @@ module _ (name : ℕ) where
   runs_counts code host thread op.Back passes key other = back_counts code host thread thread.held passes
   runs_counts code host thread (op.Branch guard target) passes key other = branch_counts host thread guard target
 
+  -- a step that takes off leaves what waits and is kept
+  pub settled_counts : (code : CodeShape) (host : HostShape) (passes : Bool) →
+      count name (settled code host passes) ≤ lying name host
+  settled_counts code host true = popped code (with_running host None) host.entries refl refl
+  settled_counts code host false = omega arith
+
   -- ---- messages
 
   -- the name of the token of a message
@@ -393,10 +404,6 @@ module _ (name : ℕ) where
   abbrev pub step_hits : Step → ℕ
   step_hits turns = 0
   step_hits (takes from letter) = letter_hits letter
-
-  abbrev pub Rests : HostShape → Step → Type 0
-  Rests host turns = host.me ≡ host.me
-  Rests host (takes from letter) = host.running ≡ None
 
   pub step_counts : (code : CodeShape) (host : HostShape) (step : Step) (passes : Bool) → Rests host step →
       host.key ≡ told_key → StepPushes code host step passes →

@@ -220,7 +220,7 @@ top_there top token made same = by (is_right token) (name_of token == 0) refl re
     here = sym (made_stays none top made) ∙ same
 
     by : (right zero : Bool) → is_right token ≡ right → (name_of token == 0) ≡ zero → top ≡ token
-    by true zero is at = here ∙ right_stays none token is
+    by true nil is at = here ∙ right_stays none token is
     by false true is at = here ∙ unfated none token is at
     by false false is at =
         let wrong : top ≡ tagged (picked false) token = here ∙ fated none token is at in
@@ -245,7 +245,7 @@ top_back fate top token made same = by (is_right token) (name_of token == 0) ref
     by : (right zero : Bool) → is_right token ≡ right → (name_of token == 0) ≡ zero →
         (tagged (fate_tag none) top ≡ tagged (fate_tag none) token)
         ⊎ IsUnsure (Some (tagged (fate_tag none) top)) (tagged (fate_tag none) token)
-    by true zero is at = inl (ap (tagged (fate_tag none)) (here ∙ right_stays fate token is))
+    by true nil is at = inl (ap (tagged (fate_tag none)) (here ∙ right_stays fate token is))
     by false true is at = inl (ap (tagged (fate_tag none)) (here ∙ unfated fate token is at))
     by false false is at =
         inr (

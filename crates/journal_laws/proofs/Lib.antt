@@ -17,3 +17,4 @@ pub mod OffAgain
 pub mod NoRuns
 pub mod CountedNames
 pub mod FatedTags
+pub mod RealRuns

@@ -80,7 +80,7 @@ made_real : (key : List ℕ) (step : Step) → tagged_step (real_tag key) (tagge
 made_real key turns = refl
 made_real key (takes from letter) = ap (takes from) (marked_real key letter)
 
-made_bare : (step : Step) → bare_step (made_of step) ≡ bare_step step
+pub made_bare : (step : Step) → bare_step (made_of step) ≡ bare_step step
 made_bare turns = refl
 made_bare (takes from letter) = ap (takes from) (wrong_alike letter)
 
@@ -99,7 +99,7 @@ rests_made : (code : CodeShape) (host : HostShape) (step : Step) → MayStep cod
 rests_made code host turns may = tt
 rests_made code host (takes from letter) may = may.rest
 
-off_syncs : (code : CodeShape) (host : HostShape) (step : Step) (passes : Bool) → takes_off code host step ≡ true →
+pub off_syncs : (code : CodeShape) (host : HostShape) (step : Step) (passes : Bool) → takes_off code host step ≡ true →
     StepSyncs step passes
 off_syncs code host turns passes off = tt
 off_syncs code host (takes from (message.Lgoto token)) passes off = λ holds. tt
@@ -113,7 +113,7 @@ off_syncs code host (takes from (message.Value request value)) passes off = absu
 off_syncs code host (takes from (message.Ack request)) passes off = absurd cc
 off_syncs code host (takes from (message.Token request token)) passes off = absurd cc
 
-check_syncs : (code : CodeShape) (host : HostShape) (step : Step) (passes : Bool) →
+pub check_syncs : (code : CodeShape) (host : HostShape) (step : Step) (passes : Bool) →
     IsTrue passes ↔ CheckOf code host step → StepSyncs step passes
 check_syncs code host turns passes check = tt
 check_syncs code host (takes from letter) passes check = λ holds. passing_syncs code host from letter (check.0 holds)
@@ -122,7 +122,7 @@ marked_syncs : (step : Step) (passes : Bool) → StepSyncs step passes → StepS
 marked_syncs turns passes syncs = tt
 marked_syncs (takes from letter) passes syncs = λ holds. tagged_syncs marked letter (syncs holds)
 
-pushes : (code : CodeShape) (host : HostShape) (step : Step) (passes : Bool) → IsSoundCode code →
+pub pushes : (code : CodeShape) (host : HostShape) (step : Step) (passes : Bool) → IsSoundCode code →
     IsHost code host.me → StepSyncs step passes → StepPushes code host step passes
 pushes code host turns passes sound there syncs = thread_pushes code host.me host.running sound there
 pushes code host (takes from letter) passes sound there syncs = syncs
@@ -130,7 +130,7 @@ pushes code host (takes from letter) passes sound there syncs = syncs
 both_ways : {A B C : Type 0} → A ↔ B → B ↔ C → A ↔ C
 both_ways one two = (λ a. two.0 (one.0 a), λ c. one.1 (two.1 c))
 
-some_same : {A : Type 0} (one other : A) → ◌≡◌ {A = Option A} (Some one) (Some other) → one ≡ other
+pub some_same : {A : Type 0} (one other : A) → ◌≡◌ {A = Option A} (Some one) (Some other) → one ≡ other
 some_same {A = A} one other same = ap or_one same
   where
     or_one : Option A → A
@@ -138,13 +138,13 @@ some_same {A = A} one other same = ap or_one same
     or_one (Some found) = found
 
 -- what a played host makes of a step that takes off: an open one as it was chosen, and any other by its check
-abbrev IsOff : (Bool → Type 0) → CodeShape → HostShape → Step → Outcome → Type 0
+abbrev pub IsOff : (Bool → Type 0) → CodeShape → HostShape → Step → Outcome → Type 0
 IsOff chosen code host step outcome =
     (passes : Bool) × (without_message (settled code host passes) ≡ outcome)
     × (chosen passes
     ⊎ ((¬ MayBeTop host (presented host step)) × (IsTrue passes ↔ IsTop host (presented host step))))
 
-off_of : (code : CodeShape) (chosen : Bool → Type 0) (host : HostShape) (step : Step) (outcome : Outcome) →
+pub off_of : (code : CodeShape) (chosen : Bool → Type 0) (host : HostShape) (step : Step) (outcome : Outcome) →
     takes_off code host (made_of step) ≡ true → RestsFor host (made_of step) →
     IsChosenStep chosen code host step outcome → IsOff chosen code host (made_of step) outcome
 off_of code chosen host turns outcome off rest (inl (passes, why, unsure, is)) =
@@ -271,7 +271,7 @@ module _ (code : CodeShape) (sound : IsSoundCode code) (own : HaveOwnNames code)
 
   -- ---- a step that takes nothing off
 
-  closed_step : (chosen : Bool → Type 0) (host : HostShape) (step : Step) (outcome : Outcome) → StateFits code host →
+  pub closed_step : (chosen : Bool → Type 0) (host : HostShape) (step : Step) (outcome : Outcome) → StateFits code host →
       MayStep code host step → takes_off code host (made_of step) ≡ false →
       IsChosenStep chosen code host step outcome → IsStep code host (made_of step) outcome
   closed_step chosen host turns outcome fits may off (inr closed) = closed.1

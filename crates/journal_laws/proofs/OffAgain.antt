@@ -255,11 +255,11 @@ told_off code host (Some thread) passes own = by (instruction_at code host.me th
 
 -- ---- the token that is presented
 
-abbrev held_of : Option ThreadShape → Option Token
+abbrev pub held_of : Option ThreadShape → Option Token
 held_of None = None
 held_of (Some thread) = thread.held
 
-abbrev lgoto_of : Message → Option Token
+abbrev pub lgoto_of : Message → Option Token
 lgoto_of (message.Lgoto token) = Some token
 lgoto_of _ = None
 
@@ -292,13 +292,19 @@ presented_cast tags key ignored halted host turns = held_tagged tags host.runnin
 presented_cast tags key ignored halted host (takes from letter) = lgoto_tagged tags letter
 
 -- the token is that of the top entry, or has its numbers and another tag
+abbrev pub TopIs : Option Token → Option Token → Type 0
+TopIs top None = ⊥
+TopIs top (Some token) = top ≡ Some token
+
+abbrev pub TopMayBe : Option Token → Option Token → Type 0
+TopMayBe top None = ⊥
+TopMayBe top (Some token) = IsUnsure top token
+
 abbrev pub IsTop : HostShape → Option Token → Type 0
-IsTop host None = ⊥
-IsTop host (Some token) = top_token host.entries ≡ Some token
+IsTop host held = TopIs (top_token host.entries) held
 
 abbrev pub MayBeTop : HostShape → Option Token → Type 0
-MayBeTop host None = ⊥
-MayBeTop host (Some token) = IsUnsure (top_token host.entries) token
+MayBeTop host held = TopMayBe (top_token host.entries) held
 
 pub off_check : (code : CodeShape) (host : HostShape) (step : Step) → takes_off code host step ≡ true →
     CheckOf code host step ↔ IsTop host (presented host step)
@@ -374,6 +380,47 @@ open_turn code host (Some thread) off unsure = by (instruction_at code host.me t
         IsOpenInstruction host thread.held found
     by None off = absurd cc
     by (Some instruction) off = runs thread.held instruction.op off unsure
+
+-- and the other way round
+pub turn_open : (code : CodeShape) (host : HostShape) (running : Option ThreadShape) →
+    IsOpenTurnOf code host running → MayBeTop host (held_of running)
+turn_open code host None unsure = absurd unsure
+turn_open code host (Some thread) unsure = by (instruction_at code host.me thread.at) unsure
+  where
+    runs : (held : Option Token) (operation : Op) → IsOpenOperation host held operation → MayBeTop host held
+    runs None operation unsure = absurd unsure
+    runs (Some held) op.Back unsure = unsure
+    runs (Some held) (op.Read field index) unsure = absurd unsure
+    runs (Some held) (op.Let variable value) unsure = absurd unsure
+    runs (Some held) (op.Put field index value) unsure = absurd unsure
+    runs (Some held) (op.Send variable to) unsure = absurd unsure
+    runs (Some held) (op.Frame site) unsure = absurd unsure
+    runs (Some held) (op.Arg variable value) unsure = absurd unsure
+    runs (Some held) (op.Pass variable to) unsure = absurd unsure
+    runs (Some held) (op.Push entry) unsure = absurd unsure
+    runs (Some held) (op.Ask entry on) unsure = absurd unsure
+    runs (Some held) (op.Go entry on) unsure = absurd unsure
+    runs (Some held) (op.GoWith entry on riders) unsure = absurd unsure
+    runs (Some held) (op.Call entry on) unsure = absurd unsure
+    runs (Some held) (op.CallWith entry on riders) unsure = absurd unsure
+    runs (Some held) (op.Ret variable value) unsure = absurd unsure
+    runs (Some held) (op.Branch guard target) unsure = absurd unsure
+
+    by : (found : Option Instr) → IsOpenInstruction host thread.held found → MayBeTop host thread.held
+    by None unsure = absurd unsure
+    by (Some instruction) unsure = runs thread.held instruction.op unsure
+
+pub lgoto_open : (host : HostShape) (letter : Message) → IsOpenTaking host letter → MayBeTop host (lgoto_of letter)
+lgoto_open host (message.Lgoto token) unsure = unsure
+lgoto_open host (message.Get request field index) unsure = absurd unsure
+lgoto_open host (message.Set request field index value) unsure = absurd unsure
+lgoto_open host (message.Forward request frame variable value) unsure = absurd unsure
+lgoto_open host (message.Sync request frame entry token) unsure = absurd unsure
+lgoto_open host (message.Rgoto frame entry token) unsure = absurd unsure
+lgoto_open host (message.RgotoWith frame entry token riders) unsure = absurd unsure
+lgoto_open host (message.Value request value) unsure = absurd unsure
+lgoto_open host (message.Ack request) unsure = absurd unsure
+lgoto_open host (message.Token request token) unsure = absurd unsure
 
 pub open_lgoto : (host : HostShape) (letter : Message) → MayBeTop host (lgoto_of letter) → IsOpenTaking host letter
 open_lgoto host (message.Lgoto token) unsure = unsure

@@ -82,7 +82,7 @@ told_tag token = if is_made token then token.tag else other_tag (right_tag told_
 abbrev pub real_tag : List ℕ → Token → List ℕ
 real_tag key token = if is_made token then right_tag key token else unmarked token.tag
 
-same_number : (n : ℕ) → (n == n) ≡ true
+pub same_number : (n : ℕ) → (n == n) ≡ true
 same_number n = grind (arith, nat_tests)
 
 next_number : (n : ℕ) → (suc n == n) ≡ false

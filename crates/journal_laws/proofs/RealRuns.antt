@@ -1,0 +1,518 @@
+-- A host that was played stands for a real one: under the key of played hosts some run has these lines and leaves these
+-- fields. The tags of the tokens that the real host takes are chosen from the end on. Each of them is presented once at
+-- the most, and there it is right just where the step passed.
+use Rattle.std.proofs.Common.{◌≡◌, ◌≢◌, ◌∙◌, ◌⊎◌, ◌↔◌, ◌+◌, ◌≤◌, Bool, true, false, ℕ, ℤ, suc, refl, ap, sym, subst}
+use Rattle.std.proofs.Common.{List, [], ◌∷◌, ◌++◌, append_assoc, inl, inr, arith, codes}
+use Rattle.std.specs.Prelude.{Option, Some, None, IsSome, IsTrue, map, slice_index, ◌==◌, if◌then◌else◌, ⊤}
+use Rattle.std.specs.Option.{option_map}
+use Rattle.std.proofs.lemmas.Bool.{false≢true}
+use Rattle.std.proofs.lemmas.Bool.Decides.{nat_tests}
+use Rattle.js_base.specs.declared.ids.HostId.{HostId}
+use Rattle.capability.specs.declared.token.Token.{Token}
+use Rattle.ics_stack.specs.declared.stack.StackEntry.{StackEntry}
+use Rattle.ics_stack.specs.Stack.{top_token}
+use Rattle.host_code.specs.declared.code.Entry.{Entry}
+use Rattle.host_code.specs.declared.instruction.Instr.{Instr}
+use Rattle.host_code.specs.declared.message.Message.{Message}
+use Rattle.host_code.specs.declared.message.Message.TheVariants as message
+use Rattle.host_code.specs.Code.{CodeShape, entry_at, halt, instruction_at}
+use Rattle.host_code.specs.MessageText.{host_text, message_text}
+use Rattle.host_code.specs.Sound.{IsHost, IsOther, IsSoundCode}
+use Rattle.host_code.specs.Thread.{ThreadShape}
+use Rattle.host_core.specs.Fits.{StateFits}
+use Rattle.host_core.specs.Host.{HostShape, Outcome, after_entering, after_push, new_token, with_running, without_message}
+use Rattle.host_core.specs.Start.{host_at_start, idle_host, last_token, main_frame}
+use Rattle.host_core.specs.Told.{IsUnsure, settled, told_key, with_wrong_tags}
+use Rattle.host_core.specs.Turn.{IsRunning, IsTurnOf}
+use Rattle.event_text.specs.JournalText.{sent_words}
+use Rattle.event_text.specs.Lines.{words}
+use Rattle.event_text.specs.Words.{Word}
+use Rattle.wire_msg.specs.Frames.{IsMessage}
+use Rattle.journal_laws.specs.Bare.{bare_host, bare_message, bare_sent}
+use Rattle.journal_laws.specs.Plays.{AreNotedOf, HaveOwnNames, IsJournalOf, MayStep, Plays, step_words}
+use Rattle.journal_laws.specs.Steps.{Step, turns, takes, IsStep, after_running, after_turn, bare_step, told_step}
+use Rattle.journal_laws.specs.ToldPlays.{IsChosenStep, IsPlayed, IsToldStep, ToldPlays}
+use Rattle.journal_laws.proofs.AlikeSteps.{open_taken, open_turned}
+use Rattle.journal_laws.proofs.BareTakings.{printed_bare}
+use Rattle.journal_laws.proofs.CountedNames.{Rests, count, held_hits, hits, is_right, letter_hits, lying, name_of}
+use Rattle.journal_laws.proofs.CountedNames.{right_is, running_hits, settled_counts, step_counts, step_hits}
+use Rattle.journal_laws.proofs.FatedTags.{cast_same, fate_has, fate_right, fate_tag, fate_wrong, fits_tagged}
+use Rattle.journal_laws.proofs.FatedTags.{letter_fated, named, named_is, none, picked, real_picked, right_stays}
+use Rattle.journal_laws.proofs.FatedTags.{top_back, top_real, unfated, unsure_named, with_fate, wrong_picked}
+use Rattle.journal_laws.proofs.KeptStacks.{AreMade, HasStack, IsMade, StepPushes, SyncsOther, stack_kept}
+use Rattle.journal_laws.proofs.NoRuns.{check_syncs, made_bare, made_of, off_of, off_syncs, pushes, some_same}
+use Rattle.journal_laws.proofs.NoRuns as plays
+use Rattle.journal_laws.proofs.OffAgain.{IsStepBy, IsTop, MayBeTop, StepSyncs, TopIs, TopMayBe, check_told, held_of}
+use Rattle.journal_laws.proofs.OffAgain.{lgoto_of, lgoto_open, off_check}
+use Rattle.journal_laws.proofs.OffAgain.{presented, presented_cast, step_by, step_off, tagged_syncs, turn_open}
+use Rattle.journal_laws.proofs.OwnTags.{right_tag}
+use Rattle.journal_laws.proofs.Retagged.{AreCast, HasTags, IsCast, cast, cast_bare, cast_without, message_bare, sent_bare}
+use Rattle.journal_laws.proofs.Retagged.{step_cast, tagged, tagged_entry, tagged_message, tagged_step, tagged_thread}
+use Rattle.journal_laws.proofs.SameChecks.{CheckOf, CheckOfInstruction, CheckOfThread, same_takes_off, takes_off, told_of}
+use Rattle.journal_laws.proofs.SameFields as fields
+use Rattle.journal_laws.proofs.TakenOff.{RestsFor}
+use Rattle.journal_laws.proofs.WithoutHalt.{without_halt}
+
+both_ways : {A B C : Type 0} → A ↔ B → B ↔ C → A ↔ C
+both_ways one two = (λ a. two.0 (one.0 a), λ c. one.1 (two.1 c))
+
+turned : {A B : Type 0} → A ↔ B → B ↔ A
+turned both = (both.1, both.0)
+
+none_some : {A : Type 0} (one : A) → ◌≡◌ {A = Option A} None (Some one) → ⊥
+none_some one is = cc
+
+-- ---- a step by its truth value
+
+step_is : (code : CodeShape) (host : HostShape) (step : Step) (outcome : Outcome) → IsStepBy code host step outcome →
+    IsStep code host step outcome
+step_is code host (takes from letter) outcome (passes, is, check) = (passes, check, is)
+step_is code host turns outcome (passes, is, check) = by host.running is check
+  where
+    runs : (thread : ThreadShape) (found : Option Instr) →
+        after_running code (with_running host None) thread found passes ≡ outcome →
+        IsTrue passes ↔ CheckOfInstruction code host thread.held found →
+        IsRunning code (with_running host None) thread found outcome
+    runs thread None is check = is
+    runs thread (Some instruction) is check = (passes, check, is)
+
+    by : (running : Option ThreadShape) → after_turn code host running passes ≡ outcome →
+        IsTrue passes ↔ CheckOfThread code host running → IsTurnOf code host running outcome
+    by None is check = is
+    by (Some thread) is check = runs thread (instruction_at code host.me thread.at) is check
+
+-- ---- the step of the third host, and that of the real one
+
+abbrev move_of : ℕ → Step → Step
+move_of name step = tagged_step (named name) step
+
+abbrev real_of : (ℕ → Bool) → ℕ → Step → Step
+real_of fate name step = tagged_step (fate_tag fate) (move_of name step)
+
+told_move : (name : ℕ) (step : Step) → (name == 0) ≡ false → tagged_step (fate_tag none) (move_of name step) ≡ made_of step
+told_move name turns some = refl
+told_move name (takes from letter) some = ap (takes from) (letter_fated none name letter some ∙ wrong_picked letter)
+
+tagged_bare : (tags : Token → List ℕ) (step : Step) → bare_step (tagged_step tags step) ≡ bare_step step
+tagged_bare tags turns = refl
+tagged_bare tags (takes from letter) = ap (takes from) (message_bare tags letter)
+
+tagged_words : (code : CodeShape) (tags : Token → List ℕ) (step : Step) →
+    step_words code (tagged_step tags step) ≡ step_words code step
+tagged_words code tags turns = refl
+tagged_words code tags (takes from letter) =
+    ap (λ (text : List ℕ). codes "take" ∷ host_text code from ∷ words text)
+    (sym (printed_bare code (tagged_message tags letter)) ∙ ap (message_text code) (message_bare tags letter)
+    ∙ printed_bare code letter)
+
+running_runs : (tags : Token → List ℕ) (running : Option ThreadShape) →
+    IsSome (option_map (tagged_thread tags) running) → IsSome running
+running_runs tags (Some thread) runs = refl
+running_runs tags None runs = runs
+
+runs_running : (tags : Token → List ℕ) (running : Option ThreadShape) → IsSome running →
+    IsSome (option_map (tagged_thread tags) running)
+runs_running tags (Some thread) runs = refl
+runs_running tags None runs = runs
+
+none_before : (tags : Token → List ℕ) (running : Option ThreadShape) →
+    option_map (tagged_thread tags) running ≡ None → running ≡ None
+none_before tags None rest = refl
+none_before tags (Some thread) rest = absurd cc
+
+made_syncs : (letter : Message) → SyncsOther (with_wrong_tags letter) → SyncsOther letter
+made_syncs (message.Get request field index) other = tt
+made_syncs (message.Set request field index value) other = tt
+made_syncs (message.Forward request frame variable value) other = tt
+made_syncs (message.Sync request frame entry token) other = other
+made_syncs (message.Rgoto frame entry token) other = tt
+made_syncs (message.RgotoWith frame entry token riders) other = tt
+made_syncs (message.Lgoto token) other = tt
+made_syncs (message.Value request value) other = tt
+made_syncs (message.Ack request) other = tt
+made_syncs (message.Token request token) other = tt
+
+-- how often names stand on the third host
+record Names (next : ℕ) (host : HostShape) : Type 0 where
+  single : (name : ℕ) → count name host ≤ 1
+  zero_none : count 0 host ≡ 0
+  fresh : (name : ℕ) → next ≤ name → count name host ≡ 0
+  some : 1 ≤ next
+
+not_zero : (name : ℕ) → 1 ≤ name → (name == 0) ≡ false
+not_zero name some = by (name == 0) refl
+  where
+    by : (nil : Bool) → (name == 0) ≡ nil → nil ≡ false
+    by false is = refl
+    by true is = absurd (let e : name ≡ 0 = grind (arith, nat_tests) in omega (arith, e, some))
+
+named_hits : (name next : ℕ) (token : Token) →
+    hits name (tagged (named next) token) ≡ (if next == name then 1 else 0)
+named_hits name next token =
+    ap (λ right. if right then 0 else (if next == name then 1 else 0)) (named_is next token)
+
+one_more : (next name : ℕ) (before after more : ℕ) → after ≤ before + more →
+    (more ≡ 0) ⊎ (more ≡ (if next == name then 1 else 0)) →
+    (next ≤ name → before ≡ 0) → before ≤ 1 → (after ≤ 1) × (suc next ≤ name → after ≡ 0)
+one_more next name before after more few (inl is) fresh single =
+    (omega (arith, few, is, single), λ past. let zero_before = fresh (omega (arith, past)) in
+    omega (arith, few, is, zero_before))
+one_more next name before after more few (inr is) fresh single = by (next == name) refl
+  where
+    by : (same : Bool) → (next == name) ≡ same → (after ≤ 1) × (suc next ≤ name → after ≡ 0)
+    by true here =
+        let same : next ≡ name = grind (arith, nat_tests) in
+        let one : more ≡ 1 = is ∙ (rw here refl) in
+        let before_none = fresh (omega (arith, same)) in
+        (omega (arith, few, one, before_none), λ past. absurd (omega (arith, past, same)))
+    by false here =
+        let zero_more : more ≡ 0 = is ∙ (rw here refl) in
+        (omega (arith, few, zero_more, single), λ past. let before_none = fresh (omega (arith, past)) in
+        omega (arith, few, zero_more, before_none))
+
+letter_named : (name next : ℕ) (letter : Message) →
+    (letter_hits name (tagged_message (named next) letter) ≡ 0)
+    ⊎ (letter_hits name (tagged_message (named next) letter) ≡ (if next == name then 1 else 0))
+letter_named name next (message.Get request field index) = inl refl
+letter_named name next (message.Set request field index value) = inl refl
+letter_named name next (message.Forward request frame variable value) = inl refl
+letter_named name next (message.Sync request frame entry token) = inr (named_hits name next token)
+letter_named name next (message.Rgoto frame entry token) = inr (named_hits name next token)
+letter_named name next (message.RgotoWith frame entry token riders) = inr (named_hits name next token)
+letter_named name next (message.Lgoto token) = inl refl
+letter_named name next (message.Value request value) = inl refl
+letter_named name next (message.Ack request) = inl refl
+letter_named name next (message.Token request token) = inr (named_hits name next token)
+
+step_named : (name next : ℕ) (step : Step) →
+    (step_hits name (move_of next step) ≡ 0) ⊎ (step_hits name (move_of next step) ≡ (if next == name then 1 else 0))
+step_named name next turns = inl refl
+step_named name next (takes from letter) = letter_named name next letter
+
+names_on : (code : CodeShape) (next : ℕ) (host : HostShape) (step : Step) (passes : Bool) → Names next host →
+    Rests host (move_of next step) → host.key ≡ told_key → StepPushes code host (move_of next step) passes →
+    Names (suc next) (told_step code host (move_of next step) passes).state
+names_on code next host step passes names rest key other = record {
+  single = λ name. (all name).0;
+  zero_none =
+      let few = step_counts 0 code host (move_of next step) passes rest key other in
+      by (step_named 0 next step) few;
+  fresh = λ name. (all name).1;
+  some = let more = names.some in omega (arith, more);
+}
+  where
+    all : (name : ℕ) → (count name (told_step code host (move_of next step) passes).state ≤ 1)
+        × (suc next ≤ name → count name (told_step code host (move_of next step) passes).state ≡ 0)
+    all name =
+        one_more next name (count name host) (count name (told_step code host (move_of next step) passes).state)
+        (step_hits name (move_of next step)) (step_counts name code host (move_of next step) passes rest key other)
+        (step_named name next step) (names.fresh name) (names.single name)
+
+    by : (step_hits 0 (move_of next step) ≡ 0) ⊎ (step_hits 0 (move_of next step) ≡ (if next == 0 then 1 else 0)) →
+        count 0 (told_step code host (move_of next step) passes).state ≤ count 0 host + step_hits 0 (move_of next step) →
+        count 0 (told_step code host (move_of next step) passes).state ≡ 0
+    by (inl is) few = let before = names.zero_none in omega (arith, few, is, before)
+    by (inr is) few =
+        let zero_more : step_hits 0 (move_of next step) ≡ 0 = is ∙ (rw (not_zero next names.some) refl) in
+        let before = names.zero_none in
+        omega (arith, few, zero_more, before)
+
+module _ (code : CodeShape) (sound : IsSoundCode code) (own : HaveOwnNames code) where
+  -- the played host is the third one, where no token that was taken is right
+  record Plain (next : ℕ) (host both : HostShape) : Type 0 where
+    told : IsCast (fate_tag none) told_key host both
+    stack : HasStack told_key both
+    fits : StateFits code host
+    names : Names next both
+
+  -- the real host, by the fates of the names
+  abbrev real : (ℕ → Bool) → ℕ → Bool → HostShape → HostShape
+  real fate ignored halted both = cast (fate_tag fate) told_key ignored halted both
+
+  real_told : (next : ℕ) (host both : HostShape) (fate : ℕ → Bool) (ignored : ℕ) (halted : Bool) →
+      Plain next host both → told_of host ≡ told_of (real fate ignored halted both)
+  real_told next host both fate ignored halted plain =
+      let (count, ends, is) = plain.told in
+      ap told_of is
+      ∙ ap bare_host (cast_without (fate_tag none) told_key count ends both)
+      ∙ cast_bare (fate_tag none) told_key count ends (without_halt both)
+      ∙ sym (cast_bare (fate_tag fate) told_key ignored halted (without_halt both))
+      ∙ ap bare_host (sym (cast_without (fate_tag fate) told_key ignored halted both))
+
+  -- what the step leaves of the played host and of the third
+  told_cast : (next : ℕ) (host both : HostShape) (step : Step) (outcome : Outcome) (passes : Bool) →
+      Plain next host both → told_step code host (made_of step) passes ≡ outcome →
+      AreCast (fate_tag none) told_key outcome (told_step code both (move_of next step) passes)
+  told_cast next host both step outcome passes plain is =
+      let (count, ends, casts) = plain.told in
+      let has : HasTags (fate_tag none) both.key told_key =
+      subst (λ made. HasTags (fate_tag none) made told_key) (sym plain.stack.key_is) (fate_has none) in
+      subst (λ after. AreCast (fate_tag none) told_key after (told_step code both (move_of next step) passes))
+      (ap (λ h. told_step code h (tagged_step (fate_tag none) (move_of next step)) passes) (sym casts)
+      ∙ ap (λ s. told_step code host s passes) (told_move next step (not_zero next plain.names.some)) ∙ is)
+      (step_cast (fate_tag none) told_key code count ends both (move_of next step) passes has)
+
+  -- for some fates a run of the real host has these lines and leaves these fields
+  record HasRun (both last : HostShape) (lines : List (List Word)) : Type 0 where
+    fate : ℕ → Bool
+    runs : (ignored : ℕ) (halted : Bool) →
+        (steps : List Step) × (end : HostShape) × Plays code (real fate ignored halted both) steps end lines
+        × (end.rows ≡ last.rows)
+
+  may_real : (next : ℕ) (host both : HostShape) (fate : ℕ → Bool) (ignored : ℕ) (halted : Bool) (step : Step) →
+      Plain next host both → MayStep code host step →
+      MayStep code (real fate ignored halted both) (real_of fate next step)
+  may_real next host both fate ignored halted turns plain may =
+      let (count, ends, is) = plain.told in
+      runs_running (fate_tag fate) both.running
+      (running_runs (fate_tag none) both.running (subst (λ (h : HostShape). IsSome h.running) is may))
+  may_real next host both fate ignored halted (takes from letter) plain may =
+      let (count, ends, is) = plain.told in
+      let rest : both.running ≡ None =
+      none_before (fate_tag none) both.running (sym (ap (λ (h : HostShape). h.running) is) ∙ may.rest) in
+      let right = fate next in
+      let said = letter_fated fate next letter (not_zero next plain.names.some) in
+      record {
+        rest = ap (option_map (tagged_thread (fate_tag fate))) rest;
+        other = subst (λ me. IsOther code me from) (ap (λ (h : HostShape). h.me) is) may.other;
+        fits = fits_tagged code (fate_tag fate) (tagged_message (named next) letter)
+            (fits_tagged code (named next) letter may.fits);
+        real = subst IsMessage (sym said) (real_picked right letter may.real);
+      }
+
+  -- one step more in front
+  step_more : (next : ℕ) (host both last : HostShape) (step : Step) (outcome : Outcome) (later : List (List Word))
+      (passes : Bool) (fate : ℕ → Bool) → (plain : Plain next host both) → MayStep code host step →
+      told_step code host (made_of step) passes ≡ outcome →
+      (run : HasRun (told_step code both (move_of next step) passes).state last later) →
+      ((ignored : ℕ) (halted : Bool) →
+      real fate ignored halted (told_step code both (move_of next step) passes).state
+      ≡ real run.fate ignored halted (told_step code both (move_of next step) passes).state) →
+      ((ignored : ℕ) (halted : Bool) →
+      IsTrue passes ↔ CheckOf code (real fate ignored halted both) (real_of fate next step)) →
+      HasRun both last (step_words code step ∷ (sent_words code outcome.sent ++ later))
+  step_more next host both last step outcome later passes fate plain may is run same check = record {
+    fate = fate;
+    runs = λ ignored halted.
+        let here = real fate ignored halted both in
+        let move = real_of fate next step in
+        let left = told_step code both (move_of next step) passes in
+        let after = told_step code here move passes in
+        let casts = step_cast (fate_tag fate) told_key code ignored halted both (move_of next step) passes
+        (has fate) in
+        let (count, ends, state) = casts.0 in
+        let (steps, end, plays, rows) = run.runs count ends in (
+          move ∷ steps,
+          end,
+          (
+            after,
+            later,
+            may_real next host both fate ignored halted step plain may,
+            step_is code here move after (passes, refl, check ignored halted),
+            subst (λ h. Plays code h steps end later) (sym (state ∙ same count ends)) plays,
+            ap (λ line. line ∷ (sent_words code outcome.sent ++ later)) (sym (all_words fate))
+                ∙ ap (λ (sent : List (List Word)). step_words code move ∷ (sent ++ later))
+                (fields.said_alike code sound own outcome.sent after.sent (sent_told ∙ sym (ap bare_sent casts.1
+                ∙ sent_bare (fate_tag fate) left.sent))),
+          ),
+          rows,
+        );
+  }
+    where
+      has : (fate : ℕ → Bool) → HasTags (fate_tag fate) both.key told_key
+      has fate = subst (λ made. HasTags (fate_tag fate) made told_key) (sym plain.stack.key_is) (fate_has fate)
+
+      all_words : (fate : ℕ → Bool) → step_words code (real_of fate next step) ≡ step_words code step
+      all_words fate = tagged_words code (fate_tag fate) (move_of next step) ∙ tagged_words code (named next) step
+
+      sent_told : bare_sent outcome.sent ≡ bare_sent (told_step code both (move_of next step) passes).sent
+      sent_told =
+          let casts = told_cast next host both step outcome passes plain is in
+          ap bare_sent casts.1 ∙ sent_bare (fate_tag none) (told_step code both (move_of next step) passes).sent
+
+  -- ---- what the step leaves of the third host
+
+  plain_on : (next : ℕ) (host both : HostShape) (step : Step) (outcome : Outcome) (passes : Bool) →
+      (plain : Plain next host both) → MayStep code host step → IsToldStep code host step outcome →
+      told_step code host (made_of step) passes ≡ outcome → StepSyncs (made_of step) passes →
+      Plain (suc next) outcome.state (told_step code both (move_of next step) passes).state
+  plain_on next host both step outcome passes plain may told is syncs =
+      let pushes_none = pushes code both (move_of next step) passes sound there (move_syncs step syncs) in
+      record {
+        told = (told_cast next host both step outcome passes plain is).0;
+        stack = stack_kept code told_key both (move_of next step) passes pushes_none plain.stack;
+        fits = fields.told_fits code sound own host step outcome plain.fits may told;
+        names = names_on code next both step passes plain.names (rests step may) plain.stack.key_is pushes_none;
+      }
+    where
+      there : IsHost code both.me
+      there =
+          let (count, ends, casts) = plain.told in
+          subst (IsHost code) (ap (λ (h : HostShape). h.me) casts) plain.fits.me
+
+      move_syncs : (step : Step) → StepSyncs (made_of step) passes → StepSyncs (move_of next step) passes
+      move_syncs turns syncs = tt
+      move_syncs (takes from letter) syncs =
+          λ holds. tagged_syncs (named next) letter (made_syncs letter (syncs holds))
+
+      rests : (step : Step) → MayStep code host step → Rests both (move_of next step)
+      rests turns may = refl
+      rests (takes from letter) may =
+          let (count, ends, casts) = plain.told in
+          none_before (fate_tag none) both.running (sym (ap (λ (h : HostShape). h.running) casts) ∙ may.rest)
+
+  -- ---- the step by its truth value, and why it is that one
+
+  record Made (host : HostShape) (step : Step) (outcome : Outcome) : Type 0 where
+    passes : Bool
+    is : told_step code host (made_of step) passes ≡ outcome
+    syncs : StepSyncs (made_of step) passes
+    why : ((takes_off code host (made_of step) ≡ false) × (IsTrue passes ↔ CheckOf code host (made_of step)))
+        ⊎ ((takes_off code host (made_of step) ≡ true)
+        × (MayBeTop host (presented host (made_of step))
+        ⊎ ((¬ MayBeTop host (presented host (made_of step)))
+        × (IsTrue passes ↔ IsTop host (presented host (made_of step))))))
+
+  open_chosen : (host : HostShape) (step : Step) (outcome : Outcome) → IsToldStep code host step outcome →
+      IsChosenStep (λ passes. MayBeTop host (presented host (made_of step))) code host step outcome
+  open_chosen host turns outcome (inl (passes, unsure, is)) =
+      inl (passes, turn_open code host host.running unsure, unsure, is)
+  open_chosen host turns outcome (inr closed) = inr closed
+  open_chosen host (takes from letter) outcome (inl (passes, unsure, is)) =
+      inl (passes, lgoto_open host (with_wrong_tags letter) unsure, unsure, is)
+  open_chosen host (takes from letter) outcome (inr closed) = inr closed
+
+  rests_made : (host : HostShape) (step : Step) → MayStep code host step → RestsFor host (made_of step)
+  rests_made host turns may = tt
+  rests_made host (takes from letter) may = may.rest
+
+  made_by : (host : HostShape) (step : Step) (outcome : Outcome) → StateFits code host → MayStep code host step →
+      IsToldStep code host step outcome → Made host step outcome
+  made_by host step outcome fits may told = by (takes_off code host (made_of step)) refl
+    where
+      by : (off : Bool) → takes_off code host (made_of step) ≡ off → Made host step outcome
+      by false off =
+          let closed = plays.closed_step code sound own (λ passes. MayBeTop host (presented host (made_of step))) host
+          step outcome fits may off (open_chosen host step outcome told) in
+          let (passes, is, check) = step_by code host (made_of step) outcome closed in
+          record {
+            passes = passes;
+            is = is;
+            syncs = check_syncs code host (made_of step) passes check;
+            why = inl (off, check);
+          }
+      by true off =
+          let (passes, is, why) = off_of code (λ passes. MayBeTop host (presented host (made_of step))) host step outcome
+          off (rests_made host step may) (open_chosen host step outcome told) in
+          record {
+            passes = passes;
+            is = step_off code host (made_of step) passes off (rests_made host step may) ∙ is;
+            syncs = off_syncs code host (made_of step) passes off;
+            why = inr (off, why);
+          }
+
+  -- ---- the checks of the real host
+
+  real_bare : (fate : ℕ → Bool) (next : ℕ) (step : Step) → bare_step (made_of step) ≡ bare_step (real_of fate next step)
+  real_bare fate next step =
+      made_bare step ∙ sym (tagged_bare (fate_tag fate) (move_of next step) ∙ tagged_bare (named next) step)
+
+  real_off : (next : ℕ) (host both : HostShape) (step : Step) (fate : ℕ → Bool) (ignored : ℕ) (halted : Bool) →
+      Plain next host both →
+      takes_off code host (made_of step) ≡ takes_off code (real fate ignored halted both) (real_of fate next step)
+  real_off next host both step fate ignored halted plain =
+      same_takes_off code host (real fate ignored halted both) (made_of step) (real_of fate next step)
+      (real_told next host both fate ignored halted plain) (real_bare fate next step)
+
+  plain_check : (next : ℕ) (host both : HostShape) (step : Step) (passes : Bool) (fate : ℕ → Bool) (ignored : ℕ)
+      (halted : Bool) → Plain next host both → takes_off code host (made_of step) ≡ false →
+      IsTrue passes ↔ CheckOf code host (made_of step) →
+      IsTrue passes ↔ CheckOf code (real fate ignored halted both) (real_of fate next step)
+  plain_check next host both step passes fate ignored halted plain off check =
+      let here = real fate ignored halted both in
+      let move = real_of fate next step in
+      let told : IsTrue passes ↔ CheckOf code (told_of here) (bare_step move) =
+      subst (λ s. IsTrue passes ↔ CheckOf code (told_of here) s) (real_bare fate next step)
+      (subst (λ h. IsTrue passes ↔ CheckOf code h (bare_step (made_of step)))
+      (real_told next host both fate ignored halted plain)
+      (both_ways check (check_told code host (made_of step) off))) in
+      both_ways told
+      (turned (check_told code here move (sym (real_off next host both step fate ignored halted plain) ∙ off)))
+
+  host_presents : (next : ℕ) (host both : HostShape) (step : Step) → Plain next host both →
+      presented host (made_of step) ≡ option_map (tagged (fate_tag none)) (presented both (move_of next step))
+  host_presents next host both step plain =
+      let (count, ends, casts) = plain.told in
+      ap (presented host) (sym (told_move next step (not_zero next plain.names.some)))
+      ∙ ap (λ h. presented h (tagged_step (fate_tag none) (move_of next step))) casts
+      ∙ presented_cast (fate_tag none) told_key count ends both (move_of next step)
+
+  host_top : (next : ℕ) (host both : HostShape) → Plain next host both →
+      top_token host.entries ≡ top_token (map (tagged_entry (fate_tag none)) both.entries)
+  host_top next host both plain =
+      let (count, ends, casts) = plain.told in ap (λ (h : HostShape). top_token h.entries) casts
+
+  off_real : (next : ℕ) (host both : HostShape) (step : Step) (passes : Bool) (fate : ℕ → Bool) (ignored : ℕ)
+      (halted : Bool) → Plain next host both → takes_off code host (made_of step) ≡ true →
+      IsTrue passes ↔ TopIs (top_token (map (tagged_entry (fate_tag fate)) both.entries))
+      (option_map (tagged (fate_tag fate)) (presented both (move_of next step))) →
+      IsTrue passes ↔ CheckOf code (real fate ignored halted both) (real_of fate next step)
+  off_real next host both step passes fate ignored halted plain off check =
+      let here = real fate ignored halted both in
+      let move = real_of fate next step in
+      let top : IsTrue passes ↔ IsTop here (presented here move) =
+      subst (λ held. IsTrue passes ↔ IsTop here held)
+      (sym (presented_cast (fate_tag fate) told_key ignored halted both (move_of next step))) check in
+      both_ways top
+      (turned (off_check code here move (sym (real_off next host both step fate ignored halted plain) ∙ off)))
+
+  -- ---- steps that take off
+
+  closed_tops : (fate : ℕ → Bool) (entries : List StackEntry) (held : Option Token) → AreMade told_key entries →
+      ¬ TopMayBe (top_token (map (tagged_entry (fate_tag none)) entries)) (option_map (tagged (fate_tag none)) held) →
+      TopIs (top_token (map (tagged_entry (fate_tag none)) entries)) (option_map (tagged (fate_tag none)) held)
+      ↔ TopIs (top_token (map (tagged_entry (fate_tag fate)) entries)) (option_map (tagged (fate_tag fate)) held)
+  closed_tops fate entries None made sure = (λ a. a, λ a. a)
+  closed_tops fate [] (Some token) made sure = (λ a. absurd (none_some _ a), λ a. absurd (none_some _ a))
+  closed_tops fate (top ∷ below) (Some token) made sure = (
+    λ a. ap Some (top_real fate top.token token made.0
+        (some_same (tagged (fate_tag none) top.token) (tagged (fate_tag none) token) a)),
+    λ a. by (top_back fate top.token token made.0
+        (some_same (tagged (fate_tag fate) top.token) (tagged (fate_tag fate) token) a)),
+  )
+    where
+      by : (tagged (fate_tag none) top.token ≡ tagged (fate_tag none) token)
+          ⊎ IsUnsure (Some (tagged (fate_tag none) top.token)) (tagged (fate_tag none) token) →
+          ◌≡◌ {A = Option Token} (Some (tagged (fate_tag none) top.token)) (Some (tagged (fate_tag none) token))
+      by (inl same) = ap Some same
+      by (inr unsure) = absurd (sure unsure)
+
+  -- a token that may be the top one has a name, and is the top one where its fate is to be right
+  record HasName (entries : List StackEntry) (held : Option Token) : Type 0 where
+    token : Token
+    is : held ≡ Some token
+    wrong : is_right token ≡ false
+    fates : (fate : ℕ → Bool) (passes : Bool) → (name_of token == 0) ≡ false → fate (name_of token) ≡ passes →
+        IsTrue passes ↔ TopIs (top_token (map (tagged_entry (fate_tag fate)) entries))
+        (option_map (tagged (fate_tag fate)) held)
+
+  open_tops : (entries : List StackEntry) (held : Option Token) → AreMade told_key entries →
+      TopMayBe (top_token (map (tagged_entry (fate_tag none)) entries)) (option_map (tagged (fate_tag none)) held) →
+      HasName entries held
+  open_tops entries None made unsure = absurd unsure
+  open_tops [] (Some token) made unsure = absurd unsure
+  open_tops (top ∷ below) (Some token) made unsure =
+      let wrong = unsure_named top.token token made.0 unsure in
+      record { token = token; is = refl; wrong = wrong; fates = λ fate passes some is. by fate passes some is wrong }
+    where
+      by : (fate : ℕ → Bool) (passes : Bool) → (name_of token == 0) ≡ false → fate (name_of token) ≡ passes →
+          is_right token ≡ false →
+          IsTrue passes
+          ↔ ◌≡◌ {A = Option Token} (Some (tagged (fate_tag fate) top.token)) (Some (tagged (fate_tag fate) token))
+      by fate true some is wrong =
+          (λ a. ap Some (fate_right fate top.token token made.0 unsure wrong some is), λ a. refl)
+      by fate false some is wrong = (
+        λ a. absurd (false≢true a),
+        λ a. absurd (fate_wrong fate top.token token made.0 wrong some is
+            (some_same (tagged (fate_tag fate) top.token) (tagged (fate_tag fate) token) a)),
+      )
