@@ -3,7 +3,7 @@
 -- the most, and there it is right just where the step passed.
 use Rattle.std.proofs.Common.{◌≡◌, ◌≢◌, ◌∙◌, ◌⊎◌, ◌↔◌, ◌+◌, ◌≤◌, Bool, true, false, ℕ, ℤ, suc, refl, ap, sym, subst}
 use Rattle.std.proofs.Common.{List, [], ◌∷◌, ◌++◌, append_assoc, inl, inr, arith, codes}
-use Rattle.std.specs.Prelude.{Option, Some, None, IsSome, IsTrue, map, slice_index, ◌==◌, if◌then◌else◌, ⊤}
+use Rattle.std.specs.Prelude.{Option, Some, None, IsSome, IsTrue, map, slice_index, slice_set, ◌==◌, if◌then◌else◌, ⊤}
 use Rattle.std.specs.Option.{option_map}
 use Rattle.std.proofs.lemmas.Bool.{false≢true}
 use Rattle.std.proofs.lemmas.Bool.Decides.{nat_tests}
@@ -34,8 +34,8 @@ use Rattle.journal_laws.specs.Steps.{Step, turns, takes, IsStep, after_running, 
 use Rattle.journal_laws.specs.ToldPlays.{IsChosenStep, IsPlayed, IsToldStep, ToldPlays}
 use Rattle.journal_laws.proofs.AlikeSteps.{open_taken, open_turned}
 use Rattle.journal_laws.proofs.BareTakings.{printed_bare}
-use Rattle.journal_laws.proofs.CountedNames.{Rests, count, held_hits, hits, is_right, letter_hits, lying, name_of}
-use Rattle.journal_laws.proofs.CountedNames.{right_is, running_hits, settled_counts, step_counts, step_hits}
+use Rattle.journal_laws.proofs.CountedNames.{Rests, count, entry_hits, held_hits, hits, is_right, letter_hits, lying}
+use Rattle.journal_laws.proofs.CountedNames.{name_of, right_is, running_hits, settled_counts, step_counts, step_hits}
 use Rattle.journal_laws.proofs.FatedTags.{cast_same, fate_has, fate_right, fate_tag, fate_wrong, fits_tagged}
 use Rattle.journal_laws.proofs.FatedTags.{letter_fated, named, named_is, none, picked, real_picked, right_stays}
 use Rattle.journal_laws.proofs.FatedTags.{top_back, top_real, unfated, unsure_named, with_fate, wrong_picked}
@@ -45,7 +45,7 @@ use Rattle.journal_laws.proofs.NoRuns as plays
 use Rattle.journal_laws.proofs.OffAgain.{IsStepBy, IsTop, MayBeTop, StepSyncs, TopIs, TopMayBe, check_told, held_of}
 use Rattle.journal_laws.proofs.OffAgain.{lgoto_of, lgoto_open, off_check}
 use Rattle.journal_laws.proofs.OffAgain.{presented, presented_cast, step_by, step_off, tagged_syncs, turn_open}
-use Rattle.journal_laws.proofs.OwnTags.{right_tag}
+use Rattle.journal_laws.proofs.OwnTags.{right_tag, same_number}
 use Rattle.journal_laws.proofs.Retagged.{AreCast, HasTags, IsCast, cast, cast_bare, cast_without, message_bare, sent_bare}
 use Rattle.journal_laws.proofs.Retagged.{step_cast, tagged, tagged_entry, tagged_message, tagged_step, tagged_thread}
 use Rattle.journal_laws.proofs.SameChecks.{CheckOf, CheckOfInstruction, CheckOfThread, same_takes_off, takes_off, told_of}
@@ -515,4 +515,311 @@ module _ (code : CodeShape) (sound : IsSoundCode code) (own : HaveOwnNames code)
         λ a. absurd (false≢true a),
         λ a. absurd (fate_wrong fate top.token token made.0 wrong some is
             (some_same (tagged (fate_tag fate) top.token) (tagged (fate_tag fate) token) a)),
+      )
+
+  -- where the name of the token that is presented stands then
+  abbrev IsSpent : ℕ → HostShape → Type 0
+  IsSpent name both = ((name == 0) ≡ false) × (lying name both ≡ 0)
+
+  held_one : (running : Option ThreadShape) (token : Token) → held_of running ≡ Some token →
+      is_right token ≡ false → running_hits (name_of token) running ≡ 1
+  held_one None token is wrong = absurd (none_some token is)
+  held_one (Some thread) token is wrong =
+      ap (held_hits (name_of token)) is ∙ rw wrong (rw (same_number (name_of token)) refl)
+
+  lgoto_name : (next : ℕ) (letter : Message) (token : Token) →
+      lgoto_of (tagged_message (named next) letter) ≡ Some token → name_of token ≡ next
+  lgoto_name next (message.Lgoto letter) token is =
+      sym (ap name_of (some_same (tagged (named next) letter) token is))
+  lgoto_name next (message.Get request field index) token is = absurd (none_some token is)
+  lgoto_name next (message.Set request field index value) token is = absurd (none_some token is)
+  lgoto_name next (message.Forward request frame variable value) token is = absurd (none_some token is)
+  lgoto_name next (message.Sync request frame entry letter) token is = absurd (none_some token is)
+  lgoto_name next (message.Rgoto frame entry letter) token is = absurd (none_some token is)
+  lgoto_name next (message.RgotoWith frame entry letter riders) token is = absurd (none_some token is)
+  lgoto_name next (message.Value request value) token is = absurd (none_some token is)
+  lgoto_name next (message.Ack request) token is = absurd (none_some token is)
+  lgoto_name next (message.Token request letter) token is = absurd (none_some token is)
+
+  spent : (next : ℕ) (both : HostShape) (step : Step) (token : Token) → Names next both →
+      presented both (move_of next step) ≡ Some token → is_right token ≡ false → IsSpent (name_of token) both
+  spent next both turns token names is wrong =
+      let one = held_one both.running token is wrong in
+      let few = names.single (name_of token) in
+      (by (name_of token == 0) refl one, omega (arith, one, few))
+    where
+      by : (nil : Bool) → (name_of token == 0) ≡ nil → running_hits (name_of token) both.running ≡ 1 → nil ≡ false
+      by false at one = refl
+      by true at one =
+          let zero_is : name_of token ≡ 0 = grind (arith, nat_tests) in
+          let none_there = names.zero_none in
+          let here : running_hits 0 both.running ≡ 1 =
+          subst (λ name. running_hits name both.running ≡ 1) zero_is one in
+          absurd (omega (arith, here, none_there))
+  spent next both (takes from letter) token names is wrong =
+      let name = lgoto_name next letter token is in
+      let none_there = names.fresh next (omega arith) in
+      subst (λ name. IsSpent name both) (sym name) (not_zero next names.some, omega (arith, none_there))
+
+  -- ---- one step more
+
+  rests_both : (next : ℕ) (host both : HostShape) (step : Step) → Plain next host both → MayStep code host step →
+      RestsFor both (move_of next step)
+  rests_both next host both turns plain may = tt
+  rests_both next host both (takes from letter) plain may =
+      let (count, ends, casts) = plain.told in
+      none_before (fate_tag none) both.running (sym (ap (λ (h : HostShape). h.running) casts) ∙ may.rest)
+
+  both_off : (next : ℕ) (host both : HostShape) (step : Step) → Plain next host both →
+      takes_off code host (made_of step) ≡ takes_off code both (move_of next step)
+  both_off next host both step plain =
+      let (count, ends, casts) = plain.told in
+      let told : told_of host ≡ told_of both =
+      ap told_of casts ∙ ap bare_host (cast_without (fate_tag none) told_key count ends both)
+      ∙ cast_bare (fate_tag none) told_key count ends (without_halt both) in
+      same_takes_off code host both (made_of step) (move_of next step) told
+      (made_bare step ∙ sym (tagged_bare (named next) step))
+
+  run_step : (next : ℕ) (host both last : HostShape) (step : Step) (outcome : Outcome) (later : List (List Word)) →
+      (plain : Plain next host both) → MayStep code host step → (made : Made host step outcome) →
+      AreMade told_key (told_step code both (move_of next step) made.passes).state.entries →
+      HasRun (told_step code both (move_of next step) made.passes).state last later →
+      HasRun both last (step_words code step ∷ (sent_words code outcome.sent ++ later))
+  run_step next host both last step outcome later plain may made left_made run = by made.why
+    where
+      held : Option Token
+      held = presented both (move_of next step)
+
+      goes : (fate : ℕ → Bool) →
+          ((ignored : ℕ) (halted : Bool) →
+          real fate ignored halted (told_step code both (move_of next step) made.passes).state
+          ≡ real run.fate ignored halted (told_step code both (move_of next step) made.passes).state) →
+          ((ignored : ℕ) (halted : Bool) →
+          IsTrue made.passes ↔ CheckOf code (real fate ignored halted both) (real_of fate next step)) →
+          HasRun both last (step_words code step ∷ (sent_words code outcome.sent ++ later))
+      goes fate same check =
+          step_more next host both last step outcome later made.passes fate plain may made.is run same check
+
+      closed : takes_off code host (made_of step) ≡ true → ¬ MayBeTop host (presented host (made_of step)) →
+          IsTrue made.passes ↔ IsTop host (presented host (made_of step)) →
+          HasRun both last (step_words code step ∷ (sent_words code outcome.sent ++ later))
+      closed off sure check =
+          let presents = host_presents next host both step plain in
+          let top = host_top next host both plain in
+          let sure_too : ¬ TopMayBe (top_token (map (tagged_entry (fate_tag none)) both.entries))
+          (option_map (tagged (fate_tag none)) held) =
+          subst (λ t. ¬ TopMayBe t (option_map (tagged (fate_tag none)) held)) top
+          (subst (λ h. ¬ MayBeTop host h) presents sure) in
+          let first : IsTrue made.passes ↔ TopIs (top_token (map (tagged_entry (fate_tag none)) both.entries))
+          (option_map (tagged (fate_tag none)) held) =
+          subst (λ t. IsTrue made.passes ↔ TopIs t (option_map (tagged (fate_tag none)) held)) top
+          (subst (λ h. IsTrue made.passes ↔ IsTop host h) presents check) in
+          goes run.fate (λ ignored halted. refl)
+          (λ ignored halted. off_real next host both step made.passes run.fate ignored halted plain off
+          (both_ways first (closed_tops run.fate both.entries held plain.stack.made sure_too)))
+
+      opened : takes_off code host (made_of step) ≡ true → HasName both.entries held →
+          HasRun both last (step_words code step ∷ (sent_words code outcome.sent ++ later))
+      opened off has =
+          let name = name_of has.token in
+          let gone = spent next both step has.token plain.names has.is has.wrong in
+          let fate = with_fate run.fate name made.passes in
+          let mine : fate name ≡ made.passes =
+          ap (λ same. if same then made.passes else run.fate name) (same_number name) in
+          let left : told_step code both (move_of next step) made.passes
+          ≡ without_message (settled code both made.passes) =
+          step_off code both (move_of next step) made.passes (sym (both_off next host both step plain) ∙ off)
+          (rests_both next host both step plain may) in
+          let few = settled_counts name code both made.passes in
+          let lies = gone.1 in
+          let none_left : count name (settled code both made.passes) ≡ 0 = omega (arith, few, lies) in
+          let none_there : count name (told_step code both (move_of next step) made.passes).state ≡ 0 =
+          ap (λ (after : Outcome). count name after.state) left ∙ none_left in
+          goes fate
+          (λ ignored halted. cast_same run.fate name made.passes ignored halted
+          (told_step code both (move_of next step) made.passes).state left_made gone.0 none_there)
+          (λ ignored halted. off_real next host both step made.passes fate ignored halted plain off
+          (has.fates fate made.passes gone.0 mine))
+
+      may_open : MayBeTop host (presented host (made_of step)) → HasName both.entries held
+      may_open unsure =
+          open_tops both.entries held plain.stack.made
+          (subst (λ t. TopMayBe t (option_map (tagged (fate_tag none)) held)) (host_top next host both plain)
+          (subst (λ h. MayBeTop host h) (host_presents next host both step plain) unsure))
+
+      by : ((takes_off code host (made_of step) ≡ false)
+          × (IsTrue made.passes ↔ CheckOf code host (made_of step)))
+          ⊎ ((takes_off code host (made_of step) ≡ true)
+          × (MayBeTop host (presented host (made_of step))
+          ⊎ ((¬ MayBeTop host (presented host (made_of step)))
+          × (IsTrue made.passes ↔ IsTop host (presented host (made_of step)))))) →
+          HasRun both last (step_words code step ∷ (sent_words code outcome.sent ++ later))
+      by (inl (off, check)) =
+          goes run.fate (λ ignored halted. refl)
+          (λ ignored halted. plain_check next host both step made.passes run.fate ignored halted plain off check)
+      by (inr (off, inl unsure)) = opened off (may_open unsure)
+      by (inr (off, inr (sure, check))) = closed off sure check
+
+  played_run : (steps : List Step) (next : ℕ) (host both last : HostShape) (lines : List (List Word)) →
+      Plain next host both → ToldPlays code host steps last lines → HasRun both last lines
+  played_run [] next host both last lines plain play =
+      let (count, ends, casts) = plain.told in
+      record {
+        fate = none;
+        runs = λ ignored halted. (
+          [],
+          real none ignored halted both,
+          (refl, play.1),
+          sym (ap (λ (h : HostShape). h.rows) casts) ∙ ap (λ (h : HostShape). h.rows) play.0,
+        );
+      }
+  played_run (step ∷ steps) next host both last lines plain (outcome, later, may, told, play, whole) =
+      let made = made_by host step outcome plain.fits may told in
+      let on = plain_on next host both step outcome made.passes plain may told made.is made.syncs in
+      let run = played_run steps (suc next) outcome.state (told_step code both (move_of next step) made.passes).state last
+      later on play in
+      subst (HasRun both last) (sym whole)
+      (run_step next host both last step outcome later plain may made on.stack.made run)
+
+  -- ---- the start
+
+  last_stays : (fate : ℕ → Bool) (me : HostId) → tagged (fate_tag fate) (last_token me) ≡ last_token me
+  last_stays fate me = by (is_right (last_token me)) refl
+    where
+      by : (right : Bool) → is_right (last_token me) ≡ right →
+          tagged (fate_tag fate) (last_token me) ≡ last_token me
+      by true is = right_stays fate (last_token me) is
+      by false is = unfated fate (last_token me) is refl
+
+  last_hits : (name : ℕ) (me : HostId) → (name == 0) ≡ false → hits name (last_token me) ≡ 0
+  last_hits name me some = by (is_right (last_token me)) (0 == name) refl refl
+    where
+      by : (right same : Bool) → is_right (last_token me) ≡ right → (0 == name) ≡ same →
+          hits name (last_token me) ≡ 0
+      by true same is at = rw is refl
+      by false false is at = rw is (rw at refl)
+      by false true is at =
+          absurd (let e : 0 ≡ name = grind (arith, nat_tests) in
+          false≢true (sym some ∙ ap (λ n. n == 0) (sym e)))
+
+  abbrev rooted : List (List ℤ) → HostId → Option Entry → HostShape
+  rooted values me found =
+      after_entering (after_push (idle_host code values told_key me) halt main_frame (last_token me)) found main_frame
+      (new_token (idle_host code values told_key me) halt main_frame)
+
+  halt_hits : (name : ℕ) (me : HostId) (token : Token) →
+      entry_hits name (record { token = token; entry = halt; frame = main_frame; kept = last_token me }) ≡ 0
+  halt_hits name me token = by (name == 0) refl
+    where
+      by : (nil : Bool) → (name == 0) ≡ nil →
+          entry_hits name (record { token = token; entry = halt; frame = main_frame; kept = last_token me }) ≡ 0
+      by true is = rw is refl
+      by false is = rw is (last_hits name me is)
+
+  -- the tags of the start stay, whatever the fates are
+  rooted_same : (fate : ℕ → Bool) (values : List (List ℤ)) (me : HostId) (found : Option Entry) →
+      rooted values me found ≡ cast (fate_tag fate) told_key 0 false (rooted values me found)
+  rooted_same fate values me found =
+      sym (ap (λ one. goes found one (tagged (fate_tag fate) (last_token me))) made
+      ∙ ap (goes found token) (last_stays fate me)) ∙ same found
+    where
+      token : Token
+      token = new_token (idle_host code values told_key me) halt main_frame
+
+      made : tagged (fate_tag fate) token ≡ token
+      made = right_stays fate token (right_is token refl)
+
+      goes : Option Entry → Token → Token → HostShape
+      goes found one kept =
+          let idle = idle_host code values told_key me in
+          after_entering (record idle {
+            entries = record { token = one; entry = halt; frame = main_frame; kept = kept } ∷ [];
+            serials = slice_set idle.serials halt.0 (slice_index idle.serials halt.0 + 1);
+          }) found main_frame one
+
+      same : (found : Option Entry) →
+          goes found (tagged (fate_tag fate) token) (tagged (fate_tag fate) (last_token me))
+          ≡ cast (fate_tag fate) told_key 0 false (rooted values me found)
+      same None = refl
+      same (Some entry) = refl
+
+  rooted_plain : (values : List (List ℤ)) (me : HostId) (found : Option Entry) →
+      StateFits code (rooted values me found) → Plain 1 (rooted values me found) (rooted values me found)
+  rooted_plain values me found fits = record {
+    told = (0, false, rooted_same none values me found);
+    stack = has_stack found;
+    fits = fits;
+    names = record {
+      single = λ name. let none_there = nothing name found in omega (arith, none_there);
+      zero_none = nothing 0 found;
+      fresh = λ name past. nothing name found;
+      some = omega arith;
+    };
+  }
+    where
+      token : Token
+      token = new_token (idle_host code values told_key me) halt main_frame
+
+      has_stack : (found : Option Entry) → HasStack told_key (rooted values me found)
+      has_stack None = record { key_is = refl; made = (refl, tt); low = tt }
+      has_stack (Some entry) = record { key_is = refl; made = (refl, tt); low = tt }
+
+      nothing : (name : ℕ) (found : Option Entry) → count name (rooted values me found) ≡ 0
+      nothing name None = let zero_kept = halt_hits name me token in omega (arith, zero_kept)
+      nothing name (Some entry) =
+          let zero_kept = halt_hits name me token in
+          let zero_held : hits name token ≡ 0 = rw (right_is token refl) refl in
+          omega (arith, zero_kept, zero_held)
+
+  start_same : (fate : ℕ → Bool) (values : List (List ℤ)) (me : HostId) →
+      host_at_start code values told_key me
+      ≡ cast (fate_tag fate) told_key 0 false (host_at_start code values told_key me)
+  start_same fate values me = by (me.0 == code.root.0) refl
+    where
+      by : (root : Bool) → (me.0 == code.root.0) ≡ root →
+          host_at_start code values told_key me
+          ≡ cast (fate_tag fate) told_key 0 false (host_at_start code values told_key me)
+      by true is = rw is (rooted_same fate values me (entry_at code code.main))
+      by false is = rw is refl
+
+  start_plain : (values : List (List ℤ)) (me : HostId) → IsHost code me →
+      Plain 1 (host_at_start code values told_key me) (host_at_start code values told_key me)
+  start_plain values me there = by (me.0 == code.root.0) refl
+    where
+      fits : StateFits code (host_at_start code values told_key me)
+      fits = fields.start_fits code sound own values told_key me there
+
+      by : (root : Bool) → (me.0 == code.root.0) ≡ root →
+          Plain 1 (host_at_start code values told_key me) (host_at_start code values told_key me)
+      by true is =
+          let rooted_fits : StateFits code (rooted values me (entry_at code code.main)) = rw is at fits in
+          rw is (rooted_plain values me (entry_at code code.main) rooted_fits)
+      by false is =
+          let idle_fits : StateFits code (idle_host code values told_key me) = rw is at fits in
+          rw is (record {
+            told = (0, false, refl);
+            stack = record { key_is = refl; made = tt; low = tt };
+            fits = idle_fits;
+            names = record {
+              single = λ name. omega arith;
+              zero_none = refl;
+              fresh = λ name past. refl;
+              some = omega arith;
+            };
+          })
+
+  -- some run of a real host has the lines that were played, and leaves the fields
+  pub real_run : (values : List (List ℤ)) (me : HostId) (lines : List (List Word)) (shown : HostShape) →
+      IsHost code me → IsPlayed code (host_at_start code values told_key me) lines shown →
+      (steps : List Step) × (last : HostShape)
+      × IsJournalOf code (host_at_start code values told_key me) lines steps last × (last.rows ≡ shown.rows)
+  real_run values me lines shown there (steps, all, play, noted) =
+      let start = host_at_start code values told_key me in
+      let run = played_run steps 1 start start shown all (start_plain values me there) play in
+      let (made, end, plays, rows) = run.runs 0 false in
+      (
+        made,
+        end,
+        (all, subst (λ h. Plays code h made end all) (sym (start_same run.fate values me)) plays, noted),
+        rows,
       )

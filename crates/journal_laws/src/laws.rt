@@ -111,6 +111,13 @@ pub fn field_laws()
         IsSoundCode code → HaveOwnNames code → IsHost code me →
         IsBarred code (host_at_start code values told_key me) front line →
         ¬ IsJournalOf code (host_at_start code values key me) (front ++ line ∷ []) steps last }
+    // And where a journal was played, whatever open steps were taken for, some host has it, under some key and for some
+    // tags of the tokens that it takes, and ends with the same fields.
+    ensures real { (code : CodeShape) (values : List (List ℤ)) (me : HostId) (lines : List (List Word))
+        (shown : HostShape) → IsSoundCode code → HaveOwnNames code → IsHost code me →
+        IsPlayed code (host_at_start code values told_key me) lines shown →
+        (key : List ℕ) × (steps : List Step) × (last : HostShape)
+        × IsJournalOf code (host_at_start code values key me) lines steps last × (last.rows ≡ shown.rows) }
 {}
 
 /// Which journals are those of a host that asks for a field and is answered.
