@@ -25,7 +25,7 @@ use Rattle.journal_laws.specs.Steps.{Step, takes, turns}
 use Rattle.journal_laws.specs.ToldPlays.{ByNext, IsBarred, IsChosenStep, IsPlayed, IsPlayedBefore, IsToldStep}
 use Rattle.journal_laws.specs.ToldPlays.{ToldPlays, TurnsNext}
 use Rattle.journal_laws.proofs.AlikeSteps.{open_taken, open_turned}
-use Rattle.journal_laws.proofs.NoRuns.{chosen_told}
+use Rattle.journal_laws.proofs.AlikeMoves.{chosen_told}
 use Rattle.journal_player.specs.declared.player.PlayError.{PlayError}
 use Rattle.journal_player.specs.declared.player.PlayError.TheVariants as error
 use Rattle.journal_player.specs.Playing.{IsBehind, Makes, MakesTake, MakesTurn, IsBadLine, IsBadNext, IsPlayError}
