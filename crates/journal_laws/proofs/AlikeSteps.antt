@@ -45,7 +45,7 @@ pub record IsLineStep (code : CodeShape) (host : HostShape) (step : Step) (outco
   pub rest : RestsFor host made
   pub is : IsStep code host made outcome ⊎ ((takes_off code host made ≡ true) × IsSettled code host outcome)
 
-rests_for : (code : CodeShape) (host : HostShape) (step : Step) → MayStep code host step → RestsFor host step
+pub rests_for : (code : CodeShape) (host : HostShape) (step : Step) → MayStep code host step → RestsFor host step
 rests_for code host turns may = tt
 rests_for code host (takes from letter) may = may.rest
 
@@ -54,7 +54,7 @@ pub made_step : (code : CodeShape) (host : HostShape) (step : Step) (outcome : O
 made_step code host step outcome may is =
     record { made = step; alike = refl; rest = rests_for code host step may; is = inl is }
 
-wrong_alike : (letter : Message) → bare_message (with_wrong_tags letter) ≡ bare_message letter
+pub wrong_alike : (letter : Message) → bare_message (with_wrong_tags letter) ≡ bare_message letter
 wrong_alike (message.Get request field index) = refl
 wrong_alike (message.Set request field index value) = refl
 wrong_alike (message.Forward request frame variable value) = refl

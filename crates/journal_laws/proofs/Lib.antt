@@ -21,3 +21,14 @@ pub mod PartsAgain
 pub mod SaidMessages
 pub mod AlikeSteps
 pub mod SameFields
+pub mod Retagged
+pub mod KeptStacks
+pub mod OwnTags
+pub mod OffAgain
+pub mod AlikeMoves
+pub mod FollowedSteps
+pub mod NoRuns
+pub mod CountedNames
+pub mod FatedTags
+pub mod NamedSteps
+pub mod RealRuns

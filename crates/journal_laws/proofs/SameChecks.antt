@@ -100,11 +100,11 @@ same_takes_off code one other step another hosts steps =
 
 -- ---- the checks
 
-abbrev CheckOfInstruction : CodeShape → HostShape → Option Token → Option Instr → Type 0
+abbrev pub CheckOfInstruction : CodeShape → HostShape → Option Token → Option Instr → Type 0
 CheckOfInstruction code host held None = ⊤
 CheckOfInstruction code host held (Some instruction) = PassesWith code (with_running host None) instruction.op held
 
-abbrev CheckOfThread : CodeShape → HostShape → Option ThreadShape → Type 0
+abbrev pub CheckOfThread : CodeShape → HostShape → Option ThreadShape → Type 0
 CheckOfThread code host None = ⊤
 CheckOfThread code host (Some thread) =
     CheckOfInstruction code host thread.held (instruction_at code host.me thread.at)
@@ -120,7 +120,7 @@ awaited_told host awaited request from =
     let place = position_bare awaited request from host.waiting in
     (subst IsSome (sym place), subst IsSome place)
 
-taking_told : (code : CodeShape) (host : HostShape) (from : HostId) (letter : Message) → is_lgoto letter ≡ false →
+pub taking_told : (code : CodeShape) (host : HostShape) (from : HostId) (letter : Message) → is_lgoto letter ≡ false →
     Passes code host from letter ↔ Passes code (told_of host) from (bare_message letter)
 taking_told code host from (message.Get request field index) other = (λ a. a, λ a. a)
 taking_told code host from (message.Set request field index value) other = (λ a. a, λ a. a)
@@ -133,7 +133,7 @@ taking_told code host from (message.Value request value) other = awaited_told ho
 taking_told code host from (message.Ack request) other = awaited_told host acknowledgement request from
 taking_told code host from (message.Token request token) other = awaited_told host token_of_entry request from
 
-returning_told : (code : CodeShape) (host : HostShape) (operation : Op) (held : Option Token) →
+pub returning_told : (code : CodeShape) (host : HostShape) (operation : Op) (held : Option Token) →
     (is_back operation && is_own host.me held) ≡ false →
     PassesWith code (with_running host None) operation held
     ↔ PassesWith code (with_running (told_of host) None) operation (option_map bare_token held)
@@ -169,7 +169,7 @@ pub record IsPlain (code : CodeShape) (host : HostShape) (step : Step) (outcome 
 both : {A B C : Type 0} → A ↔ B → B ↔ C → A ↔ C
 both one two = (λ a. two.0 (one.0 a), λ c. one.1 (two.1 c))
 
-asks_other : (code : CodeShape) (host : HostShape) (from : HostId) (letter : Message) → is_lgoto letter ≡ false →
+pub asks_other : (code : CodeShape) (host : HostShape) (from : HostId) (letter : Message) → is_lgoto letter ≡ false →
     Passes code host from letter → AsksOther letter
 asks_other code host from (message.Get request field index) other passes = tt
 asks_other code host from (message.Set request field index value) other passes = tt
@@ -192,7 +192,7 @@ taking_plain code host from letter outcome other (passes, check, is) = record {
       ∙ ap halt_left_out is;
 }
 
-leaves_halt : (code : CodeShape) (host : HostShape) (count : ℕ) (operation : Op) (held : Option Token) →
+pub leaves_halt : (code : CodeShape) (host : HostShape) (count : ℕ) (operation : Op) (held : Option Token) →
     OperationFits code host.me count operation → (is_back operation && is_own host.me held) ≡ false →
     LeavesHalt host held operation
 leaves_halt code host count (op.Read field index) held fits other = tt
@@ -256,7 +256,7 @@ plain_step code host turns outcome sound fits other is =
 
 -- ---- two hosts of which the same is told
 
-same_value : (one other : Bool) {A : Type 0} → IsTrue one ↔ A → IsTrue other ↔ A → one ≡ other
+pub same_value : (one other : Bool) {A : Type 0} → IsTrue one ↔ A → IsTrue other ↔ A → one ≡ other
 same_value true true first second = refl
 same_value false false first second = refl
 same_value true false first second = absurd (false≢true (second.1 (first.0 refl)))

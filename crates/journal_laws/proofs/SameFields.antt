@@ -53,12 +53,12 @@ verb [] = []
 verb (word ∷ words) = word
 
 -- the line of a step is not that of what was sent
-step_line : (code : CodeShape) (step : Step) → ¬ IsSendLine (step_words code step)
+pub step_line : (code : CodeShape) (step : Step) → ¬ IsSendLine (step_words code step)
 step_line code turns is = let e : 116 ≡ 115 = ap first is in omega (arith, e)
 step_line code (takes from letter) is = let e : 116 ≡ 115 = ap first is in omega (arith, e)
 
 -- the line of a turn is not that of a message
-turn_line : (code : CodeShape) (from : HostId) (letter : Message) →
+pub turn_line : (code : CodeShape) (from : HostId) (letter : Message) →
     step_words code turns ≢ step_words code (takes from letter)
 turn_line code from letter same = let e : 117 ≡ 97 = ap (λ line. second (verb line)) same in omega (arith, e)
 
@@ -69,7 +69,7 @@ rest_of [] = []
 rest_of (word ∷ words) = words
 
 module _ (code : CodeShape) (sound : IsSoundCode code) (own : HaveOwnNames code) where
-  same_steps : (one other : HostShape) (step another : Step) → MayStep code one step → MayStep code other another →
+  pub same_steps : (one other : HostShape) (step another : Step) → MayStep code one step → MayStep code other another →
       step_words code step ≡ step_words code another → bare_step step ≡ bare_step another
   same_steps one other turns turns may also same = refl
   same_steps one other turns (takes from letter) may also same = absurd (turn_line code from letter same)
@@ -84,7 +84,7 @@ module _ (code : CodeShape) (sound : IsSoundCode code) (own : HaveOwnNames code)
 
   -- ---- what stays
 
-  tokens_fit : (letter : Message) → MessageFits code letter → TokensFit code letter
+  pub tokens_fit : (letter : Message) → MessageFits code letter → TokensFit code letter
   tokens_fit (message.Get request field index) fits = tt
   tokens_fit (message.Set request field index value) fits = tt
   tokens_fit (message.Forward request frame variable value) fits = tt
@@ -102,7 +102,7 @@ module _ (code : CodeShape) (sound : IsSoundCode code) (own : HaveOwnNames code)
   step_fits host (takes from letter) outcome fits may is =
       (taking_kept code host from letter outcome sound fits may.other (tokens_fit letter may.fits) is).0
 
-  wrong_fit : (letter : Message) → TokensFit code letter → TokensFit code (with_wrong_tags letter)
+  pub wrong_fit : (letter : Message) → TokensFit code letter → TokensFit code (with_wrong_tags letter)
   wrong_fit (message.Get request field index) fits = tt
   wrong_fit (message.Set request field index value) fits = tt
   wrong_fit (message.Forward request frame variable value) fits = tt
@@ -159,17 +159,17 @@ module _ (code : CodeShape) (sound : IsSoundCode code) (own : HaveOwnNames code)
   sent_bare (Some sent) =
       ap (λ (text : List ℕ). (codes "send" ∷ host_text code sent.0 ∷ words text) ∷ []) (printed_bare code sent.1)
 
-  said_alike : (sent told : Option (HostId × Message)) → bare_sent sent ≡ bare_sent told →
+  pub said_alike : (sent told : Option (HostId × Message)) → bare_sent sent ≡ bare_sent told →
       sent_words code sent ≡ sent_words code told
   said_alike sent told same = sym (sent_bare sent) ∙ ap (sent_words code) same ∙ sent_bare told
 
   -- ---- where one has a thread and the other has none
 
-  none_runs : (host : HostShape) → IsSome host.running → host.running ≡ None → ⊥
+  pub none_runs : (host : HostShape) → IsSome host.running → host.running ≡ None → ⊥
   none_runs host some rest = false≢true (subst IsSome rest some)
 
   -- then neither has a next line that could be the other's
-  no_line : (one other : HostShape) (step another : Step) → ArePart one other → MayStep code one step →
+  pub no_line : (one other : HostShape) (step another : Step) → ArePart one other → MayStep code one step →
       MayStep code other another → step_words code step ≢ step_words code another
   no_line one other turns turns (inl part) may also same = none_runs one may part.0
   no_line one other turns turns (inr part) may also same = none_runs other also part.1
@@ -291,7 +291,7 @@ module _ (code : CodeShape) (sound : IsSoundCode code) (own : HaveOwnNames code)
 
   -- ---- played hosts
 
-  told_fits : (host : HostShape) (step : Step) (outcome : Outcome) → StateFits code host → MayStep code host step →
+  pub told_fits : (host : HostShape) (step : Step) (outcome : Outcome) → StateFits code host → MayStep code host step →
       IsToldStep code host step outcome → StateFits code outcome.state
   told_fits host turns outcome fits may (inr (closed, is)) = (turn_kept code host outcome sound fits is).0
   told_fits host (takes from letter) outcome fits may (inr (closed, is)) =

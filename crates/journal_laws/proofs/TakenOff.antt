@@ -30,7 +30,7 @@ pub record IsSettled (code : CodeShape) (host : HostShape) (outcome : Outcome) :
   pub passes : Bool
   pub leaves : without_message (settled code host passes) ≡ outcome
 
-at_rest : (code : CodeShape) (host : HostShape) (passes : Bool) → host.running ≡ None →
+pub at_rest : (code : CodeShape) (host : HostShape) (passes : Bool) → host.running ≡ None →
     settled code host passes ≡ (if passes then after_pop code host host.entries else with_one_ignored host)
 at_rest code host true rest =
     ap (λ running. after_pop code (with_running host running) host.entries) (sym rest)

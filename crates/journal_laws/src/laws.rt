@@ -1,6 +1,6 @@
 //! Laws of hosts without tags. The calls do nothing: their contracts are the laws.
 
-ghost use Rattle.std.specs.Prelude.{◌≡◌, ◌≢◌, ◌∷◌, [], ℕ, ℤ, Bool, List, Some, None};
+ghost use Rattle.std.specs.Prelude.{◌≡◌, ◌≢◌, ◌∷◌, ◌++◌, [], ℕ, ℤ, Bool, List, Some, None};
 ghost use Rattle.js_base.specs.declared.ids.HostId.{HostId};
 ghost use Rattle.label_lattice.specs.declared.label.Label.{Label};
 ghost use Rattle.capability.specs.declared.token.Token.{Token};
@@ -16,6 +16,7 @@ ghost use Rattle.host_code.specs.Thread.{ThreadShape};
 ghost use Rattle.host_core.specs.Host.{HostShape, Outcome, without_message, with_one_ignored};
 ghost use Rattle.host_core.specs.Start.{host_at_start};
 ghost use Rattle.host_core.specs.Taking.{after_taking};
+ghost use Rattle.host_core.specs.Told.{told_key};
 ghost use Rattle.host_core.specs.Turn.{after_operation};
 ghost use Rattle.journal_laws.specs.Bare.{bare_host, bare_message, bare_outcome, bare_thread};
 ghost use Rattle.journal_laws.specs.BareExamples.{ended, frame, right, stacked, wrong};
@@ -23,7 +24,7 @@ ghost use Rattle.event_text.specs.Words.{Word};
 ghost use Rattle.journal_laws.specs.Plays.{HaveOwnNames, IsJournalOf};
 ghost use Rattle.journal_laws.specs.PlayExamples.{answer, answered, asking, host_b, reading, send_line, take_line};
 ghost use Rattle.journal_laws.specs.PlayExamples.{turn_line, waiting_for};
-ghost use Rattle.journal_laws.specs.ToldPlays.{IsPlayed};
+ghost use Rattle.journal_laws.specs.ToldPlays.{IsBarred, IsPlayed};
 ghost use Rattle.journal_laws.specs.Steps.{Step, turns, takes, IsStep, told_step, bare_step};
 
 /// What tags may change of a step.
@@ -103,6 +104,20 @@ pub fn field_laws()
         IsPlayed code (host_at_start code values other me) lines shown →
         IsJournalOf code (host_at_start code values key me) lines steps last →
         (last.rows ≡ shown.rows) × (last.variables ≡ shown.variables) }
+    // Where a host that was played from the lines in front, with open steps chosen by the line behind, does not go on by
+    // the next line, no host has these lines and this one, whatever its key is.
+    ensures barred { (code : CodeShape) (values : List (List ℤ)) (me : HostId) (key : List ℕ)
+        (front : List (List Word)) (line : List Word) (steps : List Step) (last : HostShape) →
+        IsSoundCode code → HaveOwnNames code → IsHost code me →
+        IsBarred code (host_at_start code values told_key me) front line →
+        ¬ IsJournalOf code (host_at_start code values key me) (front ++ line ∷ []) steps last }
+    // And where a journal was played, whatever open steps were taken for, some host has it, under some key and for some
+    // tags of the tokens that it takes, and ends with the same fields.
+    ensures real { (code : CodeShape) (values : List (List ℤ)) (me : HostId) (lines : List (List Word))
+        (shown : HostShape) → IsSoundCode code → HaveOwnNames code → IsHost code me →
+        IsPlayed code (host_at_start code values told_key me) lines shown →
+        (key : List ℕ) × (steps : List Step) × (last : HostShape)
+        × IsJournalOf code (host_at_start code values key me) lines steps last × (last.rows ≡ shown.rows) }
 {}
 
 /// Which journals are those of a host that asks for a field and is answered.

@@ -2,7 +2,7 @@
 use Rattle.std.proofs.Common.{◌≡◌, ◌∙◌, ◌⊎◌, ◌↔◌, ◌+◌, ◌-◌, ◌<◌, ◌≤◌, ℕ, refl, ap, sym, subst, inl, inr}
 use Rattle.std.proofs.Common.{List, [], ◌∷◌, ◌++◌, Bool, true, false, arith, add-one, append_assoc, drop-drop}
 use Rattle.std.proofs.Common.{suc, drop, get_or, length, take, take-append-drop, Ok, Err}
-use Rattle.std.specs.Prelude.{IfErr, IsErr, IsErrAnd, IsTrue, Option, Result}
+use Rattle.std.specs.Prelude.{IfErr, IsErr, IsErrAnd, IsTrue, Option, Some, None, Result, ℤ}
 use Rattle.std.proofs.Math.ListN.{drop_of_length-le}
 use Rattle.std.proofs.Math.Seq.{drop-cons, split_at, take-suc}
 use Rattle.std.proofs.lemmas.Bool.{false≢true}
@@ -11,19 +11,25 @@ use Rattle.std.proofs.lemmas.List.{map-append, take-map}
 use Rattle.js_base.specs.declared.ids.HostId.{HostId}
 use Rattle.host_code.specs.declared.message.Message.{Message}
 use Rattle.host_code.specs.Code.{CodeShape}
+use Rattle.host_core.specs.Fits.{StateFits}
 use Rattle.host_core.specs.Host.{HostShape, Outcome}
-use Rattle.host_core.specs.Told.{IsOpenTaking, IsToldTaking, with_wrong_tags}
+use Rattle.host_core.specs.Start.{host_at_start}
+use Rattle.host_core.specs.Told.{IsOpenTaking, IsOpenTurn, IsToldTaking, IsToldTurn, told_key, with_wrong_tags}
 use Rattle.event_text.specs.declared.lines.Line.{Line}
 use Rattle.event_text.specs.Lines.{words}
 use Rattle.event_text.specs.JournalText.{IsSendLine, sent_words, turn_words}
 use Rattle.event_text.specs.Words.{Word}
 use Rattle.record_merge.specs.JournalLines.{journal_of}
-use Rattle.journal_laws.specs.Plays.{AreNotedOf, MayStep, step_words}
+use Rattle.journal_laws.specs.Plays.{AreNotedOf, HaveOwnNames, IsJournalOf, MayStep, step_words}
 use Rattle.journal_laws.specs.Steps.{Step, takes, turns}
-use Rattle.journal_laws.specs.ToldPlays.{IsPlayed, IsToldStep, ToldPlays}
+use Rattle.journal_laws.specs.ToldPlays.{ByNext, IsBarred, IsChosenStep, IsPlayed, IsPlayedBefore, IsToldStep}
+use Rattle.journal_laws.specs.ToldPlays.{ToldPlays, TurnsNext}
+use Rattle.journal_laws.proofs.AlikeSteps.{open_taken, open_turned}
+use Rattle.journal_laws.proofs.AlikeMoves.{chosen_told}
 use Rattle.journal_player.specs.declared.player.PlayError.{PlayError}
 use Rattle.journal_player.specs.declared.player.PlayError.TheVariants as error
 use Rattle.journal_player.specs.Playing.{IsBehind, Makes, MakesTake, MakesTurn, IsBadLine, IsBadNext, IsPlayError}
+use Rattle.journal_player.specs.Playing.{IsRefusal}
 
 -- ---- the lines of a slice
 
@@ -54,25 +60,63 @@ still_within lines place more within few =
 -- ---- one step
 
 -- what is told whether an open message passes is what is told of the step
-pub told_taking : (code : CodeShape) (host : HostShape) (from : HostId) (message : Message) (passes is_open : Bool)
-    (outcome : Outcome) → (IsTrue is_open ↔ IsOpenTaking host (with_wrong_tags message)) →
+pub chosen_taking : (code : CodeShape) (host : HostShape) (from : HostId) (message : Message) (passes is_open : Bool)
+    (outcome : Outcome) (others : List (List Word)) →
+    (IsTrue is_open ↔ IsOpenTaking host (with_wrong_tags message)) → (IsTrue passes ↔ TurnsNext others) →
     IsToldTaking code host from (with_wrong_tags message) passes outcome →
-    IsToldStep code host (takes from message) outcome
-told_taking code host from message passes true outcome says told =
-    inl (passes, says.0 refl, told.0 (says.0 refl))
-told_taking code host from message passes false outcome says told =
+    IsChosenStep (ByNext others) code host (takes from message) outcome
+chosen_taking code host from message passes true outcome others says next told =
+    inl (passes, next, says.0 refl, told.0 (says.0 refl))
+chosen_taking code host from message passes false outcome others says next told =
     let closed : ¬ IsOpenTaking host (with_wrong_tags message) = λ is. false≢true (says.1 is) in
     inr (closed, told.1 closed)
 
+pub chosen_turn : (code : CodeShape) (host : HostShape) (passes is_open : Bool) (outcome : Outcome)
+    (others : List (List Word)) → (IsTrue is_open ↔ IsOpenTurn code host) → (IsTrue passes ↔ TurnsNext others) →
+    IsToldTurn code host passes outcome → IsChosenStep (ByNext others) code host turns outcome
+chosen_turn code host passes true outcome others says next told =
+    inl (passes, next, says.0 refl, told.0 (says.0 refl))
+chosen_turn code host passes false outcome others says next told =
+    let closed : ¬ IsOpenTurn code host = λ is. false≢true (says.1 is) in
+    inr (closed, told.1 closed)
+
 pub makes_turn : (code : CodeShape) (host : HostShape) (line : List Word) (sent : Option (HostId × Message))
-    (after : HostShape) → line ≡ turn_words → MakesTurn code host sent after → Makes code host line sent after
-makes_turn code host line sent after is made =
+    (after : HostShape) (others : List (List Word)) → line ≡ turn_words → MakesTurn code host sent after others →
+    Makes code host line sent after others
+makes_turn code host line sent after others is made =
     record { step = turns; line_is = is; may = made.runs; told = made.told }
 
 pub makes_take : (code : CodeShape) (host : HostShape) (line : List Word) (sent : Option (HostId × Message))
-    (after : HostShape) → MakesTake code host line sent after → Makes code host line sent after
-makes_take code host line sent after made =
+    (after : HostShape) (others : List (List Word)) → MakesTake code host line sent after others →
+    Makes code host line sent after others
+makes_take code host line sent after others made =
     record { step = takes made.from made.message; line_is = made.line_is; may = made.may; told = made.told }
+
+-- An open step sends nothing, so the lines behind it are those that it was chosen by.
+none_sent : (code : CodeShape) (sent : Option (HostId × Message)) (rest left : List (List Word)) → None ≡ sent →
+    IsBehind (sent_words code sent) rest left → rest ≡ left
+none_sent code None rest left none (inl same) = same
+none_sent code None rest left none (inr (empty, ended, (one, is, said))) =
+    absurd (let clash : ◌≡◌ {A = List (List Word)} [] (one ∷ []) = said in cc)
+none_sent code (Some sent) rest left none behind = absurd cc
+
+chosen_left : (code : CodeShape) (host : HostShape) (step : Step) (sent : Option (HostId × Message))
+    (after : HostShape) (rest left : List (List Word)) → StateFits code host → MayStep code host step →
+    IsBehind (sent_words code sent) rest left →
+    IsChosenStep (ByNext rest) code host step (record { state = after; sent = sent }) →
+    IsChosenStep (ByNext left) code host step (record { state = after; sent = sent })
+chosen_left code host turns sent after rest left fits may behind (inl (passes, next, unsure, is)) =
+    let outcome : Outcome = record { state = after; sent = sent } in
+    let settled = (open_turned code host host.running passes outcome fits unsure is).1 in
+    let same = none_sent code sent rest left (ap (λ (one : Outcome). one.sent) settled.leaves) behind in
+    inl (passes, subst (λ lines. ByNext lines passes) same next, unsure, is)
+chosen_left code host turns sent after rest left fits may behind (inr closed) = inr closed
+chosen_left code host (takes from letter) sent after rest left fits may behind (inl (passes, next, unsure, is)) =
+    let outcome : Outcome = record { state = after; sent = sent } in
+    let settled = (open_taken code host from (with_wrong_tags letter) passes outcome may.rest unsure is).1 in
+    let same = none_sent code sent rest left (ap (λ (one : Outcome). one.sent) settled.leaves) behind in
+    inl (passes, subst (λ lines. ByNext lines passes) same next, unsure, is)
+chosen_left code host (takes from letter) sent after rest left fits may behind (inr closed) = inr closed
 
 -- ---- the lines so far
 
@@ -85,33 +129,35 @@ pub record IsPlayedTo (code : CodeShape) (start : HostShape) (lines : List (List
   pub plays : ToldPlays code start steps host all
   pub left : (lines ≡ all ++ drop place lines)
       ⊎ ((drop place lines ≡ []) × ((sent : List Word) × IsSendLine sent × (all ≡ lines ++ sent ∷ [])))
+  pub chosen : IsPlayedBefore code start all (drop place lines) host
 
 pub none_played : (code : CodeShape) (start : HostShape) (lines : List (List Word)) →
     IsPlayedTo code start lines 0 start
-none_played code start lines = record { steps = []; all = []; plays = (refl, refl); left = inl refl }
+none_played code start lines = record { steps = []; all = []; plays = (refl, refl); left = inl refl; chosen = inl (refl, refl) }
 
 -- one step more
 plays_more : (code : CodeShape) (steps : List Step) (start host : HostShape) (all : List (List Word))
-    (line : List Word) (sent : Option (HostId × Message)) (after : HostShape) →
-    ToldPlays code start steps host all → (makes : Makes code host line sent after) →
+    (line : List Word) (sent : Option (HostId × Message)) (after : HostShape) (others : List (List Word)) →
+    ToldPlays code start steps host all → (makes : Makes code host line sent after others) →
     ToldPlays code start (steps ++ makes.step ∷ []) after
     (all ++ step_words code makes.step ∷ (sent_words code sent ++ []))
-plays_more code [] start host all line sent after plays makes =
+plays_more code [] start host all line sent after others plays makes =
     let done : Outcome = record { state = after; sent = sent } in (
       done,
       [],
       subst (λ one. MayStep code one makes.step) (sym plays.0) makes.may,
-      subst (λ one. IsToldStep code one makes.step done) (sym plays.0) makes.told,
+      subst (λ one. IsToldStep code one makes.step done) (sym plays.0)
+          (chosen_told code (ByNext others) host makes.step done makes.told),
       (refl, refl),
       ap (λ (front : List (List Word)). front ++ step_words code makes.step ∷ (sent_words code sent ++ [])) plays.1,
     )
-plays_more code (step ∷ steps) start host all line sent after (outcome, later, may, is, plays, whole) makes =
+plays_more code (step ∷ steps) start host all line sent after others (outcome, later, may, is, plays, whole) makes =
     let behind : List (List Word) = step_words code makes.step ∷ (sent_words code sent ++ []) in (
       outcome,
       later ++ behind,
       may,
       is,
-      plays_more code steps outcome.state host later line sent after plays makes,
+      plays_more code steps outcome.state host later line sent after others plays makes,
       ap (λ (front : List (List Word)). front ++ behind) whole
           ∙ ap (λ (rest : List (List Word)). step_words code step ∷ rest)
           (append_assoc (sent_words code outcome.sent) later behind),
@@ -120,14 +166,28 @@ plays_more code (step ∷ steps) start host all line sent after (outcome, later,
 pub played_more : (code : CodeShape) (start host after : HostShape) (lines rest : List (List Word))
     (place next more : ℕ) (line : List Word) (sent : Option (HostId × Message)) →
     IsPlayedTo code start lines place host → drop place lines ≡ line ∷ rest → next ≡ place + (1 + more) →
-    Makes code host line sent after → IsBehind (sent_words code sent) rest (drop more rest) →
-    IsPlayedTo code start lines next after
-played_more code start host after lines rest place next more line sent played here count makes behind =
+    StateFits code host → Makes code host line sent after rest →
+    IsBehind (sent_words code sent) rest (drop more rest) → IsPlayedTo code start lines next after
+played_more code start host after lines rest place next more line sent played here count fits makes behind =
     record {
       steps = played.steps ++ makes.step ∷ [];
       all = played.all ++ step_words code makes.step ∷ (sent_words code sent ++ []);
-      plays = plays_more code played.steps start host played.all line sent after played.plays makes;
+      plays = plays_more code played.steps start host played.all line sent after rest played.plays makes;
       left = by played.left behind;
+      chosen = inr (record {
+        steps = played.steps;
+        front = played.all;
+        before = host;
+        plays = played.plays;
+        step = makes.step;
+        may = makes.may;
+        sent = sent;
+        is = subst (λ lines. IsChosenStep (ByNext lines) code host makes.step (record { state = after; sent = sent }))
+            (sym left)
+            (chosen_left code host makes.step sent after rest (drop more rest) fits makes.may behind makes.told);
+        lines_are = ap (λ (said : List (List Word)). played.all ++ step_words code makes.step ∷ said)
+            (append-nil (sent_words code sent));
+      });
     }
   where
     left : drop next lines ≡ drop more rest
@@ -190,7 +250,7 @@ played_whole code start host of place ended played = (played.steps, played.all, 
 
 pub bad_next : {X : Type 0} (code : CodeShape) (host : HostShape) (line : Line) (others : List Line)
     (sent : Option (HostId × Message)) (after : HostShape) (result : Result X PlayError) →
-    Makes code host (words line.bytes.now) sent after → IfErr result (IsBadNext (sent_words code sent) others) →
+    Makes code host (words line.bytes.now) sent after (journal_of others) → IfErr result (IsBadNext (sent_words code sent) others) →
     IfErr result (IsBadLine code host line others)
 bad_next code host line others sent after (Ok made) makes bad = bad
 bad_next code host line others sent after (Err error.OutOfMemory) makes bad = bad
@@ -212,30 +272,77 @@ all_before code start host lines place other within played = by played.left
         ∙ take-map (λ (line : Line). words line.bytes.now) place lines
     by (inr (none, missing)) = absurd (let clash = sym none ∙ line_here lines place other within in cc)
 
+-- the first of the lines behind is enough
+first_counts : (code : CodeShape) (start : HostShape) (lines : List (List Word)) (line : List Word)
+    (rest : List (List Word)) (last : HostShape) → IsPlayedBefore code start lines (line ∷ rest) last →
+    IsPlayedBefore code start lines (line ∷ []) last
+first_counts code start lines line rest last (inl none) = inl none
+first_counts code start lines line rest last (inr played) = inr (record {
+  steps = played.steps;
+  front = played.front;
+  before = played.before;
+  plays = played.plays;
+  step = played.step;
+  may = played.may;
+  sent = played.sent;
+  is = played.is;
+  lines_are = played.lines_are;
+})
+
+said_send : (code : CodeShape) (sent : Option (HostId × Message)) (said : List Word) →
+    sent_words code sent ≡ said ∷ [] → IsSendLine said
+said_send code None said is = absurd (let clash : ◌≡◌ {A = List (List Word)} [] (said ∷ []) = is in cc)
+said_send code (Some sent) said is = subst IsSendLine (ap (first_or said) is) refl
+  where
+    first_or : List Word → List (List Word) → List Word
+    first_or none [] = none
+    first_or none (line ∷ lines) = line
+
 pub refused_by : (code : CodeShape) (start host : HostShape) (lines : List Line) (place : ℕ) (other : Line)
     (why : PlayError) → place < length lines → IsPlayedTo code start (journal_of lines) place host →
     IsBadLine code host (get_or lines place other) (take (length lines - (place + 1)) (drop (place + 1) lines)) why →
-    IsPlayError code start lines why
+    IsRefusal code start lines why
 refused_by code start host lines place other error.OutOfMemory within played bad = bad
 refused_by code start host lines place other (error.NoRun number) within played (inl (number_is, none)) =
+    let before = all_before code start host lines place other within played in
+    let line : List Word = words (get_or lines place other).bytes.now in
     record {
       front = take place lines;
       line = get_or lines place other;
       behind = drop (suc place) lines;
       lines_are = split_at lines place other within;
       number_is = number_is;
-      steps = played.steps;
-      all = played.all;
       last = host;
-      plays = played.plays;
-      bad = inl (all_before code start host lines place other within played, none);
+      played = (played.steps, played.all, played.plays, inl (sym before));
+      bad = λ own.
+          inl (
+            host,
+            first_counts code start (journal_of (take place lines)) line
+                (journal_of (take (length lines - (place + 1)) (drop (place + 1) lines))) host
+                (subst (λ all. IsPlayedBefore code start all
+                (line ∷ journal_of (take (length lines - (place + 1)) (drop (place + 1) lines))) host) before
+                (subst (λ behind. IsPlayedBefore code start played.all behind host)
+                (line_here lines place other within) played.chosen)),
+            none own,
+          );
     }
 refused_by code start host lines place other (error.NoRun number) within played (inr (sent, after, makes, unsaid)) =
     let line : List Word = words (get_or lines place other).bytes.now in
+    let others = journal_of (take (length lines - (place + 1)) (drop (place + 1) lines)) in
     let front : played.all ++ line ∷ [] ≡ journal_of (take (place + 1) lines) =
     ap (λ (front : List (List Word)). front ++ line ∷ []) (all_before code start host lines place other within played)
     ∙ sym (map-append (λ (one : Line). words one.bytes.now) (take place lines) (get_or lines place other ∷ []))
     ∙ ap journal_of (sym (take-suc lines place other within) ∙ ap (λ n. take n lines) (sym (add-one place))) in
+    let steps = played.steps ++ makes.step ∷ [] in
+    let plays = plays_more code played.steps start host played.all line sent after others played.plays makes in
+    let whole : played.all ++ step_words code makes.step ∷ (sent_words code sent ++ [])
+    ≡ journal_of (take (place + 1) lines) ++ unsaid.sent ∷ [] =
+    ap (λ (rest : List (List Word)). played.all ++ step_words code makes.step ∷ rest)
+    (append-nil (sent_words code sent) ∙ unsaid.said_is)
+    ∙ ap (λ (one : List Word). played.all ++ one ∷ unsaid.sent ∷ []) (sym makes.line_is)
+    ∙ sym (append_assoc played.all (line ∷ []) (unsaid.sent ∷ []))
+    ∙ ap (λ (rest : List (List Word)). rest ++ unsaid.sent ∷ []) front in
+    let sends = said_send code sent unsaid.sent unsaid.said_is in
     record {
       front = take (place + 1) lines;
       line = unsaid.next;
@@ -245,20 +352,46 @@ refused_by code start host lines place other (error.NoRun number) within played 
           ∙ ap (λ (rest : List Line). take (place + 1) lines ++ rest)
           (sym (all_taken lines (place + 1)) ∙ unsaid.others_are);
       number_is = unsaid.number_is;
-      steps = played.steps ++ makes.step ∷ [];
-      all = played.all ++ step_words code makes.step ∷ (sent_words code sent ++ []);
       last = after;
-      plays = plays_more code played.steps start host played.all line sent after played.plays makes;
-      bad = inr (
-        unsaid.sent,
-        ap (λ (rest : List (List Word)). played.all ++ step_words code makes.step ∷ rest)
-            (append-nil (sent_words code sent) ∙ unsaid.said_is)
-            ∙ ap (λ (one : List Word). played.all ++ one ∷ unsaid.sent ∷ []) (sym makes.line_is)
-            ∙ sym (append_assoc played.all (line ∷ []) (unsaid.sent ∷ []))
-            ∙ ap (λ (rest : List (List Word)). rest ++ unsaid.sent ∷ []) front,
-        unsaid.other,
-      );
+      played = (steps, _, plays, inr (unsaid.sent, sends, whole));
+      bad = λ own.
+          inr (
+            steps,
+            after,
+            unsaid.sent,
+            subst (ToldPlays code start steps after) whole plays,
+            sends,
+            unsaid.other,
+          );
     }
+
+-- ---- no run of any host
+
+-- by the laws: no host has the lines in front and the one that bars the way, and some host has what was played
+pub play_error : (code : CodeShape) (values : List (List ℤ)) (me : HostId) (lines : List Line) (why : PlayError) →
+    (HaveOwnNames code → (key : List ℕ) (front : List (List Word)) (line : List Word) (steps : List Step)
+    (last : HostShape) → IsBarred code (host_at_start code values told_key me) front line →
+    ¬ IsJournalOf code (host_at_start code values key me) (front ++ line ∷ []) steps last) →
+    (HaveOwnNames code → (front : List (List Word)) (shown : HostShape) →
+    IsPlayed code (host_at_start code values told_key me) front shown →
+    (key : List ℕ) × (steps : List Step) × (last : HostShape)
+    × IsJournalOf code (host_at_start code values key me) front steps last × (last.rows ≡ shown.rows)) →
+    IsRefusal code (host_at_start code values told_key me) lines why → IsPlayError code values me lines why
+play_error code values me lines error.OutOfMemory barred real refused = tt
+play_error code values me lines (error.NoRun number) barred real refused = λ own. record {
+  front = refused.front;
+  line = refused.line;
+  behind = refused.behind;
+  lines_are = refused.lines_are;
+  number_is = refused.number_is;
+  some =
+      let (key, steps, last, journal, rows) = real own (journal_of refused.front) refused.last refused.played in
+      (key, steps, last, journal);
+  none = λ key steps last journal.
+      barred own key (journal_of refused.front) (words refused.line.bytes.now) steps last (refused.bad own)
+      (subst (λ all. IsJournalOf code (host_at_start code values key me) all steps last)
+      (map-append (λ (one : Line). words one.bytes.now) refused.front (refused.line ∷ [])) journal);
+}
 
 -- an error that is handed on
 pub error_on : {X : Type 0} (P : PlayError → Type 0) (why : PlayError) (result : Result X PlayError) →

@@ -24,7 +24,7 @@ use Rattle.journal_laws.proofs.BareTakings.{printed_bare}
 use Rattle.journal_laws.proofs.PartsAgain.{host_again}
 use Rattle.journal_laws.proofs.SaidMessages.{as_read, message_again}
 use Rattle.journal_player.specs.Letters.{letter_of, taken_of}
-use Rattle.journal_player.specs.Playing.{CanTake, HasNoStep}
+use Rattle.journal_player.specs.Playing.{CanTake, LacksStep}
 
 letter_back : (letter : Message) → letter_of (as_read letter) ≡ Some (bare_message letter)
 letter_back (message.Get request field index) = refl
@@ -66,7 +66,7 @@ taken_again code from letter sound own there fits real =
     ∙ ap (λ (said : Option Message). of_two couple (Some from) said) (letter_back letter)
 
 pub untaken : (code : CodeShape) (host : HostShape) (line : List Word) → IsSoundCode code → line ≢ turn_words →
-    taken_of code line ≡ None → HasNoStep code host line
+    taken_of code line ≡ None → LacksStep code host line
 untaken code host line sound turn none own turns may is = turn is
 untaken code host line sound turn none own (takes from letter) may is =
     let clash : ◌≡◌ {A = Option (HostId × Message)} None (Some (from, bare_message letter)) =
@@ -91,7 +91,7 @@ second_of_two {X = X} {Y = Y} one other two second same = ap (read two) same
 
 pub barred : (code : CodeShape) (host : HostShape) (line : List Word) (from : HostId) (letter : Message) →
     IsSoundCode code → line ≢ turn_words → taken_of code line ≡ Some (from, letter) → ¬ CanTake code host from letter →
-    HasNoStep code host line
+    LacksStep code host line
 barred code host line from letter sound turn read cannot own turns may is = turn is
 barred code host line from letter sound turn read cannot own (takes other second) may is =
     let same : ◌≡◌ {A = Option (HostId × Message)} (Some (other, bare_message second)) (Some (from, letter)) =
@@ -107,7 +107,7 @@ barred code host line from letter sound turn read cannot own (takes other second
 
 pub unlike : (code : CodeShape) (host : HostShape) (line : List Word) (from : HostId) (letter : Message) →
     IsSoundCode code → line ≢ turn_words → taken_of code line ≡ Some (from, letter) →
-    line ≢ take_words code from letter → HasNoStep code host line
+    line ≢ take_words code from letter → LacksStep code host line
 unlike code host line from letter sound turn read cannot own turns may is = turn is
 unlike code host line from letter sound turn read cannot own (takes other second) may is =
     let same : ◌≡◌ {A = Option (HostId × Message)} (Some (other, bare_message second)) (Some (from, letter)) =

@@ -1,5 +1,5 @@
 -- One line of a journal that is played.
-use Rattle.std.specs.Prelude.{◌≡◌, ◌≢◌, ◌<◌, ◌⊎◌, ⊤, ℕ, List, [], ◌∷◌, ◌++◌, Option, IsSome, None, false}
+use Rattle.std.specs.Prelude.{◌≡◌, ◌≢◌, ◌<◌, ◌⊎◌, ⊤, ℕ, ℤ, List, [], ◌∷◌, ◌++◌, Option, IsSome, None, false}
 use Rattle.event_text.specs.declared.lines.Line.{Line}
 use Rattle.event_text.specs.Lines.{words}
 use Rattle.record_merge.specs.JournalLines.{journal_of}
@@ -12,43 +12,40 @@ use Rattle.host_code.specs.Messages.{MessageFits}
 use Rattle.host_code.specs.Sound.{IsOther}
 use Rattle.host_core.specs.declared.host.TheConstants.{MOST_CALLS}
 use Rattle.host_core.specs.Host.{HostModel, HostShape}
-use Rattle.event_text.specs.JournalText.{IsSendLine, sent_words, take_words, turn_words}
+use Rattle.host_core.specs.Start.{host_at_start}
+use Rattle.event_text.specs.JournalText.{IsSendLine, sent_words, take_words}
 use Rattle.event_text.specs.Words.{Word}
-use Rattle.journal_laws.specs.Plays.{HaveOwnNames, MayStep, MayTake, step_words}
+use Rattle.journal_laws.specs.Plays.{HaveOwnNames, IsJournalOf, MayStep, MayTake, step_words}
 use Rattle.journal_laws.specs.Steps.{Step, takes, turns}
-use Rattle.journal_laws.specs.ToldPlays.{IsToldStep, ToldPlays}
+use Rattle.journal_laws.specs.ToldPlays.{ByNext, HasNoStep, IsBarred, IsChosenStep, IsPlayed}
 
 -- the host answers one call more
 pub record AnswersOn (host : HostModel) : Type 0 where
   pub few : host.calls < MOST_CALLS
   pub stopped : host.stopped ≡ false
 
--- the next line is that of a turn, or there is none
-abbrev pub TurnsNext : List (List Word) → Type 0
-TurnsNext [] = ⊤
-TurnsNext (line ∷ lines) = line ≡ turn_words
-
--- the host makes a step of which this is the line, and sends this
+-- The host makes a step of which this is the line, and sends this. Where the step is open, it passes just where the
+-- lines behind it begin with that of a turn.
 pub record Makes (code : CodeShape) (host : HostShape) (line : List Word) (sent : Option (HostId × Message))
-    (after : HostShape) : Type 0 where
+    (after : HostShape) (others : List (List Word)) : Type 0 where
   pub step : Step
   pub line_is : line ≡ step_words code step
   pub may : MayStep code host step
-  pub told : IsToldStep code host step (record { state = after; sent = sent })
+  pub told : IsChosenStep (ByNext others) code host step (record { state = after; sent = sent })
 
 -- the same of a turn, and of a message that is taken
-pub record MakesTurn (code : CodeShape) (host : HostShape) (sent : Option (HostId × Message)) (after : HostShape) :
-    Type 0 where
+pub record MakesTurn (code : CodeShape) (host : HostShape) (sent : Option (HostId × Message)) (after : HostShape)
+    (others : List (List Word)) : Type 0 where
   pub runs : IsSome host.running
-  pub told : IsToldStep code host turns (record { state = after; sent = sent })
+  pub told : IsChosenStep (ByNext others) code host turns (record { state = after; sent = sent })
 
 pub record MakesTake (code : CodeShape) (host : HostShape) (line : List Word) (sent : Option (HostId × Message))
-    (after : HostShape) : Type 0 where
+    (after : HostShape) (others : List (List Word)) : Type 0 where
   pub from : HostId
   pub message : Message
   pub line_is : line ≡ take_words code from message
   pub may : MayTake code host from message
-  pub told : IsToldStep code host (takes from message) (record { state = after; sent = sent })
+  pub told : IsChosenStep (ByNext others) code host (takes from message) (record { state = after; sent = sent })
 
 -- these are left of the lines behind a step: what is said of what was sent comes before, or is missing at the end
 abbrev pub IsBehind : List (List Word) → List (List Word) → List (List Word) → Type 0
@@ -65,9 +62,8 @@ pub record CanTake (code : CodeShape) (host : HostShape) (from : HostId) (messag
 -- ---- lines by which a host does not go on
 
 -- the host makes no step of which this is the line, where a line tells which names are meant
-abbrev pub HasNoStep : CodeShape → HostShape → List Word → Type 0
-HasNoStep code host line =
-    HaveOwnNames code → (step : Step) → MayStep code host step → line ≢ step_words code step
+abbrev pub LacksStep : CodeShape → HostShape → List Word → Type 0
+LacksStep code host line = HaveOwnNames code → HasNoStep code host line
 
 -- the line that comes next has this number, and another was said
 pub record IsUnsaid (said : List (List Word)) (others : List Line) (number : ℕ) : Type 0 where
@@ -86,31 +82,46 @@ IsBadNext said others (error.NoRun number) = IsUnsaid said others number
 abbrev pub IsBadStep : CodeShape → HostShape → Line → PlayError → Type 0
 IsBadStep code host line error.OutOfMemory = ⊤
 IsBadStep code host line (error.NoRun number) =
-    (line.number ≡ number) × HasNoStep code host (words line.bytes.now)
+    (line.number ≡ number) × LacksStep code host (words line.bytes.now)
 
 -- either of both
 abbrev pub IsBadLine : CodeShape → HostShape → Line → List Line → PlayError → Type 0
 IsBadLine code host line others error.OutOfMemory = ⊤
 IsBadLine code host line others (error.NoRun number) =
-    ((line.number ≡ number) × HasNoStep code host (words line.bytes.now))
+    ((line.number ≡ number) × LacksStep code host (words line.bytes.now))
     ⊎ ((sent : Option (HostId × Message)) × (after : HostShape) × Makes code host (words line.bytes.now) sent after
-    × IsUnsaid (sent_words code sent) others number)
+    (journal_of others) × IsUnsaid (sent_words code sent) others number)
 
--- The lines before one with this number were played. The host that was played makes no step of the line; or its last
--- step sent what has another line.
+-- The lines before one with this number were played, and the host that was played does not go on by the line.
 pub record IsRefused (code : CodeShape) (start : HostShape) (lines : List Line) (number : ℕ) : Type 0 where
   pub front : List Line
   pub line : Line
   pub behind : List Line
   pub lines_are : lines ≡ front ++ line ∷ behind
   pub number_is : line.number ≡ number
-  pub steps : List Step
-  pub all : List (List Word)
   pub last : HostShape
-  pub plays : ToldPlays code start steps last all
-  pub bad : ((all ≡ journal_of front) × HasNoStep code last (words line.bytes.now))
-      ⊎ ((sent : List Word) × (all ≡ journal_of front ++ sent ∷ []) × (words line.bytes.now ≢ sent))
+  pub played : IsPlayed code start (journal_of front) last
+  pub bad : HaveOwnNames code → IsBarred code start (journal_of front) (words line.bytes.now)
 
-abbrev pub IsPlayError : CodeShape → HostShape → List Line → PlayError → Type 0
-IsPlayError code start lines error.OutOfMemory = ⊤
-IsPlayError code start lines (error.NoRun number) = IsRefused code start lines number
+abbrev pub IsRefusal : CodeShape → HostShape → List Line → PlayError → Type 0
+IsRefusal code start lines error.OutOfMemory = ⊤
+IsRefusal code start lines (error.NoRun number) = IsRefused code start lines number
+
+-- No run of the host has the lines up to the one with this number, and some run has those before it.
+pub record HasNoRun (code : CodeShape) (values : List (List ℤ)) (me : HostId) (lines : List Line) (number : ℕ) :
+    Type 0 where
+  pub front : List Line
+  pub line : Line
+  pub behind : List Line
+  pub lines_are : lines ≡ front ++ line ∷ behind
+  pub number_is : line.number ≡ number
+  pub some : (key : List ℕ) × (steps : List Step) × (last : HostShape)
+      × IsJournalOf code (host_at_start code values key me) (journal_of front) steps last
+  pub none : (key : List ℕ) (steps : List Step) (last : HostShape) →
+      ¬ IsJournalOf code (host_at_start code values key me) (journal_of (front ++ line ∷ [])) steps last
+
+-- a line is refused where no name is there twice and no run has the lines up to it
+abbrev pub IsPlayError : CodeShape → List (List ℤ) → HostId → List Line → PlayError → Type 0
+IsPlayError code values me lines error.OutOfMemory = ⊤
+IsPlayError code values me lines (error.NoRun number) =
+    HaveOwnNames code → HasNoRun code values me lines number

@@ -16,9 +16,10 @@ ghost use Rattle.event_text.specs.Lines.{words};
 ghost use Rattle.record_merge.specs.JournalLines.{journal_of};
 ghost use Rattle.journal_laws.specs.Plays.{HaveOwnNames, IsJournalOf, MayTake};
 ghost use Rattle.journal_laws.specs.Steps.{Step};
-ghost use Rattle.journal_laws.specs.ToldPlays.{IsPlayed};
-ghost use Rattle.journal_player.specs.Playing.{AnswersOn, IsBehind, Makes, MakesTurn, MakesTake, TurnsNext};
-ghost use Rattle.journal_player.specs.Playing.{CanTake, HasNoStep, IsBadLine, IsBadNext, IsBadStep, IsPlayError};
+ghost use Rattle.journal_laws.specs.ToldPlays.{IsPlayed, TurnsNext};
+ghost use Rattle.journal_player.specs.Playing.{AnswersOn, IsBehind, Makes, MakesTurn, MakesTake};
+ghost use Rattle.journal_player.specs.Playing.{CanTake, IsBadLine, IsBadNext, IsBadStep, IsPlayError, IsRefusal};
+ghost use Rattle.journal_player.specs.Playing.{LacksStep};
 
 use crate::letters::taken;
 use event_text::Line;
@@ -51,10 +52,10 @@ impl From<OutOfMemory> for PlayError {
 }
 
 /// Plays the lines of a journal that tell of turns, takes and what was sent. The host that is left has the fields of
-/// each host that has this journal.
+/// each host that has this journal, and some host has it.
 ///
 /// # Errors
-/// `NoRun` where the host does not go on by a line.
+/// `NoRun` with the number of the first line up to which no host has these lines.
 pub fn play(
     alloc: Global,
     code: &Code,
@@ -70,7 +71,11 @@ pub fn play(
         HaveOwnNames code.now →
         IsJournalOf code.now (host_at_start code.now store.now key me) (journal_of lines.now) steps last →
         last.rows ≡ host.stores.rows) }
-    ensures refused { IfErr result (IsPlayError code.now (host_at_start code.now store.now told_key me) lines.now) }
+    ensures real { IfOk result (λ host. HaveOwnNames code.now →
+        (key : List ℕ) × (steps : List Step) × (last : HostShape)
+        × IsJournalOf code.now (host_at_start code.now store.now key me) (journal_of lines.now) steps last
+        × (last.rows ≡ host.stores.rows)) }
+    ensures refused { IfErr result (IsPlayError code.now store.now me lines.now) }
 {
     field_laws();
     sound_code(code);
@@ -96,7 +101,7 @@ fn play_all(
     requires few { length lines.now < MOST_CALLS }
     ensures played { IfOk result (λ host. IsPlayed code.now (host_at_start code.now store.now told_key me)
         (journal_of lines.now) (state_of host)) }
-    ensures refused { IfErr result (IsPlayError code.now (host_at_start code.now store.now told_key me) lines.now) }
+    ensures refused { IfErr result (IsRefusal code.now (host_at_start code.now store.now told_key me) lines.now) }
 {
     let mut host = ToldHost::start(alloc, code, me, store)?;
     let mut place = 0;
@@ -124,6 +129,7 @@ fn play_line(
     ensures own { host.new.me ≡ host.old.me }
     ensures made { IfOk result (λ more. (sent : Option (HostId × Message))
         × Makes code.now (state_of host.old) (words line.entry.bytes.now) sent (state_of host.new)
+        (journal_of others.now)
         × IsBehind (sent_words code.now sent) (journal_of others.now) (drop more (journal_of others.now))) }
     ensures few { IfOk result (λ more. more ≤ length others.now) }
     ensures refused { IfErr result (IsBadLine code.now (state_of host.old) line.entry others.now) }
@@ -160,7 +166,8 @@ fn make_turn(
     requires answers { AnswersOn host.old }
     ensures own { host.new.me ≡ host.old.me }
     ensures refused { IfErr result (IsBadStep code.now (state_of host.old) line.entry) }
-    ensures made { IfOk result (λ sent. MakesTurn code.now (state_of host.old) sent (state_of host.new)) }
+    ensures made { IfOk result (λ sent. MakesTurn code.now (state_of host.old) sent (state_of host.new)
+        (journal_of others.now)) }
     ensures sent { IfOk result (SentFits code.now host.old.me) }
     ensures fits { HostFits code.now host.new }
     ensures counts { OnOk result ((host.new.calls ≡ host.old.calls + 1) × (host.new.stopped ≡ host.old.stopped)) }
@@ -194,7 +201,7 @@ fn make_take(
     ensures own { host.new.me ≡ host.old.me }
     ensures refused { IfErr result (IsBadStep code.now (state_of host.old) line.entry) }
     ensures made { IfOk result (λ sent. MakesTake code.now (state_of host.old) (words line.entry.bytes.now) sent
-        (state_of host.new)) }
+        (state_of host.new) (journal_of others.now)) }
     ensures sent { IfOk result (SentFits code.now host.old.me) }
     ensures fits { HostFits code.now host.new }
     ensures counts { OnOk result ((host.new.calls ≡ host.old.calls + 1) × (host.new.stopped ≡ host.old.stopped)) }
@@ -225,7 +232,7 @@ fn takeable(
     ensures some { IfOk result (λ found. IfSome found (λ letter.
         MayTake code.now (state_of host.now) letter.0 letter.1
         × (words line.entry.bytes.now ≡ take_words code.now letter.0 letter.1))) }
-    ensures none { IfOk result (λ found. IfNone found (HasNoStep code.now (state_of host.now)
+    ensures none { IfOk result (λ found. IfNone found (LacksStep code.now (state_of host.now)
         (words line.entry.bytes.now))) }
 {
     sound_code(code);

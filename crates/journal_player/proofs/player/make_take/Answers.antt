@@ -1,5 +1,6 @@
 use Rattle.host_core.specs.Host.{state_of}
-use Rattle.journal_player.proofs.Played.{told_taking}
+use Rattle.record_merge.specs.JournalLines.{journal_of}
+use Rattle.journal_player.proofs.Played.{chosen_taking}
 use Rattle.journal_player.proofs.player.make_take.Goals as goal
 
 pub returns-in-Ok-clause-made : goal.returns-in-Ok-clause-made
@@ -11,6 +12,7 @@ returns-in-Ok-clause-made c =
       line_is = found.1;
       may = found.0;
       told =
-          told_taking c.args.code.now (state_of c.args.host.now) c.in-Some.from c.in-Some.message
-          c.turns_next-passes.result c.is_open_taking-open.result _ c.is_open_taking-open.ensures c.in-Ok.ensures.ok;
+          chosen_taking c.args.code.now (state_of c.args.host.now) c.in-Some.from c.in-Some.message
+          c.turns_next-passes.result c.is_open_taking-open.result _ (journal_of c.args.others.now)
+          c.is_open_taking-open.ensures c.turns_next-passes.ensures c.in-Ok.ensures.ok;
     }
