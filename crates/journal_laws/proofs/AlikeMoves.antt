@@ -1,48 +1,34 @@
 -- Steps of a played host and of a real one that have the same line, and the third host's between them.
-use Rattle.std.proofs.Common.{◌≡◌, ◌≢◌, ◌∙◌, ◌⊎◌, ◌↔◌, Bool, true, false, ℕ, ℤ, refl, ap, sym, subst, List, [], ◌∷◌}
-use Rattle.std.proofs.Common.{◌++◌, append_assoc, inl, inr}
-use Rattle.std.proofs.lemmas.List.{append_cancel_left}
-use Rattle.std.specs.Prelude.{Option, Some, None, IsSome, IsTrue, All, map, filter, slice_index, slice_set, ◌==◌, ◌+◌, ⊤}
+use Rattle.std.proofs.Common.{◌≡◌, ◌∙◌, ◌⊎◌, ◌↔◌, Bool, true, false, ℕ, refl, ap, sym, subst, List}
+use Rattle.std.proofs.Common.{inl, inr}
+use Rattle.std.specs.Prelude.{Option, Some, None, IsTrue}
 use Rattle.std.specs.Option.{option_map}
-use Rattle.std.proofs.lemmas.Bool.{cases_Bool, false≢true}
-use Rattle.std.proofs.lemmas.List.Elements.{All-head}
+use Rattle.std.proofs.lemmas.Bool.{false≢true}
 use Rattle.js_base.specs.declared.ids.HostId.{HostId}
 use Rattle.capability.specs.declared.token.Token.{Token}
-use Rattle.ics_stack.specs.declared.stack.StackEntry.{StackEntry}
 use Rattle.ics_stack.specs.Stack.{top_token}
 use Rattle.host_code.specs.declared.message.Message.{Message}
 use Rattle.host_code.specs.declared.message.Message.TheVariants as message
-use Rattle.host_code.specs.declared.code.Entry.{Entry}
-use Rattle.host_code.specs.Code.{CodeShape, entry_at, halt}
-use Rattle.host_code.specs.Sound.{IsHost, IsOther, IsSoundCode}
-use Rattle.host_code.specs.Thread.{ThreadShape}
-use Rattle.host_core.specs.Fits.{EntryFits, IsEntryOf, StateFits}
-use Rattle.host_core.specs.Host.{HostShape, Outcome, after_entering, after_push, new_token, thread_at, with_running}
+use Rattle.host_code.specs.Code.{CodeShape}
+use Rattle.host_code.specs.Sound.{IsHost, IsSoundCode}
+use Rattle.host_core.specs.Host.{HostShape, Outcome}
 use Rattle.host_core.specs.Host.{without_message}
-use Rattle.host_core.specs.Start.{host_at_start, idle_host, last_token, main_frame}
 use Rattle.host_core.specs.Told.{IsUnsure, settled, told_key, with_wrong_tags}
-use Rattle.event_text.specs.Words.{Word}
-use Rattle.journal_laws.specs.Bare.{bare_host, bare_message, bare_sent, bare_thread}
-use Rattle.event_text.specs.JournalText.{IsSendLine, sent_words, turn_words}
-use Rattle.journal_laws.specs.Plays.{AreNotedOf, HaveOwnNames, IsJournalOf, MayStep, Plays, step_words}
-use Rattle.journal_laws.specs.Steps.{Step, turns, takes, IsStep, bare_step, told_step}
-use Rattle.journal_laws.specs.ToldPlays.{ByNext, HasNoStep, IsBarred, IsChosenStep, IsPlayedBefore, IsToldStep}
-use Rattle.journal_laws.specs.ToldPlays.{PlaysLast, ToldPlays, TurnsNext}
-use Rattle.journal_laws.proofs.AlikeSteps.{ArePart, open_taken, open_turned, wrong_alike}
-use Rattle.journal_laws.proofs.KeptStacks.{AreMade, HasStack, IsMade, StepPushes, SyncsOther, stack_kept}
-use Rattle.journal_laws.proofs.OffAgain.{IsStepBy, IsTop, MayBeTop, StepSyncs, check_told, first_lasting, off_check}
-use Rattle.journal_laws.proofs.OffAgain.{open_lgoto, open_turn, passing_syncs, presented, presented_cast, started}
-use Rattle.journal_laws.proofs.OffAgain.{step_by, step_off, step_without, still, still_ignored, tagged_syncs}
-use Rattle.journal_laws.proofs.OffAgain.{HasTop, IsStill, thread_pushes, told_off, top_or_none}
-use Rattle.journal_laws.proofs.OwnTags.{marked, marked_real, marked_told, real_has, real_marked, real_tag, same_told}
-use Rattle.journal_laws.proofs.OwnTags.{told_has, told_tag}
-use Rattle.journal_laws.proofs.Retagged.{AreCast, HasTags, IsCast, cast, cast_bare, cast_without, message_bare, popped}
-use Rattle.journal_laws.proofs.Retagged.{sent_bare, step_cast, tagged, tagged_entry, tagged_message, tagged_step}
-use Rattle.journal_laws.proofs.Retagged.{tagged_thread}
-use Rattle.journal_laws.proofs.SameChecks.{CheckOf, is_lgoto, same_takes_off, same_value, takes_off, told_of}
-use Rattle.journal_laws.proofs.SameFields as fields
-use Rattle.journal_laws.proofs.TakenOff.{HasStarted, RestsFor}
-use Rattle.journal_laws.proofs.WithoutHalt.{halt_left_out, is_lasting, without_halt}
+use Rattle.journal_laws.specs.Plays.{MayStep}
+use Rattle.journal_laws.specs.Steps.{Step, turns, takes, bare_step}
+use Rattle.journal_laws.specs.ToldPlays.{IsChosenStep, IsToldStep}
+use Rattle.journal_laws.proofs.AlikeSteps.{wrong_alike}
+use Rattle.journal_laws.proofs.KeptStacks.{IsMade, StepPushes}
+use Rattle.journal_laws.proofs.OffAgain.{IsTop, MayBeTop, StepSyncs, off_check}
+use Rattle.journal_laws.proofs.OffAgain.{open_lgoto, open_turn, passing_syncs, presented}
+use Rattle.journal_laws.proofs.OffAgain.{step_by, step_off, tagged_syncs}
+use Rattle.journal_laws.proofs.OffAgain.{thread_pushes, told_off}
+use Rattle.journal_laws.proofs.OwnTags.{marked, marked_real, marked_told, real_tag, same_told}
+use Rattle.journal_laws.proofs.OwnTags.{told_tag}
+use Rattle.journal_laws.proofs.Retagged.{message_bare}
+use Rattle.journal_laws.proofs.Retagged.{tagged, tagged_step}
+use Rattle.journal_laws.proofs.SameChecks.{CheckOf, same_value, takes_off}
+use Rattle.journal_laws.proofs.TakenOff.{RestsFor}
 
 -- ---- steps that are alike
 
@@ -91,7 +77,8 @@ chosen_told code chosen host turns outcome (inr closed) = inr closed
 chosen_told code chosen host (takes from letter) outcome (inl (passes, why, unsure, is)) = inl (passes, unsure, is)
 chosen_told code chosen host (takes from letter) outcome (inr closed) = inr closed
 
-pub rests_made : (code : CodeShape) (host : HostShape) (step : Step) → MayStep code host step → RestsFor host (made_of step)
+pub rests_made : (code : CodeShape) (host : HostShape) (step : Step) → MayStep code host step →
+    RestsFor host (made_of step)
 rests_made code host turns may = tt
 rests_made code host (takes from letter) may = may.rest
 

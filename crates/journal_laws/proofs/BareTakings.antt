@@ -36,7 +36,8 @@ pub position_bare : (awaited : Awaited) (request : RequestId) (from : HostId) (w
 position_bare awaited request from waiting =
     rw (prefix_bare awaited request from waiting) (rw (length-map waiting bare_waiting) refl)
 
-pub remove_map : {X Y : Type 0} (f : X → Y) (xs : List X) (place : ℕ) → remove (map f xs) place ≡ map f (remove xs place)
+pub remove_map : {X Y : Type 0} (f : X → Y) (xs : List X) (place : ℕ) →
+    remove (map f xs) place ≡ map f (remove xs place)
 remove_map f xs place =
     rw (take-map f place xs) (rw (drop-map f (suc place) xs) (sym (map-append f (take place xs) (drop (suc place) xs))))
 

@@ -1,6 +1,6 @@
 -- Tokens that a host took have names. A step moves them and copies none: so a name stands on the host no more often
 -- than before, but for that of the token that the step takes.
-use Rattle.std.proofs.Common.{◌≡◌, ◌≢◌, ◌∙◌, ◌+◌, ◌≤◌, ℕ, zero, suc, Bool, true, false, refl, ap, sym, subst, List, []}
+use Rattle.std.proofs.Common.{◌≡◌, ◌≢◌, ◌+◌, ◌≤◌, ℕ, zero, suc, Bool, true, false, refl, ap, sym, subst, List, []}
 use Rattle.std.proofs.Common.{◌∷◌, ◌++◌, arith}
 use Rattle.std.specs.Prelude.{◌==◌, Option, Some, None, if◌then◌else◌, pos, slice_index, slice_get, remove}
 use Rattle.std.specs.Option.{option_map}
@@ -12,7 +12,6 @@ use Rattle.js_base.specs.declared.ids.FieldId.{FieldId}
 use Rattle.js_base.specs.declared.ids.FrameId.{FrameId}
 use Rattle.js_base.specs.declared.ids.VarId.{VarId}
 use Rattle.js_base.specs.declared.ids.EntryId.{EntryId}
-use Rattle.js_base.specs.declared.ids.RequestId.{RequestId}
 use Rattle.capability.specs.declared.token.Token.{Token}
 use Rattle.ics_stack.specs.declared.stack.StackEntry.{StackEntry}
 use Rattle.host_code.specs.declared.code.Entry.{Entry}
@@ -23,12 +22,12 @@ use Rattle.host_code.specs.declared.instruction.Op.TheVariants as op
 use Rattle.host_code.specs.declared.message.Message.{Message}
 use Rattle.host_code.specs.declared.message.Message.TheVariants as message
 use Rattle.host_code.specs.Riders.{Rider}
-use Rattle.host_code.specs.Thread.{ThreadShape, WaitingShape, Awaited}
+use Rattle.host_code.specs.Thread.{ThreadShape, WaitingShape}
 use Rattle.host_code.specs.Thread.Awaited.{value_of_field, acknowledgement, token_of_entry}
 use Rattle.host_code.specs.Code.{CodeShape, CodeFieldShape, entry_at, field_at, halt, instruction_at}
-use Rattle.host_core.specs.Host.{HostShape, Outcome, after_entering, after_pop, after_push, new_token, with_running}
+use Rattle.host_core.specs.Host.{HostShape, Outcome, after_entering, after_pop, new_token, with_running}
 use Rattle.host_core.specs.Host.{with_temporary, with_token, with_variable_set, with_variables_set, value_in_thread}
-use Rattle.host_core.specs.Taking.{after_taking, after_passing, after_answer, place_of_awaiting}
+use Rattle.host_core.specs.Taking.{after_passing, after_answer, place_of_awaiting}
 use Rattle.host_core.specs.Told.{settled, told_key}
 use Rattle.host_core.specs.Turn.{after_operation, after_read, after_put, after_branch, after_own_push, after_ask}
 use Rattle.host_core.specs.Turn.{after_go, after_go_with, after_own_call, after_call, after_return, after_back}
@@ -71,7 +70,8 @@ waiting_hits name (first ∷ waiting) = held_hits name first.thread.held + waiti
 
 -- The token that is kept with the entry that ends the program may have the name 0.
 abbrev pub entry_hits : ℕ → StackEntry → ℕ
-entry_hits name entry = if is_lasting entry then hits name entry.kept else (if name == 0 then 0 else hits name entry.kept)
+entry_hits name entry =
+    if is_lasting entry then hits name entry.kept else (if name == 0 then 0 else hits name entry.kept)
 
 abbrev pub entries_hits : ℕ → List StackEntry → ℕ
 entries_hits name [] = 0

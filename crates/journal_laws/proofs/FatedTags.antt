@@ -1,16 +1,12 @@
 -- Tags for the names of tokens that a host took. A name has its fate: whether its tokens have the right tag.
-use Rattle.std.proofs.Common.{◌≡◌, ◌≢◌, ◌∙◌, ◌⊎◌, ◌+◌, ◌<◌, ◌≤◌, ℕ, zero, suc, Bool, true, false, refl, ap, sym, subst}
-use Rattle.std.proofs.Common.{List, [], ◌∷◌, ◌++◌, inl, inr, arith, take, length, w32}
-use Rattle.std.specs.Prelude.{◌==◌, if◌then◌else◌, Option, Some, None, map, slice_index, slice_set}
+use Rattle.std.proofs.Common.{◌≡◌, ◌≢◌, ◌∙◌, ◌⊎◌, ◌<◌, ℕ, zero, suc, Bool, true, false, refl, ap, sym}
+use Rattle.std.proofs.Common.{List, [], ◌∷◌, ◌++◌, inl, inr, arith, take, w32}
+use Rattle.std.specs.Prelude.{◌==◌, if◌then◌else◌, Option, Some, None, map, slice_index}
 use Rattle.std.specs.Option.{option_map}
 use Rattle.std.specs.Int.{to_be_bytes}
-use Rattle.std.proofs.lemmas.Bool.Decides.{nat_tests}
-use Rattle.std.proofs.lemmas.List.{get_or-set_same, get_or-set_other, get_or-take, length-set, length-take}
+use Rattle.std.proofs.lemmas.List.{length-set}
 use Rattle.sha2.specs.Sha256.{digest_bytes, final_hash, initial_hash_256, sha256}
 use Rattle.byte_format.specs.Numbers.{AreBytes}
-use Rattle.js_base.specs.declared.ids.HostId.{HostId}
-use Rattle.js_base.specs.declared.ids.FrameId.{FrameId}
-use Rattle.js_base.specs.declared.ids.EntryId.{EntryId}
 use Rattle.capability.specs.declared.tags.TheConstants.{TAG_BYTES}
 use Rattle.capability.specs.declared.token.Token.{Token}
 use Rattle.capability.specs.Tag.{tag_of, token_bytes}
@@ -179,7 +175,8 @@ picked_tag false token =
 token_picked : (right : Bool) (token : Token) → IsToken token → IsToken (tagged (picked right) token)
 token_picked right token is = (is.0, (is.1.0, (is.1.1.0, (is.1.1.1.0, picked_tag right token))))
 
-pub real_picked : (right : Bool) (letter : Message) → IsMessage letter → IsMessage (tagged_message (picked right) letter)
+pub real_picked : (right : Bool) (letter : Message) → IsMessage letter →
+    IsMessage (tagged_message (picked right) letter)
 real_picked right (message.Get request field index) is = is
 real_picked right (message.Set request field index value) is = is
 real_picked right (message.Forward request frame variable value) is = is
@@ -250,9 +247,9 @@ top_back fate top token made same = by (is_right token) (name_of token == 0) ref
     by false false is at =
         inr (
           λ other. other_differs told_key token
-          (let wrong : tagged (picked false) token ≡ top =
-          sym (fated none token is at) ∙ other ∙ made_stays none top made in
-          ap (λ (one : Token). one.tag) wrong ∙ made ∙ sym (ap (right_tag told_key) wrong)),
+              (let wrong : tagged (picked false) token ≡ top =
+              sym (fated none token is at) ∙ other ∙ made_stays none top made in
+              ap (λ (one : Token). one.tag) wrong ∙ made ∙ sym (ap (right_tag told_key) wrong)),
           ap (λ (one : Token). record one { tag = fate_tag none top }) same,
         )
 

@@ -1,51 +1,44 @@
 -- A played host and a real one go the same way, but for the entry that ends the program. Both are a third host with
 -- other tags, which makes the steps of the real one. So a token that is right on the played host, as the host made it
 -- and never gave it away, is right on the real one.
-use Rattle.std.proofs.Common.{◌≡◌, ◌≢◌, ◌∙◌, ◌⊎◌, ◌↔◌, Bool, true, false, ℕ, ℤ, refl, ap, sym, subst, List, [], ◌∷◌}
-use Rattle.std.proofs.Common.{◌++◌, append_assoc, inl, inr}
-use Rattle.std.proofs.lemmas.List.{append_cancel_left}
-use Rattle.std.specs.Prelude.{Option, Some, None, IsSome, IsTrue, All, map, filter, slice_index, slice_set, ◌==◌, ◌+◌, ⊤}
+use Rattle.std.proofs.Common.{◌≡◌, ◌∙◌, ◌⊎◌, ◌↔◌, Bool, true, false, ℕ, refl, ap, sym, subst, List, [], ◌∷◌}
+use Rattle.std.proofs.Common.{inl, inr}
+use Rattle.std.specs.Prelude.{Option, Some, None, IsSome, IsTrue, All, map, filter}
 use Rattle.std.specs.Option.{option_map}
-use Rattle.std.proofs.lemmas.Bool.{cases_Bool, false≢true}
+use Rattle.std.proofs.lemmas.Bool.{false≢true}
 use Rattle.std.proofs.lemmas.List.Elements.{All-head}
-use Rattle.js_base.specs.declared.ids.HostId.{HostId}
 use Rattle.capability.specs.declared.token.Token.{Token}
 use Rattle.ics_stack.specs.declared.stack.StackEntry.{StackEntry}
 use Rattle.ics_stack.specs.Stack.{top_token}
-use Rattle.host_code.specs.declared.message.Message.{Message}
-use Rattle.host_code.specs.declared.message.Message.TheVariants as message
-use Rattle.host_code.specs.declared.code.Entry.{Entry}
-use Rattle.host_code.specs.Code.{CodeShape, entry_at, halt}
-use Rattle.host_code.specs.Sound.{IsHost, IsOther, IsSoundCode}
+use Rattle.host_code.specs.Code.{CodeShape}
+use Rattle.host_code.specs.Sound.{IsHost, IsSoundCode}
 use Rattle.host_code.specs.Thread.{ThreadShape}
 use Rattle.host_core.specs.Fits.{EntryFits, IsEntryOf, StateFits}
-use Rattle.host_core.specs.Host.{HostShape, Outcome, after_entering, after_push, new_token, thread_at, with_running}
+use Rattle.host_core.specs.Host.{HostShape, Outcome, with_running}
 use Rattle.host_core.specs.Host.{without_message}
-use Rattle.host_core.specs.Start.{host_at_start, idle_host, last_token, main_frame}
-use Rattle.host_core.specs.Told.{IsUnsure, settled, told_key, with_wrong_tags}
-use Rattle.event_text.specs.Words.{Word}
-use Rattle.journal_laws.specs.Bare.{bare_host, bare_message, bare_sent, bare_thread}
-use Rattle.event_text.specs.JournalText.{IsSendLine, sent_words, turn_words}
-use Rattle.journal_laws.specs.Plays.{AreNotedOf, HaveOwnNames, IsJournalOf, MayStep, Plays, step_words}
+use Rattle.host_core.specs.Told.{settled, told_key, with_wrong_tags}
+use Rattle.journal_laws.specs.Bare.{bare_host, bare_sent}
+use Rattle.journal_laws.specs.Plays.{HaveOwnNames, MayStep}
 use Rattle.journal_laws.specs.Steps.{Step, turns, takes, IsStep, bare_step, told_step}
-use Rattle.journal_laws.specs.ToldPlays.{ByNext, HasNoStep, IsBarred, IsChosenStep, IsPlayedBefore, IsToldStep}
-use Rattle.journal_laws.specs.ToldPlays.{PlaysLast, ToldPlays, TurnsNext}
-use Rattle.journal_laws.proofs.AlikeSteps.{ArePart, open_taken, open_turned, wrong_alike}
-use Rattle.journal_laws.proofs.KeptStacks.{AreMade, HasStack, IsMade, StepPushes, SyncsOther, stack_kept}
+use Rattle.journal_laws.specs.ToldPlays.{IsChosenStep, IsToldStep}
+use Rattle.journal_laws.proofs.AlikeSteps.{open_taken, open_turned}
+use Rattle.journal_laws.proofs.KeptStacks.{AreMade, HasStack, IsMade, stack_kept}
 use Rattle.journal_laws.proofs.OffAgain.{IsStepBy, IsTop, MayBeTop, StepSyncs, check_told, first_lasting, off_check}
-use Rattle.journal_laws.proofs.OffAgain.{open_lgoto, open_turn, passing_syncs, presented, presented_cast, started}
-use Rattle.journal_laws.proofs.OffAgain.{step_by, step_off, step_without, still, still_ignored, tagged_syncs}
-use Rattle.journal_laws.proofs.OffAgain.{HasTop, IsStill, thread_pushes, told_off, top_or_none}
-use Rattle.journal_laws.proofs.OwnTags.{marked, marked_real, marked_told, real_has, real_marked, real_tag, same_told}
+use Rattle.journal_laws.proofs.OffAgain.{presented, presented_cast, started}
+use Rattle.journal_laws.proofs.OffAgain.{step_by, step_off, step_without, still, still_ignored}
+use Rattle.journal_laws.proofs.OffAgain.{HasTop, top_or_none}
+use Rattle.journal_laws.proofs.OwnTags.{marked, real_has, real_tag}
 use Rattle.journal_laws.proofs.OwnTags.{told_has, told_tag}
-use Rattle.journal_laws.proofs.Retagged.{AreCast, HasTags, IsCast, cast, cast_bare, cast_without, message_bare, popped}
-use Rattle.journal_laws.proofs.Retagged.{sent_bare, step_cast, tagged, tagged_entry, tagged_message, tagged_step}
+use Rattle.journal_laws.proofs.Retagged.{AreCast, HasTags, IsCast, cast, cast_bare, cast_without, popped}
+use Rattle.journal_laws.proofs.Retagged.{sent_bare, step_cast, tagged, tagged_entry, tagged_step}
 use Rattle.journal_laws.proofs.Retagged.{tagged_thread}
-use Rattle.journal_laws.proofs.SameChecks.{CheckOf, is_lgoto, same_takes_off, same_value, takes_off, told_of}
+use Rattle.journal_laws.proofs.SameChecks.{CheckOf, same_takes_off, same_value, takes_off, told_of}
 use Rattle.journal_laws.proofs.SameFields as fields
 use Rattle.journal_laws.proofs.TakenOff.{HasStarted, RestsFor}
 use Rattle.journal_laws.proofs.WithoutHalt.{halt_left_out, is_lasting, without_halt}
-use Rattle.journal_laws.proofs.AlikeMoves.{made_of, is_turn, from_or, letter_or, made_told, made_real, made_bare, marked_bare, chosen_told, rests_made, off_syncs, check_syncs, marked_syncs, pushes, both_ways, some_same, IsOff, off_of, agree}
+use Rattle.journal_laws.proofs.AlikeMoves.{made_of, made_told, made_real, made_bare, marked_bare, chosen_told}
+use Rattle.journal_laws.proofs.AlikeMoves.{rests_made, off_syncs, check_syncs, marked_syncs, pushes, both_ways, IsOff}
+use Rattle.journal_laws.proofs.AlikeMoves.{off_of, agree}
 
 module _ (code : CodeShape) (sound : IsSoundCode code) (own : HaveOwnNames code) where
   -- ---- a played host and a real one
@@ -101,8 +94,8 @@ module _ (code : CodeShape) (sound : IsSoundCode code) (own : HaveOwnNames code)
       (marked_syncs another passes syncs)) follows.stack_both
 
   -- what is left of both, where the played one is the third without the entry that ends the program
-  pub go_on : (key : List ℕ) (host real : HostShape) (step another : Step) (outcome beside : Outcome) (one other : Bool) →
-      (follows : Follows key host real) → MayStep code host step → MayStep code real another →
+  pub go_on : (key : List ℕ) (host real : HostShape) (step another : Step) (outcome beside : Outcome)
+      (one other : Bool) → (follows : Follows key host real) → MayStep code host step → MayStep code real another →
       IsToldStep code host step outcome → IsStep code real another beside →
       told_step code host (made_of step) one ≡ outcome → StepSyncs (made_of step) one →
       told_step code real another other ≡ beside → StepSyncs another other →
@@ -124,8 +117,8 @@ module _ (code : CodeShape) (sound : IsSoundCode code) (own : HaveOwnNames code)
 
   -- ---- a step that takes nothing off
 
-  pub closed_step : (chosen : Bool → Type 0) (host : HostShape) (step : Step) (outcome : Outcome) → StateFits code host →
-      MayStep code host step → takes_off code host (made_of step) ≡ false →
+  pub closed_step : (chosen : Bool → Type 0) (host : HostShape) (step : Step) (outcome : Outcome) →
+      StateFits code host → MayStep code host step → takes_off code host (made_of step) ≡ false →
       IsChosenStep chosen code host step outcome → IsStep code host (made_of step) outcome
   closed_step chosen host turns outcome fits may off (inr closed) = closed.1
   closed_step chosen host (takes from letter) outcome fits may off (inr closed) = closed.1
@@ -165,7 +158,7 @@ module _ (code : CodeShape) (sound : IsSoundCode code) (own : HaveOwnNames code)
       let there : IsHost code both.me =
       subst (IsHost code) (me_of_both key host real follows) follows.fits_real.me in
       let first : told_step code (cast told_tag told_key ignored halted (without_halt both)) (tagged_step told_tag move)
-          passes ≡ halt_left_out outcome =
+      passes ≡ halt_left_out outcome =
       ap (λ h. told_step code h (tagged_step told_tag move) passes) (sym told)
       ∙ ap (λ s. told_step code (without_halt host) s passes) (made_told step another alike)
       ∙ step_without code host (made_of step) passes sound follows.fits.me off syncs
@@ -210,7 +203,8 @@ module _ (code : CodeShape) (sound : IsSoundCode code) (own : HaveOwnNames code)
       let syncs : StepSyncs (made_of step) other =
       subst (StepSyncs (made_of step)) same (check_syncs code host (made_of step) one check) in
       let syncs_too = check_syncs code real another other beside_check in
-      let left = plain_cast key host real step another outcome other follows alike off off_both by_same syncs syncs_too in
+      let left =
+      plain_cast key host real step another outcome other follows alike off off_both by_same syncs syncs_too in
       let right = real_cast key host real another beside other follows by_other in
       inl (
         go_on key host real step another outcome beside other other follows may also
@@ -233,8 +227,7 @@ module _ (code : CodeShape) (sound : IsSoundCode code) (own : HaveOwnNames code)
       let nothing : filter is_lasting host.entries ≡ [] =
       ap (λ (h : HostShape). h.entries) told ∙ ap (map (tagged_entry told_tag)) none in
       let (count, ends, left) = still code host one nothing in
-      let (more, stops, beside) = still code both other none in
-      (
+      let (more, stops, beside) = still code both other none in (
         count,
         ends,
         left ∙ ap (λ (h : HostShape). record h { running = None; ignored = count; halted = ends }) told
@@ -248,8 +241,7 @@ module _ (code : CodeShape) (sound : IsSoundCode code) (own : HaveOwnNames code)
   ignored_cast key host real follows =
       let (ignored, halted, told) = follows.told in
       let (count, ends, left) = still_ignored code host in
-      let (more, stops, beside) = still_ignored code follows.both in
-      (
+      let (more, stops, beside) = still_ignored code follows.both in (
         count,
         ends,
         left ∙ ap (λ (h : HostShape). record h { running = None; ignored = count; halted = ends }) told
@@ -265,8 +257,7 @@ module _ (code : CodeShape) (sound : IsSoundCode code) (own : HaveOwnNames code)
       let (ignored, halted, told) = follows.told in
       let bare = without_halt follows.both in
       let (count, ends, left) =
-      popped told_tag told_key code ignored halted (with_running bare None) bare.entries in
-      (
+      popped told_tag told_key code ignored halted (with_running bare None) bare.entries in (
         count,
         ends,
         first.told ∙ ap (λ h. settled code h true) told ∙ left

@@ -23,10 +23,10 @@ use Rattle.host_code.specs.Riders.{Rider}
 use Rattle.host_code.specs.Thread.{ThreadShape}
 use Rattle.host_code.specs.Thread.Awaited.{value_of_field, acknowledgement, token_of_entry}
 use Rattle.host_code.specs.Code.{CodeShape, CodeFieldShape, entry_at, field_at, halt, instruction_at}
-use Rattle.host_core.specs.Host.{HostShape, Outcome, after_entering, after_pop, after_push, new_token}
+use Rattle.host_core.specs.Host.{HostShape, after_entering, after_pop, after_push, new_token}
 use Rattle.host_core.specs.Host.{with_running}
 use Rattle.host_core.specs.Host.{with_variable_set, with_variables_set, value_in_thread}
-use Rattle.host_core.specs.Taking.{after_taking, after_passing, after_answer, place_of_awaiting}
+use Rattle.host_core.specs.Taking.{after_passing, after_answer, place_of_awaiting}
 use Rattle.host_core.specs.Turn.{after_operation, after_read, after_put, after_branch, after_own_push, after_ask}
 use Rattle.host_core.specs.Turn.{after_go, after_go_with, after_own_call, after_call, after_return, after_back}
 use Rattle.journal_laws.specs.Steps.{Step, turns, takes, told_step, after_turn, after_running}
@@ -94,7 +94,8 @@ pushed : (key : List ℕ) (host : HostShape) (entry : EntryId) (frame : FrameId)
 pushed key host entry frame token other has = record {
   key_is = has.key_is;
   made = (ap (λ k. tag_of k host.me frame entry (slice_index host.serials entry.0)) has.key_is, has.made);
-  low = low_more (record { token = new_token host entry frame; entry = entry; frame = frame; kept = token }) host.entries
+  low = low_more
+      (record { token = new_token host entry frame; entry = entry; frame = frame; kept = token }) host.entries
       (rw (lasts entry other) refl) has.low;
 }
 

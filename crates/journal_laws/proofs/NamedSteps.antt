@@ -1,56 +1,35 @@
 -- The step of the third host, in which the token that it takes has a name, and that of the real one. What a host made
 -- has no name, and no name stands on it twice.
-use Rattle.std.proofs.Common.{◌≡◌, ◌≢◌, ◌∙◌, ◌⊎◌, ◌↔◌, ◌+◌, ◌≤◌, Bool, true, false, ℕ, ℤ, suc, refl, ap, sym, subst}
-use Rattle.std.proofs.Common.{List, [], ◌∷◌, ◌++◌, append_assoc, inl, inr, arith, codes}
-use Rattle.std.specs.Prelude.{Option, Some, None, IsSome, IsTrue, map, slice_index, slice_set, ◌==◌, if◌then◌else◌, ⊤}
+use Rattle.std.proofs.Common.{◌≡◌, ◌∙◌, ◌⊎◌, ◌↔◌, ◌+◌, ◌≤◌, Bool, true, false, ℕ, suc, refl, ap, sym}
+use Rattle.std.proofs.Common.{List, ◌∷◌, inl, inr, arith, codes}
+use Rattle.std.specs.Prelude.{Option, Some, None, IsSome, IsTrue, ◌==◌, if◌then◌else◌}
 use Rattle.std.specs.Option.{option_map}
-use Rattle.std.proofs.lemmas.Bool.{false≢true}
 use Rattle.std.proofs.lemmas.Bool.Decides.{nat_tests}
-use Rattle.js_base.specs.declared.ids.HostId.{HostId}
 use Rattle.capability.specs.declared.token.Token.{Token}
-use Rattle.ics_stack.specs.declared.stack.StackEntry.{StackEntry}
-use Rattle.ics_stack.specs.Stack.{top_token}
-use Rattle.host_code.specs.declared.code.Entry.{Entry}
 use Rattle.host_code.specs.declared.instruction.Instr.{Instr}
 use Rattle.host_code.specs.declared.message.Message.{Message}
 use Rattle.host_code.specs.declared.message.Message.TheVariants as message
-use Rattle.host_code.specs.Code.{CodeShape, entry_at, halt, instruction_at}
+use Rattle.host_code.specs.Code.{CodeShape, instruction_at}
 use Rattle.host_code.specs.MessageText.{host_text, message_text}
-use Rattle.host_code.specs.Sound.{IsHost, IsOther, IsSoundCode}
 use Rattle.host_code.specs.Thread.{ThreadShape}
-use Rattle.host_core.specs.Fits.{StateFits}
-use Rattle.host_core.specs.Host.{HostShape, Outcome, after_entering, after_push, new_token, with_running, without_message}
-use Rattle.host_core.specs.Start.{host_at_start, idle_host, last_token, main_frame}
-use Rattle.host_core.specs.Told.{IsUnsure, settled, told_key, with_wrong_tags}
+use Rattle.host_core.specs.Host.{HostShape, Outcome, with_running}
+use Rattle.host_core.specs.Told.{told_key, with_wrong_tags}
 use Rattle.host_core.specs.Turn.{IsRunning, IsTurnOf}
-use Rattle.event_text.specs.JournalText.{sent_words}
 use Rattle.event_text.specs.Lines.{words}
-use Rattle.event_text.specs.Words.{Word}
-use Rattle.wire_msg.specs.Frames.{IsMessage}
-use Rattle.journal_laws.specs.Bare.{bare_host, bare_message, bare_sent}
-use Rattle.journal_laws.specs.Plays.{AreNotedOf, HaveOwnNames, IsJournalOf, MayStep, Plays, step_words}
+use Rattle.journal_laws.specs.Plays.{step_words}
 use Rattle.journal_laws.specs.Steps.{Step, turns, takes, IsStep, after_running, after_turn, bare_step, told_step}
-use Rattle.journal_laws.specs.ToldPlays.{IsChosenStep, IsPlayed, IsToldStep, ToldPlays}
-use Rattle.journal_laws.proofs.AlikeSteps.{open_taken, open_turned}
 use Rattle.journal_laws.proofs.BareTakings.{printed_bare}
-use Rattle.journal_laws.proofs.CountedNames.{Rests, count, entry_hits, held_hits, hits, is_right, letter_hits, lying}
-use Rattle.journal_laws.proofs.CountedNames.{name_of, right_is, running_hits, settled_counts, step_counts, step_hits}
-use Rattle.journal_laws.proofs.FatedTags.{cast_same, fate_has, fate_right, fate_tag, fate_wrong, fits_tagged}
-use Rattle.journal_laws.proofs.FatedTags.{letter_fated, named, named_is, none, picked, real_picked, right_stays}
-use Rattle.journal_laws.proofs.FatedTags.{top_back, top_real, unfated, unsure_named, with_fate, wrong_picked}
-use Rattle.journal_laws.proofs.KeptStacks.{AreMade, HasStack, IsMade, StepPushes, SyncsOther, stack_kept}
-use Rattle.journal_laws.proofs.AlikeMoves.{check_syncs, made_bare, made_of, off_of, off_syncs, pushes, some_same}
-use Rattle.journal_laws.proofs.FollowedSteps as plays
-use Rattle.journal_laws.proofs.OffAgain.{IsStepBy, IsTop, MayBeTop, StepSyncs, TopIs, TopMayBe, check_told, held_of}
-use Rattle.journal_laws.proofs.OffAgain.{lgoto_of, lgoto_open, off_check}
-use Rattle.journal_laws.proofs.OffAgain.{presented, presented_cast, step_by, step_off, tagged_syncs, turn_open}
-use Rattle.journal_laws.proofs.OwnTags.{right_tag, same_number}
-use Rattle.journal_laws.proofs.Retagged.{AreCast, HasTags, IsCast, cast, cast_bare, cast_without, message_bare, sent_bare}
-use Rattle.journal_laws.proofs.Retagged.{step_cast, tagged, tagged_entry, tagged_message, tagged_step, tagged_thread}
-use Rattle.journal_laws.proofs.SameChecks.{CheckOf, CheckOfInstruction, CheckOfThread, same_takes_off, takes_off, told_of}
-use Rattle.journal_laws.proofs.SameFields as fields
-use Rattle.journal_laws.proofs.TakenOff.{RestsFor}
-use Rattle.journal_laws.proofs.WithoutHalt.{without_halt}
+use Rattle.journal_laws.proofs.CountedNames.{Rests, count, hits, letter_hits}
+use Rattle.journal_laws.proofs.CountedNames.{step_counts, step_hits}
+use Rattle.journal_laws.proofs.FatedTags.{fate_tag}
+use Rattle.journal_laws.proofs.FatedTags.{letter_fated, named, named_is, none}
+use Rattle.journal_laws.proofs.FatedTags.{wrong_picked}
+use Rattle.journal_laws.proofs.KeptStacks.{StepPushes, SyncsOther}
+use Rattle.journal_laws.proofs.AlikeMoves.{made_of}
+use Rattle.journal_laws.proofs.OffAgain.{IsStepBy}
+use Rattle.journal_laws.proofs.Retagged.{message_bare}
+use Rattle.journal_laws.proofs.Retagged.{tagged, tagged_message, tagged_step, tagged_thread}
+use Rattle.journal_laws.proofs.SameChecks.{CheckOfInstruction, CheckOfThread}
 
 pub both_ways : {A B C : Type 0} → A ↔ B → B ↔ C → A ↔ C
 both_ways one two = (λ a. two.0 (one.0 a), λ c. one.1 (two.1 c))
@@ -63,8 +42,8 @@ none_some one is = cc
 
 -- ---- a step by its truth value
 
-pub step_is : (code : CodeShape) (host : HostShape) (step : Step) (outcome : Outcome) → IsStepBy code host step outcome →
-    IsStep code host step outcome
+pub step_is : (code : CodeShape) (host : HostShape) (step : Step) (outcome : Outcome) →
+    IsStepBy code host step outcome → IsStep code host step outcome
 step_is code host (takes from letter) outcome (passes, is, check) = (passes, check, is)
 step_is code host turns outcome (passes, is, check) = by host.running is check
   where
@@ -88,7 +67,8 @@ move_of name step = tagged_step (named name) step
 abbrev pub real_of : (ℕ → Bool) → ℕ → Step → Step
 real_of fate name step = tagged_step (fate_tag fate) (move_of name step)
 
-pub told_move : (name : ℕ) (step : Step) → (name == 0) ≡ false → tagged_step (fate_tag none) (move_of name step) ≡ made_of step
+pub told_move : (name : ℕ) (step : Step) → (name == 0) ≡ false →
+    tagged_step (fate_tag none) (move_of name step) ≡ made_of step
 told_move name turns some = refl
 told_move name (takes from letter) some = ap (takes from) (letter_fated none name letter some ∙ wrong_picked letter)
 
@@ -153,9 +133,11 @@ named_hits name next token =
 pub one_more : (next name : ℕ) (before after more : ℕ) → after ≤ before + more →
     (more ≡ 0) ⊎ (more ≡ (if next == name then 1 else 0)) →
     (next ≤ name → before ≡ 0) → before ≤ 1 → (after ≤ 1) × (suc next ≤ name → after ≡ 0)
-one_more next name before after more few (inl is) fresh single =
-    (omega (arith, few, is, single), λ past. let zero_before = fresh (omega (arith, past)) in
-    omega (arith, few, is, zero_before))
+one_more next name before after more few (inl is) fresh single = (
+  omega (arith, few, is, single),
+  λ past. let zero_before = fresh (omega (arith, past)) in
+      omega (arith, few, is, zero_before),
+)
 one_more next name before after more few (inr is) fresh single = by (next == name) refl
   where
     by : (same : Bool) → (next == name) ≡ same → (after ≤ 1) × (suc next ≤ name → after ≡ 0)
@@ -165,9 +147,11 @@ one_more next name before after more few (inr is) fresh single = by (next == nam
         let before_none = fresh (omega (arith, same)) in
         (omega (arith, few, one, before_none), λ past. absurd (omega (arith, past, same)))
     by false here =
-        let zero_more : more ≡ 0 = is ∙ (rw here refl) in
-        (omega (arith, few, zero_more, single), λ past. let before_none = fresh (omega (arith, past)) in
-        omega (arith, few, zero_more, before_none))
+        let zero_more : more ≡ 0 = is ∙ (rw here refl) in (
+          omega (arith, few, zero_more, single),
+          λ past. let before_none = fresh (omega (arith, past)) in
+              omega (arith, few, zero_more, before_none),
+        )
 
 pub letter_named : (name next : ℕ) (letter : Message) →
     (letter_hits name (tagged_message (named next) letter) ≡ 0)
@@ -208,7 +192,8 @@ names_on code next host step passes names rest key other = record {
         (step_named name next step) (names.fresh name) (names.single name)
 
     by : (step_hits 0 (move_of next step) ≡ 0) ⊎ (step_hits 0 (move_of next step) ≡ (if next == 0 then 1 else 0)) →
-        count 0 (told_step code host (move_of next step) passes).state ≤ count 0 host + step_hits 0 (move_of next step) →
+        count 0 (told_step code host (move_of next step) passes).state 
+        ≤ count 0 host + step_hits 0 (move_of next step) →
         count 0 (told_step code host (move_of next step) passes).state ≡ 0
     by (inl is) few = let before = names.zero_none in omega (arith, few, is, before)
     by (inr is) few =

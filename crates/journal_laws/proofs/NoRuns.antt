@@ -1,49 +1,37 @@
 -- A host that was played and does not go on by a line stands for all hosts: none has the lines so far and this one.
-use Rattle.std.proofs.Common.{◌≡◌, ◌≢◌, ◌∙◌, ◌⊎◌, ◌↔◌, Bool, true, false, ℕ, ℤ, refl, ap, sym, subst, List, [], ◌∷◌}
+use Rattle.std.proofs.Common.{◌≡◌, ◌≢◌, ◌∙◌, ◌⊎◌, Bool, true, false, ℕ, ℤ, refl, ap, sym, subst, List, [], ◌∷◌}
 use Rattle.std.proofs.Common.{◌++◌, append_assoc, inl, inr}
 use Rattle.std.proofs.lemmas.List.{append_cancel_left}
-use Rattle.std.specs.Prelude.{Option, Some, None, IsSome, IsTrue, All, map, filter, slice_index, slice_set, ◌==◌, ◌+◌, ⊤}
+use Rattle.std.specs.Prelude.{Option, Some, None, IsSome, slice_index, slice_set, ◌==◌, ◌+◌, ⊤}
 use Rattle.std.specs.Option.{option_map}
-use Rattle.std.proofs.lemmas.Bool.{cases_Bool, false≢true}
-use Rattle.std.proofs.lemmas.List.Elements.{All-head}
+use Rattle.std.proofs.lemmas.Bool.{false≢true}
 use Rattle.js_base.specs.declared.ids.HostId.{HostId}
 use Rattle.capability.specs.declared.token.Token.{Token}
-use Rattle.ics_stack.specs.declared.stack.StackEntry.{StackEntry}
-use Rattle.ics_stack.specs.Stack.{top_token}
 use Rattle.host_code.specs.declared.message.Message.{Message}
-use Rattle.host_code.specs.declared.message.Message.TheVariants as message
 use Rattle.host_code.specs.declared.code.Entry.{Entry}
 use Rattle.host_code.specs.Code.{CodeShape, entry_at, halt}
 use Rattle.host_code.specs.Sound.{IsHost, IsOther, IsSoundCode}
 use Rattle.host_code.specs.Thread.{ThreadShape}
-use Rattle.host_core.specs.Fits.{EntryFits, IsEntryOf, StateFits}
-use Rattle.host_core.specs.Host.{HostShape, Outcome, after_entering, after_push, new_token, thread_at, with_running}
-use Rattle.host_core.specs.Host.{without_message}
+use Rattle.host_core.specs.Fits.{StateFits}
+use Rattle.host_core.specs.Host.{HostShape, Outcome, after_entering, after_push, new_token, thread_at}
 use Rattle.host_core.specs.Start.{host_at_start, idle_host, last_token, main_frame}
-use Rattle.host_core.specs.Told.{IsUnsure, settled, told_key, with_wrong_tags}
+use Rattle.host_core.specs.Told.{told_key}
 use Rattle.event_text.specs.Words.{Word}
-use Rattle.journal_laws.specs.Bare.{bare_host, bare_message, bare_sent, bare_thread}
-use Rattle.event_text.specs.JournalText.{IsSendLine, sent_words, turn_words}
+use Rattle.journal_laws.specs.Bare.{bare_thread}
+use Rattle.event_text.specs.JournalText.{IsSendLine, sent_words}
 use Rattle.journal_laws.specs.Plays.{AreNotedOf, HaveOwnNames, IsJournalOf, MayStep, Plays, step_words}
-use Rattle.journal_laws.specs.Steps.{Step, turns, takes, IsStep, bare_step, told_step}
+use Rattle.journal_laws.specs.Steps.{Step, turns, takes}
 use Rattle.journal_laws.specs.ToldPlays.{ByNext, HasNoStep, IsBarred, IsChosenStep, IsPlayedBefore, IsToldStep}
-use Rattle.journal_laws.specs.ToldPlays.{PlaysLast, ToldPlays, TurnsNext}
-use Rattle.journal_laws.proofs.AlikeSteps.{ArePart, open_taken, open_turned, wrong_alike}
-use Rattle.journal_laws.proofs.KeptStacks.{AreMade, HasStack, IsMade, StepPushes, SyncsOther, stack_kept}
-use Rattle.journal_laws.proofs.OffAgain.{IsStepBy, IsTop, MayBeTop, StepSyncs, check_told, first_lasting, off_check}
-use Rattle.journal_laws.proofs.OffAgain.{open_lgoto, open_turn, passing_syncs, presented, presented_cast, started}
-use Rattle.journal_laws.proofs.OffAgain.{step_by, step_off, step_without, still, still_ignored, tagged_syncs}
-use Rattle.journal_laws.proofs.OffAgain.{HasTop, IsStill, thread_pushes, told_off, top_or_none}
-use Rattle.journal_laws.proofs.OwnTags.{marked, marked_real, marked_told, real_has, real_marked, real_tag, same_told}
+use Rattle.journal_laws.specs.ToldPlays.{PlaysLast, ToldPlays}
+use Rattle.journal_laws.proofs.AlikeSteps.{ArePart}
+use Rattle.journal_laws.proofs.KeptStacks.{HasStack}
+use Rattle.journal_laws.proofs.OwnTags.{marked, real_has, real_marked, real_tag}
 use Rattle.journal_laws.proofs.OwnTags.{told_has, told_tag}
-use Rattle.journal_laws.proofs.Retagged.{AreCast, HasTags, IsCast, cast, cast_bare, cast_without, message_bare, popped}
-use Rattle.journal_laws.proofs.Retagged.{sent_bare, step_cast, tagged, tagged_entry, tagged_message, tagged_step}
-use Rattle.journal_laws.proofs.Retagged.{tagged_thread}
-use Rattle.journal_laws.proofs.SameChecks.{CheckOf, is_lgoto, same_takes_off, same_value, takes_off, told_of}
+use Rattle.journal_laws.proofs.Retagged.{IsCast, cast}
+use Rattle.journal_laws.proofs.Retagged.{tagged}
+use Rattle.journal_laws.proofs.SameChecks.{told_of}
 use Rattle.journal_laws.proofs.SameFields as fields
-use Rattle.journal_laws.proofs.TakenOff.{HasStarted, RestsFor}
-use Rattle.journal_laws.proofs.WithoutHalt.{halt_left_out, is_lasting, without_halt}
-use Rattle.journal_laws.proofs.AlikeMoves.{made_of, is_turn, from_or, letter_or, made_told, made_real, made_bare, marked_bare, chosen_told, rests_made, off_syncs, check_syncs, marked_syncs, pushes, both_ways, some_same, IsOff, off_of, agree}
+use Rattle.journal_laws.proofs.WithoutHalt.{without_halt}
 use Rattle.journal_laws.proofs.FollowedSteps as followed
 
 module _ (code : CodeShape) (sound : IsSoundCode code) (own : HaveOwnNames code) where
@@ -73,9 +61,13 @@ module _ (code : CodeShape) (sound : IsSoundCode code) (own : HaveOwnNames code)
   rooted_follows values me key found fits fits_real = record {
     both = both_rooted values me found;
     told = told_part found;
-    casts = (0, false, ap (λ token. goes found token (last_token me)) made
-        ∙ ap (goes found (tagged (real_tag key) token)) (sym (real_marked key (last_token me)))
-        ∙ same found);
+    casts = (
+      0,
+      false,
+      ap (λ token. goes found token (last_token me)) made
+          ∙ ap (goes found (tagged (real_tag key) token)) (sym (real_marked key (last_token me)))
+          ∙ same found,
+    );
     stack = stack_part found;
     stack_both = both_part found;
     fits = fits;
@@ -112,10 +104,13 @@ module _ (code : CodeShape) (sound : IsSoundCode code) (own : HaveOwnNames code)
           IsCast told_tag told_key (without_halt (rooted values told_key me found))
           (without_halt (both_rooted values me found))
       told_part None = (0, false, refl)
-      told_part (Some entry) =
-          (0, false, ap (λ one. record (without_halt (rooted values told_key me (Some entry))) {
-            running = Some (thread_at entry main_frame one);
-          }) made_told)
+      told_part (Some entry) = (
+        0,
+        false,
+        ap (λ one. record (without_halt (rooted values told_key me (Some entry))) {
+          running = Some (thread_at entry main_frame one);
+        }) made_told,
+      )
 
       stack_part : (found : Option Entry) → HasStack told_key (rooted values told_key me found)
       stack_part None = record { key_is = refl; made = (refl, tt); low = tt }
@@ -229,7 +224,8 @@ module _ (code : CodeShape) (sound : IsSoundCode code) (own : HaveOwnNames code)
         plays = subst (Plays code real others end) (left ∙ ap (λ (front : List (List Word)). front ++ rest) plays.1) go;
         stands = inl (subst (λ h. Follows key h real) plays.0 follows);
       }
-  along key (step ∷ steps) [] host real last end lines more rest follows (outcome, later, may, is, play, whole) go left =
+  along key (step ∷ steps) [] host real last end lines more rest follows
+      (outcome, later, may, is, play, whole) go left =
       absurd (none_left _ _ more go.1 (left ∙ ap (λ (front : List (List Word)). front ++ rest) whole))
   along key (step ∷ steps) (another ∷ others) host real last end lines more rest follows
       (outcome, later, may, is, play, whole) (beside, after, also, made, go, all) left =
@@ -271,7 +267,8 @@ module _ (code : CodeShape) (sound : IsSoundCode code) (own : HaveOwnNames code)
   -- the played host may make the step that the real one makes
   may_too : (key : List ℕ) (host real : HostShape) (step : Step) → Follows key host real → MayStep code real step →
       MayStep code host step
-  may_too key host real turns follows may = runs_told host real (followed.same_told_of code sound own key host real follows) may
+  may_too key host real turns follows may =
+      runs_told host real (followed.same_told_of code sound own key host real follows) may
   may_too key host real (takes from letter) follows may =
       let same = followed.same_told_of code sound own key host real follows in
       record {
@@ -326,7 +323,8 @@ module _ (code : CodeShape) (sound : IsSoundCode code) (own : HaveOwnNames code)
       let words : step_words code played.step ≡ step_words code another = sym (ap (first_or []) lines_are) in
       let alike = fields.same_steps code sound own played.before real played.step another played.may also words in
       let tails = ap rest_of lines_are in
-      elim (followed.meets code sound own key played.before real played.step another (ByNext (line ∷ [])) outcome beside follows played.may also
+      elim (followed.meets code sound own key played.before real played.step another (ByNext (line ∷ [])) outcome beside
+      follows played.may also
       alike played.is made) [
         | inl on ↦
             no_step key last beside.state others end line after behind on.0 none go

@@ -1,7 +1,8 @@
 -- A step that takes off the top entry or ignores a token, with the token that it presents, and what is left where the
 -- entry that ends the program stands at the bottom alone.
-use Rattle.std.proofs.Common.{◌≡◌, ◌∙◌, ◌⊎◌, ◌+◌, ℕ, Bool, true, false, refl, ap, sym, subst, List, [], ◌∷◌, inl, inr, arith}
-use Rattle.std.specs.Prelude.{◌==◌, ◌&&◌, ◌↔◌, Option, Some, None, IsSome, IsSomeAnd, IsTrue, ⊤, filter}
+use Rattle.std.proofs.Common.{◌≡◌, ◌∙◌, ◌⊎◌, ◌+◌, ℕ, Bool, true, false, refl, ap, sym, subst, List, [], ◌∷◌, inl, inr}
+use Rattle.std.proofs.Common.{arith}
+use Rattle.std.specs.Prelude.{◌==◌, ◌&&◌, ◌↔◌, Option, Some, None, IsSomeAnd, IsTrue, ⊤, filter}
 use Rattle.std.specs.Option.{option_map}
 use Rattle.std.proofs.lemmas.Bool.{false≢true}
 use Rattle.std.proofs.lemmas.Bool.Decides.{nat_tests}
@@ -19,7 +20,7 @@ use Rattle.host_code.specs.Code.{CodeShape, entry_at, halt, instruction_at}
 use Rattle.host_code.specs.Sound.{IsHost, IsSoundCode, OperationFits}
 use Rattle.host_code.specs.Thread.{ThreadShape}
 use Rattle.host_core.specs.Fits.{IsEntryOf}
-use Rattle.host_core.specs.Host.{HostShape, Outcome, after_entering, after_pop, with_running, without_message}
+use Rattle.host_core.specs.Host.{HostShape, Outcome, after_pop, with_running, without_message}
 use Rattle.host_core.specs.Taking.{Passes, after_taking}
 use Rattle.host_core.specs.Told.{IsOpenInstruction, IsOpenOperation, IsOpenTaking, IsOpenTurnOf, IsUnsure}
 use Rattle.host_core.specs.Told.{after_told_back, settled}
@@ -28,7 +29,7 @@ use Rattle.journal_laws.specs.Bare.{bare_thread, bare_token}
 use Rattle.journal_laws.specs.Steps.{Step, turns, takes, IsStep, after_running, after_turn, told_step, bare_step}
 use Rattle.journal_laws.proofs.KeptStacks.{AreLow, FoundPushes, PushesOther, SyncsOther, ThreadPushes}
 use Rattle.journal_laws.proofs.Retagged.{cast, tagged, tagged_message, tagged_step, tagged_thread}
-use Rattle.journal_laws.proofs.SameChecks.{CheckOf, CheckOfInstruction, CheckOfThread, asks_other, is_back, is_lgoto}
+use Rattle.journal_laws.proofs.SameChecks.{CheckOf, CheckOfInstruction, CheckOfThread, is_back, is_lgoto}
 use Rattle.journal_laws.proofs.SameChecks.{instruction_takes_off, is_own, leaves_halt, returning_told, taking_told}
 use Rattle.journal_laws.proofs.SameChecks.{takes_off, thread_takes_off, told_of}
 use Rattle.journal_laws.proofs.TakenOff.{HasStarted, RestsFor, at_rest}
@@ -287,7 +288,8 @@ lgoto_tagged tags (message.Token request token) = refl
 
 pub presented_cast : (tags : Token → List ℕ) (key : List ℕ) (ignored : ℕ) (halted : Bool) (host : HostShape)
     (step : Step) →
-    presented (cast tags key ignored halted host) (tagged_step tags step) ≡ option_map (tagged tags) (presented host step)
+    presented (cast tags key ignored halted host) (tagged_step tags step)
+    ≡ option_map (tagged tags) (presented host step)
 presented_cast tags key ignored halted host turns = held_tagged tags host.running
 presented_cast tags key ignored halted host (takes from letter) = lgoto_tagged tags letter
 

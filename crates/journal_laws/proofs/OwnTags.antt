@@ -1,16 +1,13 @@
 -- Tags by which one host stands for two: a host with any key, and one that is played from its journal. Their own tokens
 -- are those that it made with the key of played hosts. Any other token has a mark: a tag of which the first byte is not
 -- that of the tag it would make.
-use Rattle.std.proofs.Common.{◌≡◌, ◌≢◌, ◌∙◌, ℕ, Bool, true, false, refl, ap, sym, subst, List, [], ◌∷◌, ◌++◌, arith}
-use Rattle.std.proofs.Common.{zero, suc, length, take, w32}
-use Rattle.std.specs.Prelude.{◌==◌, ◌*◌, ◌<◌, ◌≤◌, if◌then◌else◌, slice_index, slice_set}
+use Rattle.std.proofs.Common.{◌≡◌, ◌≢◌, ◌∙◌, ℕ, Bool, true, false, refl, ap, sym, List, [], ◌∷◌, ◌++◌, arith}
+use Rattle.std.proofs.Common.{zero, suc, length, w32}
+use Rattle.std.specs.Prelude.{◌==◌, ◌*◌, if◌then◌else◌, slice_index}
 use Rattle.std.specs.Int.{to_be_bytes}
 use Rattle.std.proofs.lemmas.Bool.Decides.{nat_tests}
 use Rattle.std.proofs.lemmas.List.{get_or-set_same, length-append, length-take-le}
 use Rattle.sha2.specs.Sha256.{digest_bytes, final_hash, initial_hash_256, sha256}
-use Rattle.js_base.specs.declared.ids.HostId.{HostId}
-use Rattle.js_base.specs.declared.ids.FrameId.{FrameId}
-use Rattle.js_base.specs.declared.ids.EntryId.{EntryId}
 use Rattle.capability.specs.declared.tags.TheConstants.{TAG_BYTES}
 use Rattle.capability.specs.declared.token.Token.{Token}
 use Rattle.capability.specs.Tag.{tag_of, token_bytes}

@@ -1,9 +1,9 @@
 -- A host that was played stands for a real one: under the key of played hosts some run has these lines and leaves these
 -- fields. The tags of the tokens that the real host takes are chosen from the end on. Each of them is presented once at
 -- the most, and there it is right just where the step passed.
-use Rattle.std.proofs.Common.{◌≡◌, ◌≢◌, ◌∙◌, ◌⊎◌, ◌↔◌, ◌+◌, ◌≤◌, Bool, true, false, ℕ, ℤ, suc, refl, ap, sym, subst}
-use Rattle.std.proofs.Common.{List, [], ◌∷◌, ◌++◌, append_assoc, inl, inr, arith, codes}
-use Rattle.std.specs.Prelude.{Option, Some, None, IsSome, IsTrue, map, slice_index, slice_set, ◌==◌, if◌then◌else◌, ⊤}
+use Rattle.std.proofs.Common.{◌≡◌, ◌∙◌, ◌⊎◌, ◌↔◌, ◌+◌, Bool, true, false, ℕ, ℤ, suc, refl, ap, sym, subst}
+use Rattle.std.proofs.Common.{List, [], ◌∷◌, ◌++◌, inl, inr, arith}
+use Rattle.std.specs.Prelude.{Option, Some, None, IsSome, IsTrue, map, slice_index, slice_set, ◌==◌, if◌then◌else◌}
 use Rattle.std.specs.Option.{option_map}
 use Rattle.std.proofs.lemmas.Bool.{false≢true}
 use Rattle.std.proofs.lemmas.Bool.Decides.{nat_tests}
@@ -12,47 +12,43 @@ use Rattle.capability.specs.declared.token.Token.{Token}
 use Rattle.ics_stack.specs.declared.stack.StackEntry.{StackEntry}
 use Rattle.ics_stack.specs.Stack.{top_token}
 use Rattle.host_code.specs.declared.code.Entry.{Entry}
-use Rattle.host_code.specs.declared.instruction.Instr.{Instr}
 use Rattle.host_code.specs.declared.message.Message.{Message}
 use Rattle.host_code.specs.declared.message.Message.TheVariants as message
-use Rattle.host_code.specs.Code.{CodeShape, entry_at, halt, instruction_at}
-use Rattle.host_code.specs.MessageText.{host_text, message_text}
+use Rattle.host_code.specs.Code.{CodeShape, entry_at, halt}
 use Rattle.host_code.specs.Sound.{IsHost, IsOther, IsSoundCode}
 use Rattle.host_code.specs.Thread.{ThreadShape}
 use Rattle.host_core.specs.Fits.{StateFits}
-use Rattle.host_core.specs.Host.{HostShape, Outcome, after_entering, after_push, new_token, with_running, without_message}
+use Rattle.host_core.specs.Host.{HostShape, Outcome, after_entering, after_push, new_token, without_message}
 use Rattle.host_core.specs.Start.{host_at_start, idle_host, last_token, main_frame}
 use Rattle.host_core.specs.Told.{IsUnsure, settled, told_key, with_wrong_tags}
-use Rattle.host_core.specs.Turn.{IsRunning, IsTurnOf}
 use Rattle.event_text.specs.JournalText.{sent_words}
-use Rattle.event_text.specs.Lines.{words}
 use Rattle.event_text.specs.Words.{Word}
 use Rattle.wire_msg.specs.Frames.{IsMessage}
-use Rattle.journal_laws.specs.Bare.{bare_host, bare_message, bare_sent}
-use Rattle.journal_laws.specs.Plays.{AreNotedOf, HaveOwnNames, IsJournalOf, MayStep, Plays, step_words}
-use Rattle.journal_laws.specs.Steps.{Step, turns, takes, IsStep, after_running, after_turn, bare_step, told_step}
+use Rattle.journal_laws.specs.Bare.{bare_host, bare_sent}
+use Rattle.journal_laws.specs.Plays.{HaveOwnNames, IsJournalOf, MayStep, Plays, step_words}
+use Rattle.journal_laws.specs.Steps.{Step, turns, takes, bare_step, told_step}
 use Rattle.journal_laws.specs.ToldPlays.{IsChosenStep, IsPlayed, IsToldStep, ToldPlays}
-use Rattle.journal_laws.proofs.AlikeSteps.{open_taken, open_turned}
-use Rattle.journal_laws.proofs.BareTakings.{printed_bare}
-use Rattle.journal_laws.proofs.CountedNames.{Rests, count, entry_hits, held_hits, hits, is_right, letter_hits, lying}
-use Rattle.journal_laws.proofs.CountedNames.{name_of, right_is, running_hits, settled_counts, step_counts, step_hits}
+use Rattle.journal_laws.proofs.CountedNames.{Rests, count, entry_hits, held_hits, hits, is_right, lying}
+use Rattle.journal_laws.proofs.CountedNames.{name_of, right_is, running_hits, settled_counts}
 use Rattle.journal_laws.proofs.FatedTags.{cast_same, fate_has, fate_right, fate_tag, fate_wrong, fits_tagged}
-use Rattle.journal_laws.proofs.FatedTags.{letter_fated, named, named_is, none, picked, real_picked, right_stays}
-use Rattle.journal_laws.proofs.FatedTags.{top_back, top_real, unfated, unsure_named, with_fate, wrong_picked}
-use Rattle.journal_laws.proofs.KeptStacks.{AreMade, HasStack, IsMade, StepPushes, SyncsOther, stack_kept}
+use Rattle.journal_laws.proofs.FatedTags.{letter_fated, named, none, real_picked, right_stays}
+use Rattle.journal_laws.proofs.FatedTags.{top_back, top_real, unfated, unsure_named, with_fate}
+use Rattle.journal_laws.proofs.KeptStacks.{AreMade, HasStack, stack_kept}
 use Rattle.journal_laws.proofs.AlikeMoves.{check_syncs, made_bare, made_of, off_of, off_syncs, pushes, some_same}
 use Rattle.journal_laws.proofs.FollowedSteps as plays
-use Rattle.journal_laws.proofs.OffAgain.{IsStepBy, IsTop, MayBeTop, StepSyncs, TopIs, TopMayBe, check_told, held_of}
+use Rattle.journal_laws.proofs.OffAgain.{IsTop, MayBeTop, StepSyncs, TopIs, TopMayBe, check_told, held_of}
 use Rattle.journal_laws.proofs.OffAgain.{lgoto_of, lgoto_open, off_check}
 use Rattle.journal_laws.proofs.OffAgain.{presented, presented_cast, step_by, step_off, tagged_syncs, turn_open}
-use Rattle.journal_laws.proofs.OwnTags.{right_tag, same_number}
-use Rattle.journal_laws.proofs.Retagged.{AreCast, HasTags, IsCast, cast, cast_bare, cast_without, message_bare, sent_bare}
+use Rattle.journal_laws.proofs.OwnTags.{same_number}
+use Rattle.journal_laws.proofs.Retagged.{AreCast, HasTags, IsCast, cast, cast_bare, cast_without, sent_bare}
 use Rattle.journal_laws.proofs.Retagged.{step_cast, tagged, tagged_entry, tagged_message, tagged_step, tagged_thread}
-use Rattle.journal_laws.proofs.SameChecks.{CheckOf, CheckOfInstruction, CheckOfThread, same_takes_off, takes_off, told_of}
+use Rattle.journal_laws.proofs.SameChecks.{CheckOf, same_takes_off, takes_off, told_of}
 use Rattle.journal_laws.proofs.SameFields as fields
 use Rattle.journal_laws.proofs.TakenOff.{RestsFor}
 use Rattle.journal_laws.proofs.WithoutHalt.{without_halt}
-use Rattle.journal_laws.proofs.NamedSteps.{Names, both_ways, turned, none_some, step_is, move_of, real_of, told_move, tagged_bare, tagged_words, running_runs, runs_running, none_before, made_syncs, not_zero, named_hits, one_more, letter_named, step_named, names_on}
+use Rattle.journal_laws.proofs.NamedSteps.{Names, both_ways, turned, none_some, step_is, move_of, real_of, told_move}
+use Rattle.journal_laws.proofs.NamedSteps.{tagged_bare, tagged_words, running_runs, runs_running, none_before}
+use Rattle.journal_laws.proofs.NamedSteps.{made_syncs, not_zero, names_on}
 
 module _ (code : CodeShape) (sound : IsSoundCode code) (own : HaveOwnNames code) where
   -- the played host is the third one, where no token that was taken is right
@@ -239,7 +235,8 @@ module _ (code : CodeShape) (sound : IsSoundCode code) (own : HaveOwnNames code)
             why = inl (off, check);
           }
       by true off =
-          let (passes, is, why) = off_of code (λ passes. MayBeTop host (presented host (made_of step))) host step outcome
+          let (passes, is, why) = off_of code (λ passes. MayBeTop host (presented host (made_of step))) host step
+          outcome
           off (rests_made host step may) (open_chosen host step outcome told) in
           record {
             passes = passes;
@@ -513,8 +510,8 @@ module _ (code : CodeShape) (sound : IsSoundCode code) (own : HaveOwnNames code)
   played_run (step ∷ steps) next host both last lines plain (outcome, later, may, told, play, whole) =
       let made = made_by host step outcome plain.fits may told in
       let on = plain_on next host both step outcome made.passes plain may told made.is made.syncs in
-      let run = played_run steps (suc next) outcome.state (told_step code both (move_of next step) made.passes).state last
-      later on play in
+      let run = played_run steps (suc next) outcome.state (told_step code both (move_of next step) made.passes).state
+      last later on play in
       subst (HasRun both last) (sym whole)
       (run_step next host both last step outcome later plain may made on.stack.made run)
 
@@ -653,8 +650,7 @@ module _ (code : CodeShape) (sound : IsSoundCode code) (own : HaveOwnNames code)
   real_run values me lines shown there (steps, all, play, noted) =
       let start = host_at_start code values told_key me in
       let run = played_run steps 1 start start shown all (start_plain values me there) play in
-      let (made, end, plays, rows) = run.runs 0 false in
-      (
+      let (made, end, plays, rows) = run.runs 0 false in (
         made,
         end,
         (all, subst (λ h. Plays code h made end all) (sym (start_same run.fate values me)) plays, noted),

@@ -1,11 +1,11 @@
 -- A host whose tokens have other tags makes the same steps, for the same truth values. Where it makes a token of its
 -- own, the tag that stands for that of the host is the one that it makes.
-use Rattle.std.proofs.Common.{◌≡◌, ◌∙◌, ℕ, Bool, true, false, refl, ap, sym, List, [], ◌∷◌, ◌++◌}
+use Rattle.std.proofs.Common.{◌≡◌, ℕ, Bool, true, false, refl, ap, sym, List, [], ◌∷◌, ◌++◌}
 use Rattle.std.proofs.lemmas.List.{length-map}
 use Rattle.std.proofs.lemmas.Option.{slice_get-map}
 use Rattle.std.specs.List.{prefix_len}
 use Rattle.std.specs.Prelude.{◌==◌, ◌+◌, Option, Some, None, map, not, cond, slice_get, remove, position, pos}
-use Rattle.std.specs.Prelude.{slice_index, slice_set, if◌then◌else◌, filter}
+use Rattle.std.specs.Prelude.{slice_index, slice_set, filter}
 use Rattle.std.specs.Option.{option_map}
 use Rattle.std.specs.Ordering.{int_eq}
 use Rattle.js_base.specs.declared.ids.HostId.{HostId}
@@ -31,13 +31,13 @@ use Rattle.host_code.specs.Code.{CodeShape, CodeFieldShape, entry_at, field_at, 
 use Rattle.host_core.specs.Awaiting.{awaits}
 use Rattle.host_core.specs.Host.{HostShape, Outcome, after_asking, after_entering, after_pop, next_request, new_token}
 use Rattle.host_core.specs.Host.{with_running, with_variable_set, with_variables_set, with_temporary, with_token}
-use Rattle.host_core.specs.Host.{value_in_thread, after_step, after_push}
+use Rattle.host_core.specs.Host.{value_in_thread, after_step}
 use Rattle.host_core.specs.Taking.{after_taking, after_passing, after_answer, place_of_awaiting}
 use Rattle.host_core.specs.Turn.{after_operation, after_read, after_put, after_branch, after_own_push, after_ask}
 use Rattle.host_core.specs.Turn.{after_go, after_go_with, after_own_call, after_call, after_return, after_back}
 use Rattle.journal_laws.specs.Bare.{bare_entry, bare_host, bare_message, bare_sent, bare_thread, bare_token}
 use Rattle.journal_laws.specs.Bare.{bare_waiting}
-use Rattle.journal_laws.specs.Steps.{Step, turns, takes, told_step, after_turn, after_running, bare_step}
+use Rattle.journal_laws.specs.Steps.{Step, turns, takes, told_step, after_turn, after_running}
 use Rattle.journal_laws.proofs.BareTakings.{remove_map}
 use Rattle.journal_laws.proofs.WithoutHalt.{is_lasting, without_halt}
 
@@ -240,8 +240,15 @@ module _ (tags : Token → List ℕ) (key : List ℕ) where
           (after_read (cast tags key ignored halted host) (tagged_thread tags thread) field index (Some there))
           (after_read host thread field index (Some there))
       by true is = rw is ((ignored, halted, refl), refl)
-      by false is = rw is ((ignored, halted, asked ignored halted host thread.at (after_step thread) value_of_field
-          there.host), refl)
+      by false is = rw is (
+        (
+          ignored,
+          halted,
+          asked ignored halted host thread.at (after_step thread) value_of_field
+              there.host,
+        ),
+        refl,
+      )
 
   put_cast : (ignored : ℕ) (halted : Bool) (host : HostShape) (thread : ThreadShape) (field : FieldId)
       (index value : List Node) (there : Option CodeFieldShape) →
@@ -256,8 +263,15 @@ module _ (tags : Token → List ℕ) (key : List ℕ) where
           (after_put (cast tags key ignored halted host) (tagged_thread tags thread) field index value (Some there))
           (after_put host thread field index value (Some there))
       by true is = rw is ((ignored, halted, refl), refl)
-      by false is = rw is ((ignored, halted, asked ignored halted host thread.at
-          (record thread { at = thread.at + 1; temporaries = [] }) acknowledgement there.host), refl)
+      by false is = rw is (
+        (
+          ignored,
+          halted,
+          asked ignored halted host thread.at
+              (record thread { at = thread.at + 1; temporaries = [] }) acknowledgement there.host,
+        ),
+        refl,
+      )
 
   branch_cast : (ignored : ℕ) (halted : Bool) (host : HostShape) (thread : ThreadShape) (guard : List Node)
       (target : ℕ) →
@@ -274,12 +288,14 @@ module _ (tags : Token → List ℕ) (key : List ℕ) where
   ask_cast : (ignored : ℕ) (halted : Bool) (host : HostShape) (thread : ThreadShape) (entry : EntryId) (on : HostId)
       (held : Option Token) →
       AreCast tags key
-      (after_ask (cast tags key ignored halted host) (tagged_thread tags thread) entry on (option_map (tagged tags) held))
+      (after_ask (cast tags key ignored halted host) (tagged_thread tags thread) entry on
+      (option_map (tagged tags) held))
       (after_ask host thread entry on held)
   ask_cast ignored halted host thread entry on None = ((ignored, halted, refl), refl)
-  ask_cast ignored halted host thread entry on (Some held) =
-      ((ignored, halted, asked ignored halted host thread.at (with_token None (after_step thread)) token_of_entry on),
-      refl)
+  ask_cast ignored halted host thread entry on (Some held) = (
+    (ignored, halted, asked ignored halted host thread.at (with_token None (after_step thread)) token_of_entry on),
+    refl,
+  )
 
   go_cast : (ignored : ℕ) (halted : Bool) (host : HostShape) (thread : ThreadShape) (frame : FrameId)
       (entry : EntryId) (on : HostId) (held : Option Token) →
@@ -328,8 +344,15 @@ module _ (tags : Token → List ℕ) (key : List ℕ) where
           (after_return (cast tags key ignored halted host) (tagged_thread tags thread) variable value
           (Some (tagged tags held)) may) (after_return host thread variable value (Some held) may)
       by true is may = rw is ((ignored, halted, refl), refl)
-      by false is true = rw is ((ignored, halted, asked ignored halted host thread.at
-          (record thread { at = thread.at + 1; temporaries = [] }) acknowledgement held.host), refl)
+      by false is true = rw is (
+        (
+          ignored,
+          halted,
+          asked ignored halted host thread.at
+              (record thread { at = thread.at + 1; temporaries = [] }) acknowledgement held.host,
+        ),
+        refl,
+      )
       by false is false = rw is ((ignored, halted, refl), refl)
 
   back_cast : (code : CodeShape) (ignored : ℕ) (halted : Bool) (host : HostShape) (thread : ThreadShape)
@@ -342,8 +365,8 @@ module _ (tags : Token → List ℕ) (key : List ℕ) where
     where
       by : (own : Bool) → (held.host.0 == host.me.0) ≡ own → (may : Bool) →
           AreCast tags key
-          (after_back code (cast tags key ignored halted host) (tagged_thread tags thread) (Some (tagged tags held)) may)
-          (after_back code host thread (Some held) may)
+          (after_back code (cast tags key ignored halted host) (tagged_thread tags thread)
+          (Some (tagged tags held)) may) (after_back code host thread (Some held) may)
       by true is true = rw is (popped code ignored halted (with_running host None) host.entries, refl)
       by true is false = rw is ((ignored + 1, halted, refl), refl)
       by false is may = rw is ((ignored, halted, refl), refl)
@@ -358,7 +381,8 @@ module _ (tags : Token → List ℕ) (key : List ℕ) where
   push_cast : (ignored : ℕ) (halted : Bool) (host : HostShape) (thread : ThreadShape) (entry : EntryId)
       (held : Option Token) → HasTags tags host.key key →
       AreCast tags key
-      (after_own_push (cast tags key ignored halted host) (tagged_thread tags thread) entry (option_map (tagged tags) held))
+      (after_own_push (cast tags key ignored halted host) (tagged_thread tags thread) entry
+      (option_map (tagged tags) held))
       (after_own_push host thread entry held)
   push_cast ignored halted host thread entry None made = ((ignored, halted, refl), refl)
   push_cast ignored halted host thread entry (Some held) made =
@@ -488,20 +512,40 @@ module _ (tags : Token → List ℕ) (key : List ℕ) where
       sync_cast code ignored halted host from request frame entry token made
   passing_cast code ignored halted host from (message.Rgoto frame entry token) made =
       (entered ignored halted host (entry_at code entry) frame token, refl)
-  passing_cast code ignored halted host from (message.RgotoWith frame entry token riders) made =
-      (rw (riders_cast ignored halted host frame riders)
-      (entered ignored halted (with_variables_set host frame riders) (entry_at code entry) frame token), refl)
+  passing_cast code ignored halted host from (message.RgotoWith frame entry token riders) made = (
+    rw (riders_cast ignored halted host frame riders)
+        (entered ignored halted (with_variables_set host frame riders) (entry_at code entry) frame token),
+    refl,
+  )
   passing_cast code ignored halted host from (message.Lgoto token) made =
       (popped code ignored halted host host.entries, refl)
-  passing_cast code ignored halted host from (message.Value request value) made =
-      ((ignored, halted, answered_cast ignored halted host value_of_field request from (with_temporary value)
-      (with_temporary value) (λ thread. refl)), refl)
-  passing_cast code ignored halted host from (message.Ack request) made =
-      ((ignored, halted, answered_cast ignored halted host acknowledgement request from (λ thread. thread)
-      (λ thread. thread) (λ thread. refl)), refl)
-  passing_cast code ignored halted host from (message.Token request token) made =
-      ((ignored, halted, answered_cast ignored halted host token_of_entry request from (with_token (Some token))
-      (with_token (Some (tagged tags token))) (λ thread. refl)), refl)
+  passing_cast code ignored halted host from (message.Value request value) made = (
+    (
+      ignored,
+      halted,
+      answered_cast ignored halted host value_of_field request from (with_temporary value)
+          (with_temporary value) (λ thread. refl),
+    ),
+    refl,
+  )
+  passing_cast code ignored halted host from (message.Ack request) made = (
+    (
+      ignored,
+      halted,
+      answered_cast ignored halted host acknowledgement request from (λ thread. thread)
+          (λ thread. thread) (λ thread. refl),
+    ),
+    refl,
+  )
+  passing_cast code ignored halted host from (message.Token request token) made = (
+    (
+      ignored,
+      halted,
+      answered_cast ignored halted host token_of_entry request from (with_token (Some token))
+          (with_token (Some (tagged tags token))) (λ thread. refl),
+    ),
+    refl,
+  )
 
   -- ---- steps
 

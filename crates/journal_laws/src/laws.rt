@@ -104,8 +104,8 @@ pub fn field_laws()
         IsPlayed code (host_at_start code values other me) lines shown →
         IsJournalOf code (host_at_start code values key me) lines steps last →
         (last.rows ≡ shown.rows) × (last.variables ≡ shown.variables) }
-    // Where a host that was played from the lines in front, with open steps chosen by the line behind, does not go on by
-    // the next line, no host has these lines and this one, whatever its key is.
+    // Where a host that was played from the lines in front, with open steps chosen by the line behind, does not go on
+    // by the next line, no host has these lines and this one, whatever its key is.
     ensures barred { (code : CodeShape) (values : List (List ℤ)) (me : HostId) (key : List ℕ)
         (front : List (List Word)) (line : List Word) (steps : List Step) (last : HostShape) →
         IsSoundCode code → HaveOwnNames code → IsHost code me →

@@ -1,7 +1,7 @@
 //! What the journal of a host tells of it: laws of hosts without the tags of their tokens.
 //!
-//! **Promises.** The journal of a host determines its fields and variables, whatever its key is and whatever was sent
-//! (`field_laws`).
+//! **Promises.** The journal of a host determines its fields and variables, whatever its key is and whatever was sent;
+//! and a journal is that of some host exactly where it can be played (`field_laws`).
 //!
 //! **Begin** with `specs/Plays.antt` (`IsJournalOf`).
 //!
@@ -18,6 +18,11 @@
 //! and taking it off starts no thread. Where one host takes an entry off and the other ignores the token, one has a
 //! thread then and the other has none. The next line is that of a turn for the one and of a take for the other, so
 //! there is none, and fields stay as they are at this step.
+//!
+//! Both laws on what is played set a third host between the played one and the real one. It makes their steps, and its
+//! tags say what each of the two has in their place: its own tokens are right on both, and any other has a mark. That
+//! a step does the same on a host with other tags is proved once, row by row (`Retagged`), for each function from
+//! tokens to tags.
 #![tactic(auto)]
 
 mod laws;

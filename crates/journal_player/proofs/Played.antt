@@ -133,7 +133,13 @@ pub record IsPlayedTo (code : CodeShape) (start : HostShape) (lines : List (List
 
 pub none_played : (code : CodeShape) (start : HostShape) (lines : List (List Word)) →
     IsPlayedTo code start lines 0 start
-none_played code start lines = record { steps = []; all = []; plays = (refl, refl); left = inl refl; chosen = inl (refl, refl) }
+none_played code start lines = record {
+  steps = [];
+  all = [];
+  plays = (refl, refl);
+  left = inl refl;
+  chosen = inl (refl, refl);
+}
 
 -- one step more
 plays_more : (code : CodeShape) (steps : List Step) (start host : HostShape) (all : List (List Word))
@@ -250,7 +256,8 @@ played_whole code start host of place ended played = (played.steps, played.all, 
 
 pub bad_next : {X : Type 0} (code : CodeShape) (host : HostShape) (line : Line) (others : List Line)
     (sent : Option (HostId × Message)) (after : HostShape) (result : Result X PlayError) →
-    Makes code host (words line.bytes.now) sent after (journal_of others) → IfErr result (IsBadNext (sent_words code sent) others) →
+    Makes code host (words line.bytes.now) sent after (journal_of others) →
+    IfErr result (IsBadNext (sent_words code sent) others) →
     IfErr result (IsBadLine code host line others)
 bad_next code host line others sent after (Ok made) makes bad = bad
 bad_next code host line others sent after (Err error.OutOfMemory) makes bad = bad

@@ -113,6 +113,7 @@ unlike code host line from letter sound turn read cannot own (takes other second
     let same : ◌≡◌ {A = Option (HostId × Message)} (Some (other, bare_message second)) (Some (from, letter)) =
     sym (taken_again code other second sound own may.other.0 may.fits may.real) ∙ sym (ap (taken_of code) is)
     ∙ read in
-    cannot (is ∙ ap (λ (text : List ℕ). codes "take" ∷ host_text code other ∷ words text) (sym (printed_bare code second))
+    cannot (is ∙ ap (λ (text : List ℕ). codes "take" ∷ host_text code other ∷ words text)
+    (sym (printed_bare code second))
     ∙ ap (λ one. take_words code one (bare_message second)) (first_of_two _ _ _ _ same)
     ∙ ap (take_words code from) (second_of_two _ _ _ _ same))
