@@ -1,16 +1,17 @@
 //! The lines of journals that are merged.
 
 ghost use Rattle.std.specs.Prelude.{◌≡◌, ◌≤◌, ◌+◌, ◌*◌, ◌++◌, ◌∷◌, [], None, length, map, MatchResult, IfOk, OnOk};
-ghost use Rattle.std.specs.Str.Lines.{lines};
 ghost use Rattle.js_base.specs.declared.limits.TheConstants.{HOSTS, SCRIPT_BYTES};
-ghost use Rattle.event_text.specs.Lines.{said_from};
+ghost use Rattle.event_text.specs.Lines.{said_lines};
 ghost use Rattle.record_merge.specs.JournalLines.{all_of, lines_in, said_line, said_of};
 ghost use Rattle.record_merge.specs.Journals.{fault_of, first_bad, first_fault, journal_lines, step_lines};
+ghost use Rattle.record_merge.specs.declared.lines.TheConstants.{JOURNAL_BYTES};
 ghost use Rattle.record_merge.specs.Reading.{IsUnread, IsNotRead, LinesFail, bytes_of, of_host};
 
 use crate::forms::{has_form, is_aside};
 use crate::journal::MergeError;
-use event_text::{Line, Lines, next_line};
+use crate::lines::next_line;
+use event_text::{Line, Lines};
 use host_code::Code;
 use js_base::limits::SCRIPT_BYTES;
 use js_base::{HostId, OutOfMemory};
@@ -20,7 +21,7 @@ use std::alloc::Global;
 #[derive(Clone, Copy)]
 pub enum JournalError {
     OutOfMemory,
-    /// It has more than 16,777,216 bytes.
+    /// It has more bytes than are read.
     TooLong,
     /// Its first line, from 1, that has no form.
     BadLine(u32),
@@ -88,24 +89,27 @@ fn read_journal<'a>(
     if bytes.len() > SCRIPT_BYTES {
         return Err(JournalError::TooLong);
     }
-    read_lines(alloc, code, Lines { bytes, number: 1 })
+    read_lines(alloc, code, bytes)
 }
 
-/// The lines that are merged of those that are left.
-fn read_lines<'a>(
+/// The lines of a journal of any length that is read, which tell of a step or of what was sent.
+///
+/// # Errors
+/// `BadLine` of the first line that has no form.
+pub fn read_lines<'a>(
     alloc: Global,
     code: &Code,
-    from: Lines<'a>,
+    bytes: &'a [u8],
 ) -> Result<Vec<Line<'a>>, JournalError>
-    requires few { from.number + length from.bytes.now ≤ SCRIPT_BYTES + 1 }
+    requires few { length bytes.now ≤ JOURNAL_BYTES }
     ensures read { MatchResult result
-        (λ list. (first_bad code.now (said_from from.entry.number (lines from.entry.bytes.now)) ≡ None)
-        × (map said_line list.items ≡ step_lines (said_from from.entry.number (lines from.entry.bytes.now))))
-        (LinesFail code.now (said_from from.entry.number (lines from.entry.bytes.now))) }
-    ensures few { IfOk result (λ list. length list.items ≤ length from.entry.bytes.now) }
+        (λ list. (first_bad code.now (said_lines bytes.now) ≡ None)
+        × (map said_line list.items ≡ journal_lines bytes.now))
+        (LinesFail code.now (said_lines bytes.now)) }
+    ensures few { IfOk result (λ list. length list.items ≤ length bytes.now) }
 {
     let mut list = Vec::new(alloc);
-    let mut left = from;
+    let mut left = Lines { bytes, number: 1 };
     while let Some((line, after)) = next_line(left) {
         if !has_form(code, line.bytes) {
             return Err(JournalError::BadLine(line.number));

@@ -1,8 +1,8 @@
 use Rattle.std.proofs.Common.{◌≡◌, ◌≤◌, ◌+◌, ◌++◌, length}
 use Rattle.std.specs.Prelude.{map}
 use Rattle.std.specs.Str.Lines.{lines}
-use Rattle.js_base.specs.declared.limits.TheConstants.{SCRIPT_BYTES}
-use Rattle.event_text.specs.Lines.{said_from}
+use Rattle.record_merge.specs.declared.lines.TheConstants.{JOURNAL_BYTES}
+use Rattle.event_text.specs.Lines.{said_from, said_lines}
 use Rattle.record_merge.specs.JournalLines.{said_line}
 use Rattle.record_merge.specs.Journals.{first_bad, step_lines}
 use Rattle.record_merge.proofs.reading.read_lines.Given as goal
@@ -12,12 +12,12 @@ abbrev pub invariant-loop-line : goal.invariant-loop-line
 invariant-loop-line l = record {
   kept :
       map said_line l.list.items ++ step_lines (said_from l.left.number (lines l.left.bytes.now))
-      ≡ step_lines (said_from l.from.number (lines l.from.bytes.now));
+      ≡ step_lines (said_lines l.bytes);
   sound :
       first_bad l.code (said_from l.left.number (lines l.left.bytes.now))
-      ≡ first_bad l.code (said_from l.from.number (lines l.from.bytes.now));
-  few : l.left.number + length l.left.bytes.now ≤ SCRIPT_BYTES + 1;
-  fewer : length l.list.items + length l.left.bytes.now ≤ length l.from.bytes.now;
+      ≡ first_bad l.code (said_lines l.bytes);
+  few : l.left.number + length l.left.bytes.now ≤ JOURNAL_BYTES + 1;
+  fewer : length l.list.items + length l.left.bytes.now ≤ length l.bytes;
 }
 
 abbrev pub decreases-loop-line : goal.decreases-loop-line

@@ -1,0 +1,11 @@
+pub mod CodeNames
+pub mod Completeness
+pub mod DueWords
+pub mod FieldTexts
+pub mod JournalFronts
+pub mod JournalLines
+pub mod LastBytes
+pub mod OneRun
+pub mod OneVerdict
+pub mod PlayedRuns
+pub mod SixWords

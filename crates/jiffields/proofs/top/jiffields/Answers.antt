@@ -1,0 +1,14 @@
+use Rattle.std.specs.Prelude.{codes}
+use Rattle.front_end.proofs.Answering.{answers_to}
+use Rattle.jiffields.proofs.Completeness.{complete}
+use Rattle.jiffields.proofs.top.jiffields.Goals as goal
+
+pub returns-clause-answer : goal.returns-clause-answer
+returns-clause-answer g c =
+    answers_to (codes "jiffields") _ _ c.due-found.result _ _ _ tt c.due-found.ensures.due
+    c.answer.ensures.due c.answer.ensures.undue
+
+pub returns-clause-complete : goal.returns-clause-complete
+returns-clause-complete g c = λ holds number status text tells due calm below quiet under.
+    complete c.field_report_laws.ensures.one_verdict _ _ _ _ _ holds number status text (returns-clause-answer g c) tells due
+    calm below quiet under

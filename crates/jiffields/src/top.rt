@@ -1,0 +1,71 @@
+//! The top call, from words and files to a status and what is put out.
+
+ghost use Rattle.std.specs.Prelude.{◌≡◌, ◌<◌, ◌≤◌, ◌+◌, ◌⊎◌, ℕ, List, length, map, string_bytes};
+ghost use Rattle.std.specs.Prelude.{Option, Some};
+ghost use Rattle.js_base.specs.Counts.{last_count};
+ghost use Rattle.js_base.specs.declared.status.Status.{Status};
+ghost use Rattle.front_end.specs.Answers.{sink_change};
+ghost use Rattle.front_end.specs.Loads.{AreKept, files_change};
+ghost use Rattle.front_end.specs.Verdicts.{Print};
+ghost use Rattle.jiffields.specs.Answers.{AnswersTo};
+ghost use Rattle.jiffields.specs.Due.{Due};
+
+use crate::due::due;
+use crate::laws::field_report_laws;
+use front_end::answer;
+use js_base::{Files, Sink, Status};
+use std::alloc::Global;
+
+/// The program's name, which stands in front of its lines on the error output.
+const PROGRAM: &str = "jiffields";
+
+/// The line that says that memory ran out.
+const NO_MEMORY: &str = "jiffields: no memory\n";
+
+/// Runs `jiffields` on the words after its name, which are the names of a split file, a host file, a host, a file of
+/// starting values and the journal of the host; or `--program` and then the same with a program in place of the split
+/// file.
+///
+/// It answers `Done` where the fields of the host after its journal were put on `out`, in the order of the code. The
+/// host does not look at its part of a split file: who ran it did so. Any other answer is a refusal or a fault:
+/// - `Usage`: the words have another form.
+/// - `SourceRefused`: the program is refused for its text, its names or its labels; or no host may hold some part of
+///   it.
+/// - `InputRefused`: a file is absent; the host file, the split file or the starting values are refused; there is no
+///   such host, or the code is for other hosts; two fields or two variables of the code have one name; the journal is
+///   too long, a line of it has no form, or the last is not ended; or no run of the host has the journal.
+/// - `FileFault`: a file could not be read.
+/// - `OutFault`: what was due could not all be put out.
+/// - `NoMemory`: memory ran out.
+///
+/// The files are loaded in order, and after the first that is absent or could not be read none is loaded. Where memory
+/// runs out, a front of what was due may have been put, and the line `jiffields: no memory` follows on `err` where it
+/// can.
+pub fn jiffields<F: Files, S: Sink, E: Sink>(
+    alloc: Global,
+    words: &[String],
+    files: &mut F,
+    out: &mut S,
+    err: &mut E,
+) -> Status
+    // What is answered and put out is what is due.
+    ensures answer { AnswersTo (map string_bytes words.now)
+        (files_change F.Files files.old files.new)
+        result
+        (sink_change S.Sink out.old out.new)
+        (sink_change E.Sink err.old err.new) }
+    // Where fields are due for what the files hold, and neither they nor the output count a fault, the answer is their
+    // status, or memory ran out.
+    ensures complete { (holds : List ℕ → Option (List ℕ)) (number : ℕ) (status : Status) (text : List ℕ) →
+        F.held files.old ≡ Some holds → Due (map string_bytes words.now) (Some holds) number (Print status text) →
+        F.faults files.new ≡ F.faults files.old → F.faults files.old < last_count →
+        S.faults out.new ≡ S.faults out.old → S.faults out.old < last_count →
+        (result ≡ status) ⊎ (result ≡ Status.NoMemory) }
+    // Whatever it answers, it asks for no more loads than there are words, saves nothing, and leaves what is held.
+    ensures loads { F.loads files.new ≤ F.loads files.old + length words.now }
+    ensures kept { AreKept (files_change F.Files files.old files.new) }
+{
+    field_report_laws();
+    let found = due(alloc, words, files);
+    answer(alloc, PROGRAM, NO_MEMORY, found, out, err)
+}
