@@ -1,0 +1,2 @@
+pub mod DraftParts
+pub mod Pieces

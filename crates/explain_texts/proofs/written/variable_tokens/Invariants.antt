@@ -1,0 +1,10 @@
+use Rattle.std.proofs.Common.{◌≡◌, take}
+use Rattle.std.specs.List.{flat_map}
+use Rattle.jif_tree.specs.declared.draft.MethodDraft.{MethodDraft}
+use Rattle.jif_grammar.specs.DraftShapes.{method_shape}
+use Rattle.explain_texts.specs.DraftPlaces.{method_variables}
+use Rattle.explain_texts.proofs.written.variable_tokens.Given as goal
+
+abbrev pub invariant-loop-method : goal.invariant-loop-method
+invariant-loop-method l =
+    l.tokens.items ≡ flat_map (λ (one : MethodDraft). method_variables (method_shape one)) (take l.method-index l.methods)

@@ -1,0 +1,11 @@
+pub mod Told
+pub mod TokenTexts
+pub mod Remedies
+pub mod Heads
+pub mod DraftPlaces
+pub mod Sheets
+pub mod Names
+pub mod Causes
+pub mod ReasonLines
+pub mod Labels
+pub mod Unheld

@@ -1,0 +1,2 @@
+pub mod DueFiles
+pub mod Rereading

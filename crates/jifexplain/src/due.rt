@@ -1,0 +1,120 @@
+//! What is due for the words: from files to an explanation.
+
+ghost use Rattle.std.specs.Prelude.{◌≡◌, ◌≤◌, ◌+◌, ℕ, List, length, map, string_bytes, IfOk};
+ghost use Rattle.js_base.specs.declared.limits.TheConstants.{HOSTS_BYTES, PROGRAM_BYTES};
+ghost use Rattle.front_end.specs.Loading.{EndsIn, IsLoaded};
+ghost use Rattle.front_end.specs.Loads.{AreKept, files_change};
+ghost use Rattle.front_end.specs.Verdicts.{verdict_shape};
+ghost use Rattle.jifexplain.specs.Due.{DueForBytes, IsDue, IsDueForNames, accepted};
+
+use crate::explained::{Names, explained_verdict};
+use front_end::{Asked, Loaded, Stop, Verdict, load_all, read_places};
+use js_base::limits::{HOSTS_BYTES, PROGRAM_BYTES};
+use js_base::{Files, OutOfMemory, Status};
+use std::alloc::Global;
+
+/// The only form of the words.
+const FORMS: &str = "P H";
+
+/// What is due for the words.
+pub fn due<F: Files>(alloc: Global, words: &[String], files: &mut F) -> Result<Verdict, OutOfMemory>
+    ensures due { IfOk result (λ verdict. IsDue (map string_bytes words.now)
+        (files_change F.Files files.old files.new)
+        (verdict_shape verdict)) }
+    ensures loads { F.loads files.new ≤ F.loads files.old + length words.now }
+    ensures kept { AreKept (files_change F.Files files.old files.new) }
+{
+    match words {
+        [program, hosts] => due_for_names(alloc, program.as_str(), hosts.as_str(), files),
+        _ => Verdict::usage(alloc, FORMS),
+    }
+}
+
+/// What is due for the names of a program and a host file.
+fn due_for_names<F: Files>(
+    alloc: Global,
+    program: &str,
+    hosts: &str,
+    files: &mut F,
+) -> Result<Verdict, OutOfMemory>
+    ensures due { IfOk result (λ verdict. IsDueForNames program.now hosts.now
+        (files_change F.Files files.old files.new)
+        (verdict_shape verdict)) }
+    ensures loads { F.loads files.new ≤ F.loads files.old + 2 }
+    ensures kept { AreKept (files_change F.Files files.old files.new) }
+{
+    match ended(alloc, program, hosts, files) {
+        Ok(verdict) => Ok(verdict),
+        Err(Stop::Due(verdict)) => Ok(verdict),
+        Err(Stop::OutOfMemory) => Err(OutOfMemory),
+    }
+}
+
+/// How the two names end: what is due for them, whether they stop early or not.
+fn ended<F: Files>(
+    alloc: Global,
+    program: &str,
+    hosts: &str,
+    files: &mut F,
+) -> Result<Verdict, Stop>
+    ensures due { EndsIn (IsDueForNames program.now hosts.now (files_change F.Files files.old files.new)) result }
+    ensures loads { F.loads files.new ≤ F.loads files.old + 2 }
+    ensures kept { AreKept (files_change F.Files files.old files.new) }
+{
+    let asked = [program_file(program), host_file(hosts)];
+    let loaded = load_all(alloc, files, &asked)?;
+    let [p, h] = loaded.as_slice() else {
+        unreachable!();
+    };
+    let names = Names { program, hosts };
+    due_for_loaded(alloc, &names, p, h)
+}
+
+/// A program.
+fn program_file(name: &str) -> Asked<'_>
+    ensures name { result.name.now ≡ name.now }
+    ensures most { result.most ≡ PROGRAM_BYTES }
+{
+    Asked {
+        name,
+        most: PROGRAM_BYTES,
+    }
+}
+
+/// A host file.
+fn host_file(name: &str) -> Asked<'_>
+    ensures name { result.name.now ≡ name.now }
+    ensures most { result.most ≡ HOSTS_BYTES }
+{
+    Asked {
+        name,
+        most: HOSTS_BYTES,
+    }
+}
+
+/// What is due for a program and a host file of these names that were loaded.
+fn due_for_loaded(
+    alloc: Global,
+    names: &Names<'_>,
+    program: &Loaded,
+    hosts: &Loaded,
+) -> Result<Verdict, Stop>
+    ensures { (p h : List ℕ) → IsLoaded PROGRAM_BYTES p program.now → IsLoaded HOSTS_BYTES h hosts.now →
+        EndsIn (DueForBytes names.now.program.now names.now.hosts.now p h) result }
+{
+    match read_places(alloc, program, hosts) {
+        Ok(_) => Ok(accepted(alloc)),
+        Err(Stop::Due(refused)) => explained_verdict(alloc, names, program, hosts, refused),
+        Err(Stop::OutOfMemory) => Err(Stop::OutOfMemory),
+    }
+}
+
+/// What is due for an accepted program whose parts all have a host.
+fn accepted(alloc: Global) -> Verdict
+    ensures { verdict_shape result ≡ accepted }
+{
+    Verdict::Print {
+        status: Status::Done,
+        text: String::new(alloc),
+    }
+}

@@ -1,0 +1,185 @@
+//! What is told of refused texts, as what is due for them.
+
+ghost use Rattle.std.specs.Prelude.{◌≡◌, ◌≤◌, ℕ, IfOk, List, length};
+ghost use Rattle.std.specs.String.{string_bytes};
+ghost use Rattle.js_base.specs.declared.limits.TheConstants.{PROGRAM_BYTES};
+ghost use Rattle.explain_texts.specs.Heads as heads;
+ghost use Rattle.explain_texts.specs.Sheets.{sheet_shape};
+ghost use Rattle.explain_texts.specs.Told.{told_shape};
+ghost use Rattle.front_end.specs.Loading.{IsLoaded};
+ghost use Rattle.front_end.specs.Refusals as refusals;
+ghost use Rattle.front_end.specs.Verdicts.{verdict_shape};
+ghost use Rattle.host_decl.specs.Refusal as hosts;
+ghost use Rattle.principals.specs.Refusal as principals;
+ghost use Rattle.jif_grammar.specs.DraftShapes.{draft_shape};
+ghost use Rattle.jifexplain.specs.Explained.{hosts_explained, readable, told_of, unheld_told};
+
+use explain_texts::{
+    Told, field_told, lexed_told, parsed_told, resolved_told, statement_told, told_text,
+};
+use front_end::{Loaded, Refusal, Verdict};
+use host_decl::HostsError;
+use jif_lex::{LexError, Token};
+use jif_parse::ParseError;
+use jif_resolve::ResolveError;
+use jif_tree::Draft;
+use js_base::OutOfMemory;
+use js_base::limits::PROGRAM_BYTES;
+use place_rules::PlaceError;
+use principals::PrincipalError;
+use std::alloc::{AllocError, Global};
+
+/// A program by its name and its text.
+#[derive(Clone, Copy)]
+pub struct Shown<'a> {
+    pub name: &'a str,
+    pub text: &'a [u8],
+}
+
+/// What is read of a program: nothing of one that is too long.
+pub fn readable(program: &Loaded) -> &[u8]
+    ensures text { (p : List ℕ) → IsLoaded PROGRAM_BYTES p program.now → result.now ≡ readable p }
+    ensures short { length result.now ≤ PROGRAM_BYTES }
+{
+    match program {
+        Loaded::Bytes(bytes) => short_text(bytes),
+        Loaded::TooLong => &[],
+    }
+}
+
+/// A text, or nothing of one that is too long.
+fn short_text(bytes: &[u8]) -> &[u8]
+    ensures text { result.now ≡ readable bytes.now }
+    ensures short { length result.now ≤ PROGRAM_BYTES }
+{
+    if PROGRAM_BYTES < bytes.len() {
+        &[]
+    } else {
+        bytes
+    }
+}
+
+/// The program is refused, and this is told of it.
+pub fn told_of(alloc: Global, shown: &Shown<'_>, told: &Told) -> Result<Verdict, OutOfMemory>
+    requires { length shown.now.text.now ≤ PROGRAM_BYTES }
+    ensures { IfOk result (λ verdict. verdict_shape verdict
+        ≡ told_of shown.now.name.now shown.now.text.now (told_shape told.now)) }
+{
+    let text = told_text(alloc, shown.name, shown.text, told)?;
+    Ok(Verdict::Refuse(Refusal::SourceExplained { text }))
+}
+
+/// It has no tokens.
+pub fn lexed_shown(alloc: Global, shown: &Shown<'_>, why: LexError) -> Result<Verdict, OutOfMemory>
+    requires { length shown.now.text.now ≤ PROGRAM_BYTES }
+    ensures { IfOk result (λ verdict. verdict_shape verdict
+        ≡ told_of shown.now.name.now shown.now.text.now (heads.lexed_told shown.now.text.now why)) }
+{
+    let told = lexed_told(alloc, shown.text, why)?;
+    told_of(alloc, shown, &told)
+}
+
+/// Its tokens are no program.
+pub fn parsed_shown(
+    alloc: Global,
+    shown: &Shown<'_>,
+    tokens: &[Token],
+    why: ParseError,
+) -> Result<Verdict, OutOfMemory>
+    requires { length shown.now.text.now ≤ PROGRAM_BYTES }
+    ensures { IfOk result (λ verdict. verdict_shape verdict
+        ≡ told_of shown.now.name.now shown.now.text.now (heads.parsed_told shown.now.text.now tokens.now why)) }
+{
+    let told = parsed_told(alloc, shown.text, tokens, why)?;
+    told_of(alloc, shown, &told)
+}
+
+/// A name of it is refused.
+pub fn resolved_shown(
+    alloc: Global,
+    shown: &Shown<'_>,
+    tokens: &[Token],
+    why: ResolveError,
+) -> Result<Verdict, OutOfMemory>
+    requires { length shown.now.text.now ≤ PROGRAM_BYTES }
+    ensures { IfOk result (λ verdict. verdict_shape verdict
+        ≡ told_of shown.now.name.now shown.now.text.now (heads.resolved_told tokens.now why)) }
+{
+    let told = resolved_told(alloc, tokens, why)?;
+    told_of(alloc, shown, &told)
+}
+
+/// No host may hold some part of it.
+pub fn unheld_shown(
+    alloc: Global,
+    shown: &Shown<'_>,
+    tokens: &[Token],
+    draft: &Draft,
+    why: PlaceError,
+) -> Result<Verdict, OutOfMemory>
+    requires { length shown.now.text.now ≤ PROGRAM_BYTES }
+    ensures { IfOk result (λ verdict. verdict_shape verdict
+        ≡ told_of shown.now.name.now shown.now.text.now (unheld_told tokens.now (draft_shape draft.now) why)) }
+{
+    let told = unheld_told(alloc, tokens, draft, why)?;
+    told_of(alloc, shown, &told)
+}
+
+/// What is told of a part that no host may hold.
+fn unheld_told(
+    alloc: Global,
+    tokens: &[Token],
+    draft: &Draft,
+    why: PlaceError,
+) -> Result<Told, OutOfMemory>
+    ensures { IfOk result (λ told. told_shape told ≡ unheld_told tokens.now (draft_shape draft.now) why) }
+{
+    match why {
+        PlaceError::OutOfMemory => Err(OutOfMemory),
+        PlaceError::NoHostForField(field) => field_told(alloc, tokens, draft, field),
+        PlaceError::NoHostForStatement(statement) => statement_told(
+            alloc, tokens, draft, statement,
+        ),
+    }
+}
+
+/// The host file of this name is refused.
+pub fn hosts_shown(alloc: Global, name: &str, why: &HostsError) -> Result<Verdict, OutOfMemory>
+    ensures { IfOk result (λ verdict.
+        verdict_shape verdict ≡ hosts_explained name.now (hosts.refusal_shape why.now)) }
+{
+    let words = why_no_hosts(alloc, why)?;
+    let text = format!(in alloc; "{name}: {words}")?;
+    Ok(Verdict::Refuse(Refusal::InputExplained { text }))
+}
+
+/// Why a host file is refused.
+fn why_no_hosts(alloc: Global, why: &HostsError) -> Result<String, AllocError>
+    ensures { IfOk result (λ text. string_bytes text ≡ refusals.why_no_hosts (hosts.refusal_shape why.now)) }
+{
+    match why {
+        HostsError::OutOfMemory => Err(AllocError),
+        HostsError::NotToml => String::from_str(alloc, "not TOML"),
+        HostsError::BadKey(name) => format!(in alloc; "bad key {name}"),
+        HostsError::BadLabel(_, name) => format!(in alloc; "bad label of host {name}"),
+        HostsError::Principals(why) => why_no_principals(alloc, why),
+        HostsError::TooManyHosts => String::from_str(alloc, "too many hosts"),
+        HostsError::HostTwice(name) => format!(in alloc; "host {name} twice"),
+        HostsError::NoHost => String::from_str(alloc, "no host"),
+        HostsError::BadLink(number) => format!(in alloc; "bad link {number}"),
+        HostsError::TooLong => String::from_str(alloc, "too long"),
+    }
+}
+
+/// Why the principals of a host file are refused.
+fn why_no_principals(alloc: Global, why: &PrincipalError) -> Result<String, AllocError>
+    ensures { IfOk result
+        (λ text. string_bytes text ≡ refusals.why_no_principals (principals.refusal_shape why.now)) }
+{
+    match why {
+        PrincipalError::OutOfMemory => Err(AllocError),
+        PrincipalError::TooMany => String::from_str(alloc, "too many principals"),
+        PrincipalError::Twice(name) => format!(in alloc; "principal {name} twice"),
+        PrincipalError::Unknown(name) => format!(in alloc; "unknown principal {name}"),
+    }
+}
