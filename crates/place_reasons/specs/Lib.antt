@@ -1,0 +1,5 @@
+pub mod Firsts
+pub mod Questions
+pub mod Reasons
+pub mod Search
+pub mod PlaceExamples
