@@ -56,7 +56,7 @@ first_pair_is principals declared from to pair is =
     }
 
 -- where all may flow, there is none
-flows_not : (principals : Declared) (from to : Label) (pair : Trait) → ConfFlows from to →
+pub flows_not : (principals : Declared) (from to : Label) (pair : Trait) → ConfFlows from to →
     IsPairOf principals from to pair → ⊥
 flows_not principals from to (Keeps owner reader) flows is =
     is.fails.1 ((forbids_is to owner reader).1

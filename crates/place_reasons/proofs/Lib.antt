@@ -4,3 +4,4 @@ pub mod FirstPairs
 pub mod Walking
 pub mod Within
 pub mod Numbered
+pub mod PairLaws

@@ -1,6 +1,18 @@
 //! Laws of why a host may not hold a part of a program. The calls do nothing: their contracts are the laws.
 
-ghost use Rattle.std.specs.Prelude.{◌≡◌, Some, None};
+ghost use Rattle.std.specs.Prelude.{◌≡◌, ◌<◌, ℕ, ◌∷◌, [], Some, None, length};
+ghost use Rattle.principals.specs.ActsFor.{Declared, IsDeclared};
+ghost use Rattle.label_lattice.specs.declared.label.Label.{Label};
+ghost use Rattle.label_lattice.specs.Label.{ConfFlows, IntegFlows, Trusts};
+ghost use Rattle.label_lattice.specs.Over.{IsLabelOver};
+ghost use Rattle.host_decl.specs.Hosts.{HostShape};
+ghost use Rattle.jif_tree.specs.Trees.{MethodTree};
+ghost use Rattle.label_reasons.specs.declared.reason.Trait.{Trait};
+ghost use Rattle.label_reasons.specs.Traits.{Fails, IsDeclaredTrait};
+ghost use Rattle.need_labels.specs.Needs.{IsNeed, for_label};
+ghost use Rattle.place_rules.specs.PlaceRules.{MayHoldStatement};
+ghost use Rattle.place_reasons.specs.declared.reason.PlaceReason.{PlaceReason};
+ghost use Rattle.place_reasons.specs.Reasons.{first_pair, first_untrusting, head_reason};
 ghost use Rattle.label_reasons.specs.declared.reason.Source.TheVariants.{OfField};
 ghost use Rattle.label_reasons.specs.declared.reason.Via.TheVariants.{Itself, ByLocal, ByGuard};
 ghost use Rattle.place_reasons.specs.declared.reason.Needed.TheVariants.{Field, Head};
@@ -12,6 +24,40 @@ ghost use Rattle.place_reasons.specs.PlaceExamples.{field_at, statement_at, head
 ghost use Rattle.place_reasons.specs.PlaceExamples.{read_inside, chosen_program, sum_program, sum, local_program};
 ghost use Rattle.place_reasons.specs.PlaceExamples.{told_later, released_program, released, secret_begin};
 ghost use Rattle.place_reasons.specs.PlaceExamples.{trusted_begin};
+
+use label_lattice::text_laws;
+use principals::acts_for_laws;
+
+/// Laws of the pairs and principals by which a host may not hold something, and of the heads of methods.
+pub fn place_laws()
+    // A pair is of declared principals or the outsider, and is held against the first label and not against the second.
+    ensures pair_true { (principals : Declared) (from to : Label) (pair : Trait) → IsDeclared principals →
+        first_pair principals from to ≡ Some pair → IsDeclaredTrait principals pair × Fails pair from to }
+    // So not all that the first may be known of may flow to the second.
+    ensures pair_denies { (principals : Declared) (from to : Label) (pair : Trait) → IsDeclared principals →
+        first_pair principals from to ≡ Some pair → ¬ ConfFlows from to }
+    // Where there is no pair, it may.
+    ensures pair_due { (principals : Declared) (from to : Label) → IsLabelOver principals from →
+        first_pair principals from to ≡ None → ConfFlows from to }
+    // A principal is declared, trusts the label, and does not trust the host.
+    ensures trust_true { (principals : Declared) (host label : Label) (principal : ℕ) →
+        first_untrusting principals host label ≡ Some principal →
+        (principal < length principals.names) × Trusts label principal × (¬ Trusts host principal) }
+    // Where there is none, all who trust the label trust the host.
+    ensures trust_due { (principals : Declared) (host label : Label) → IsLabelOver principals label →
+        first_untrusting principals host label ≡ None → IntegFlows host label }
+    // Where there is a reason for a head, the host may not hold it.
+    ensures head_true { (principals : Declared) (host : HostShape) (method : MethodTree) (need : ℕ)
+        (reason : PlaceReason) → IsDeclared principals → IsNeed principals (for_label method.begin ∷ []) need →
+        head_reason principals host.label method ≡ Some reason → ¬ MayHoldStatement (method.begin, need) host }
+    // Where there is none, it may.
+    ensures head_due { (principals : Declared) (host : HostShape) (method : MethodTree) (need : ℕ) →
+        IsLabelOver principals method.begin → IsNeed principals (for_label method.begin ∷ []) need →
+        head_reason principals host.label method ≡ None → MayHoldStatement (method.begin, need) host }
+{
+    acts_for_laws();
+    text_laws();
+}
 
 /// Why hosts of Alice and of Bob, and one that nobody trusts, may not hold parts of some programs.
 pub fn place_examples()

@@ -1,0 +1,27 @@
+use Rattle.principals.specs.ActsFor.{Declared}
+use Rattle.label_reasons.proofs.TraitTests.{AreTrusted}
+use Rattle.label_reasons.proofs.ActsTests.{ActsLaws}
+use Rattle.place_reasons.proofs.PairLaws.{pair_true, pair_denies, pair_due, trust_true, trust_due, head_true, head_due}
+use Rattle.place_reasons.proofs.laws.place_laws.Goals as goal
+
+pub returns : goal.returns
+returns c = record {
+  pair_true = pair_true;
+  pair_denies = pair_denies;
+  pair_due = λ principals. pair_due trusts principals (acts principals);
+  trust_true = trust_true trusts;
+  trust_due = trust_due trusts;
+  head_true = head_true trusts;
+  head_due = λ principals. head_due trusts principals (acts principals);
+}
+  where
+    trusts : AreTrusted
+    trusts = c.text_laws.ensures.trusts
+
+    acts : (principals : Declared) → ActsLaws principals
+    acts principals = record {
+      reflexive = c.acts_for_laws.ensures.reflexive principals;
+      transitive = c.acts_for_laws.ensures.transitive principals;
+      declared = c.acts_for_laws.ensures.declared principals;
+      smallest = c.acts_for_laws.ensures.smallest principals;
+    }
