@@ -5,3 +5,5 @@ pub mod Walking
 pub mod Within
 pub mod Numbered
 pub mod PairLaws
+pub mod ToldLabels
+pub mod FieldLaws

@@ -74,12 +74,12 @@ pair_due tells principals laws from to over none owner reader owner_in reader_in
 
 -- ---- principals
 
-or_so : {Y : Type 0} (P : Y → Type 0) (first second : Option Y) (y : Y) → ((z : Y) → first ≡ Some z → P z) →
+pub or_so : {Y : Type 0} (P : Y → Type 0) (first second : Option Y) (y : Y) → ((z : Y) → first ≡ Some z → P z) →
     ((z : Y) → second ≡ Some z → P z) → or_first first second ≡ Some y → P y
 or_so P None second y one other is = other y is
 or_so P (Some x) second y one other is = one y is
 
-or_nones : {Y : Type 0} (first second : Option Y) → or_first first second ≡ None → (first ≡ None) × (second ≡ None)
+pub or_nones : {Y : Type 0} (first second : Option Y) → or_first first second ≡ None → (first ≡ None) × (second ≡ None)
 or_nones None second none = (refl, none)
 or_nones (Some x) second none = absurd (none-some x (sym none))
 

@@ -3,3 +3,4 @@ pub mod Questions
 pub mod Reasons
 pub mod Search
 pub mod PlaceExamples
+pub mod Programs

@@ -6,13 +6,16 @@ ghost use Rattle.label_lattice.specs.declared.label.Label.{Label};
 ghost use Rattle.label_lattice.specs.Label.{ConfFlows, IntegFlows, Trusts};
 ghost use Rattle.label_lattice.specs.Over.{IsLabelOver};
 ghost use Rattle.host_decl.specs.Hosts.{HostShape};
-ghost use Rattle.jif_tree.specs.Trees.{MethodTree};
+ghost use Rattle.js_base.specs.declared.ids.FieldId.{FieldId};
+ghost use Rattle.jif_tree.specs.Trees.{FieldTree, MethodTree};
+ghost use Rattle.need_labels.specs.Labelled.{Labelled};
 ghost use Rattle.label_reasons.specs.declared.reason.Trait.{Trait};
 ghost use Rattle.label_reasons.specs.Traits.{Fails, IsDeclaredTrait};
 ghost use Rattle.need_labels.specs.Needs.{IsNeed, for_label};
-ghost use Rattle.place_rules.specs.PlaceRules.{MayHoldStatement};
+ghost use Rattle.place_rules.specs.PlaceRules.{MayHoldField, MayHoldStatement};
+ghost use Rattle.place_reasons.specs.Programs.{IsFieldOver, all_told};
 ghost use Rattle.place_reasons.specs.declared.reason.PlaceReason.{PlaceReason};
-ghost use Rattle.place_reasons.specs.Reasons.{first_pair, first_untrusting, head_reason};
+ghost use Rattle.place_reasons.specs.Reasons.{first_pair, first_untrusting, field_reason, head_reason};
 ghost use Rattle.label_reasons.specs.declared.reason.Source.TheVariants.{OfField};
 ghost use Rattle.label_reasons.specs.declared.reason.Via.TheVariants.{Itself, ByLocal, ByGuard};
 ghost use Rattle.place_reasons.specs.declared.reason.Needed.TheVariants.{Field, Head};
@@ -25,7 +28,7 @@ ghost use Rattle.place_reasons.specs.PlaceExamples.{read_inside, chosen_program,
 ghost use Rattle.place_reasons.specs.PlaceExamples.{told_later, released_program, released, secret_begin};
 ghost use Rattle.place_reasons.specs.PlaceExamples.{trusted_begin};
 
-use label_lattice::text_laws;
+use label_lattice::{label_laws, text_laws};
 use principals::acts_for_laws;
 
 /// Laws of the pairs and principals by which a host may not hold something, and of the heads of methods.
@@ -54,8 +57,19 @@ pub fn place_laws()
     ensures head_due { (principals : Declared) (host : HostShape) (method : MethodTree) (need : ℕ) →
         IsLabelOver principals method.begin → IsNeed principals (for_label method.begin ∷ []) need →
         head_reason principals host.label method ≡ None → MayHoldStatement (method.begin, need) host }
+    // Where there is a reason for a field, the host may not hold it, by what its reads tell.
+    ensures field_true { (principals : Declared) (labelled : Labelled) (host : HostShape) (field : FieldId)
+        (tree : FieldTree) (reason : PlaceReason) → IsDeclared principals →
+        IsFieldOver principals labelled field tree → field_reason principals labelled host.label field ≡ Some reason →
+        ¬ MayHoldField (tree, all_told principals labelled field) host }
+    // Where there is none, it may.
+    ensures field_due { (principals : Declared) (labelled : Labelled) (host : HostShape) (field : FieldId)
+        (tree : FieldTree) → IsDeclared principals → IsFieldOver principals labelled field tree →
+        field_reason principals labelled host.label field ≡ None →
+        MayHoldField (tree, all_told principals labelled field) host }
 {
     acts_for_laws();
+    label_laws();
     text_laws();
 }
 

@@ -1,7 +1,8 @@
-use Rattle.principals.specs.ActsFor.{Declared}
+use Rattle.principals.specs.ActsFor.{Declared, IsDeclared}
 use Rattle.label_reasons.proofs.TraitTests.{AreTrusted}
 use Rattle.label_reasons.proofs.ActsTests.{ActsLaws}
 use Rattle.place_reasons.proofs.PairLaws.{pair_true, pair_denies, pair_due, trust_true, trust_due, head_true, head_due}
+use Rattle.place_reasons.proofs.FieldLaws.{LabelLaws, field_true, field_due}
 use Rattle.place_reasons.proofs.laws.place_laws.Goals as goal
 
 pub returns : goal.returns
@@ -13,6 +14,10 @@ returns c = record {
   trust_due = trust_due trusts;
   head_true = head_true trusts;
   head_due = λ principals. head_due trusts principals (acts principals);
+  field_true = λ principals labelled host field tree reason declared.
+      field_true trusts principals (labels principals declared) declared labelled host field tree reason;
+  field_due = λ principals labelled host field tree declared.
+      field_due trusts principals (acts principals) (labels principals declared) labelled host field tree;
 }
   where
     trusts : AreTrusted
@@ -24,4 +29,12 @@ returns c = record {
       transitive = c.acts_for_laws.ensures.transitive principals;
       declared = c.acts_for_laws.ensures.declared principals;
       smallest = c.acts_for_laws.ensures.smallest principals;
+    }
+
+    labels : (principals : Declared) → IsDeclared principals → LabelLaws principals
+    labels principals declared = record {
+      joined = c.label_laws.ensures.join_sets;
+      over = c.label_laws.ensures.join_over principals;
+      bottom = (c.label_laws.ensures.bottom_sets principals).forbids;
+      bottom_over = c.label_laws.ensures.bottom_over principals declared;
     }
