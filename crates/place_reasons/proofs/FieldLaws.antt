@@ -1,12 +1,11 @@
 -- Where there is a reason for a field the host may not hold it, and where there is none it may.
-use Rattle.std.proofs.Common.{◌≡◌, ◌⊎◌, inl, inr, ℕ, ◌<◌, List, [], ◌∷◌, length, refl, sym, ap, ◌∙◌, subst, arith}
+use Rattle.std.proofs.Common.{◌≡◌, inl, inr, ◌<◌, List, [], ◌∷◌, refl, sym, ap, ◌∙◌, subst, arith}
 use Rattle.std.specs.Prelude.{All, Option, Some, None, slice_get, unwrap_or}
 use Rattle.std.specs.List.{fold}
 use Rattle.std.specs.Option.{option_map}
 use Rattle.std.proofs.lemmas.List.Elements.{All-head, All-tail}
 use Rattle.std.proofs.lemmas.Option.{none-some}
 use Rattle.js_base.specs.declared.ids.FieldId.{FieldId}
-use Rattle.js_base.specs.declared.limits.TheConstants.{PRINCIPALS}
 use Rattle.principals.specs.ActsFor.{Declared, IsDeclared}
 use Rattle.label_lattice.specs.declared.label.Label.{Label}
 use Rattle.label_lattice.specs.declared.label.TheConstants.{READERS}
@@ -14,7 +13,7 @@ use Rattle.label_lattice.specs.Label.{ConfFlows, ForbidsNothing}
 use Rattle.label_lattice.specs.Lattice.{empty_label, bottom_of, join_of}
 use Rattle.label_lattice.specs.Over.{IsLabelOver}
 use Rattle.host_decl.specs.Hosts.{HostShape}
-use Rattle.jif_tree.specs.Trees.{FieldTree, MethodTree}
+use Rattle.jif_tree.specs.Trees.{FieldTree}
 use Rattle.jif_tree.specs.LabelRules.{field_label}
 use Rattle.label_reasons.specs.declared.reason.Trait.{Trait}
 use Rattle.label_reasons.proofs.TraitTests.{AreJoined, AreTrusted}
@@ -24,14 +23,13 @@ use Rattle.need_labels.specs.Needs.{told_of, statement_uses}
 use Rattle.place_rules.specs.PlaceRules.{MayHoldField}
 use Rattle.place_reasons.specs.declared.reason.PlaceReason.{PlaceReason}
 use Rattle.place_reasons.specs.declared.reason.PlaceReason.TheVariants as row
-use Rattle.place_reasons.specs.declared.told.Told.{Told}
-use Rattle.place_reasons.specs.Firsts.{or_first, first_some}
+use Rattle.place_reasons.specs.Firsts.{first_some}
 use Rattle.place_reasons.specs.Reasons.{first_pair, first_untrusting, method_told, told_reason, own_row, told_row, trust_row}
 use Rattle.place_reasons.specs.Reasons.{field_reason}
 use Rattle.place_reasons.specs.Programs.{IsFieldOver, labels_told}
 use Rattle.place_reasons.specs.Search.{told_pair}
 use Rattle.place_reasons.proofs.PairLaws.{or_so, or_nones, pair_due, pair_denies, trust_true, trust_due}
-use Rattle.place_reasons.proofs.ToldLabels.{tellings_of, told_labels, methods_same, labels_same}
+use Rattle.place_reasons.proofs.ToldLabels.{tellings_of, methods_same, labels_same}
 
 -- what is cited of labels
 pub record LabelLaws (principals : Declared) : Type 0 where

@@ -1,5 +1,5 @@
 -- The first pair that is listed.
-use Rattle.std.proofs.Common.{◌≡◌, ◌≢◌, inl, inr, IsTrue, ℕ, Bool, true, false, List, [], ◌∷◌, All, refl, sym, ap, ◌∙◌, subst}
+use Rattle.std.proofs.Common.{◌≡◌, inl, inr, Bool, true, List, [], ◌∷◌, All, ap, subst}
 use Rattle.std.specs.Prelude.{not, Option, Some, None, slice_get, unwrap_or}
 use Rattle.std.proofs.lemmas.Bool.{and_parts, false≢true}
 use Rattle.std.proofs.lemmas.List.Elements.{All-head}
@@ -8,7 +8,7 @@ use Rattle.js_base.proofs.Options.{some_or_none}
 use Rattle.principals.specs.ActsFor.{Declared, IsDeclared}
 use Rattle.label_lattice.specs.declared.label.Label.{Label}
 use Rattle.label_lattice.specs.Label.{ConfFlows}
-use Rattle.jif_tree.specs.LabelRules.{Constraint, may_release}
+use Rattle.jif_tree.specs.LabelRules.{may_release}
 use Rattle.label_reasons.specs.declared.reason.Trait.{Trait}
 use Rattle.label_reasons.specs.declared.reason.Trait.TheVariants.{Keeps, Distrusts}
 use Rattle.label_reasons.specs.Traits.{has, Fails, IsTrait, IsDeclaredTrait}

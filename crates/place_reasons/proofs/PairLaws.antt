@@ -1,15 +1,12 @@
 -- What the first pair and the first principal tell, and that a head may be held where there is neither.
-use Rattle.std.proofs.Common.{◌≡◌, ◌⊎◌, inl, inr, IsTrue, ℕ, zero, suc, ◌+◌, ◌<◌, ◌≤◌, Bool, true, false, List, [], ◌∷◌}
-use Rattle.std.proofs.Common.{length, refl, sym, ap, ◌∙◌, subst, arith}
-use Rattle.std.specs.Prelude.{◌&&◌, not, if◌then◌else◌, Any, Option, Some, None, slice_get, unwrap_or}
+use Rattle.std.proofs.Common.{◌≡◌, ◌⊎◌, inl, inr, ℕ, zero, suc, ◌+◌, ◌<◌, ◌≤◌, Bool, true, false, List, [], ◌∷◌}
+use Rattle.std.proofs.Common.{length, refl, sym, ap, subst, arith}
+use Rattle.std.specs.Prelude.{◌&&◌, not, if◌then◌else◌, Option, Some, None, slice_get, unwrap_or}
 use Rattle.std.specs.List.{range_with_len}
 use Rattle.std.specs.Option.{option_map}
-use Rattle.std.specs.Int.{bit_at}
 use Rattle.std.proofs.lemmas.Bool.{and_parts, cases_eq, false≢true}
 use Rattle.std.proofs.lemmas.List.Elements.{All-nil}
 use Rattle.std.proofs.lemmas.Option.{none-some}
-use Rattle.js_base.proofs.Options.{some_or_none}
-use Rattle.js_base.specs.declared.limits.TheConstants.{PRINCIPALS}
 use Rattle.js_base.specs.declared.ids.PrincipalId.{PrincipalId}
 use Rattle.principals.specs.ActsFor.{Declared, IsDeclared}
 use Rattle.label_lattice.specs.declared.label.Label.{Label}
@@ -23,7 +20,7 @@ use Rattle.jif_tree.specs.LabelRules.{may_release}
 use Rattle.label_reasons.specs.declared.reason.Trait.{Trait}
 use Rattle.label_reasons.specs.declared.reason.Trait.TheVariants.{Keeps, Distrusts}
 use Rattle.label_reasons.specs.Traits.{Fails, IsDeclaredTrait}
-use Rattle.label_reasons.specs.Listed.{listed, declared_numbers}
+use Rattle.label_reasons.specs.Listed.{listed}
 use Rattle.label_reasons.specs.Reasons.{fails_in}
 use Rattle.label_reasons.proofs.TraitTests.{AreTrusted, not_both}
 use Rattle.label_reasons.proofs.ActsTests.{ActsLaws}
@@ -174,7 +171,7 @@ head_due tells principals laws host method need over needs none =
       pair_due tells principals laws method.begin host.label over both.0,
       λ principal within set. elim (any_first (Backs principals principal) (for_label method.begin) []
           ((needs.members principal within).0 set)) [
-        | inl trusts ↦ trust_due tells principals host.label method.begin over both.1 principal within trusts
-        | inr later ↦ absurd (any_none (Backs principals principal) later)
-      ],
+            | inl trusts ↦ trust_due tells principals host.label method.begin over both.1 principal within trusts
+            | inr later ↦ absurd (any_none (Backs principals principal) later)
+          ],
     )

@@ -15,7 +15,7 @@ use Rattle.jif_tree.specs.Trees.{endorsed, BlockTree, done, set_local, set_field
 use Rattle.jif_tree.specs.Trees.{give_back, MethodTree}
 use Rattle.jif_tree.specs.LabelRules.{field_label, method_at, begin_label, params_of, setting_of}
 use Rattle.label_reasons.specs.declared.reason.Trait.{Trait}
-use Rattle.need_labels.specs.Labelled.{Labelled, pc_of}
+use Rattle.need_labels.specs.Labelled.{Labelled}
 use Rattle.need_labels.specs.Needs.{Telling, StatementUse, tellings_in, statement_use, label_of, labels_of, kept_result}
 use Rattle.need_labels.specs.Needs.{all_backing, block_uses, method_uses, for_label}
 use Rattle.place_reasons.specs.declared.told.Told.{Told}

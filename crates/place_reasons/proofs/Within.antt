@@ -9,14 +9,14 @@ use Rattle.label_lattice.specs.declared.label.Label.{Label}
 use Rattle.jif_tree.specs.declared.program.Method.{Method}
 use Rattle.jif_tree.specs.Trees.{ExprTree, number, local, scalar, element, inverted, negated, binary, declassified}
 use Rattle.jif_tree.specs.Trees.{endorsed, BlockTree, done, set_local, set_field, set_element, branch, loop, call}
-use Rattle.jif_tree.specs.Trees.{give_back, MethodTree, method_tree}
+use Rattle.jif_tree.specs.Trees.{give_back, method_tree}
 use Rattle.label_reasons.specs.declared.reason.Trait.{Trait}
 use Rattle.label_reasons.specs.Traits.{IsTrait}
 use Rattle.need_labels.specs.Labelled.{Labelled}
 use Rattle.place_reasons.specs.declared.told.Told.{Told}
 use Rattle.place_reasons.specs.declared.told.Told.TheVariants.{Read, Index}
 use Rattle.place_reasons.specs.Firsts.{or_first, first_some}
-use Rattle.place_reasons.specs.Reasons.{Site, pc_at, label_at, pair_at, run_told, index_told, told_in, told_by, own_told}
+use Rattle.place_reasons.specs.Reasons.{Site, pc_at, label_at, pair_at, run_told, index_told, told_in, own_told}
 use Rattle.place_reasons.specs.Reasons.{block_told, method_told, site_of, id_of, exprs_of, own_use, used_inside, used_in, used_by}
 use Rattle.place_reasons.specs.Search.{told_pair}
 use Rattle.place_reasons.proofs.FirstPairs.{is_pair}

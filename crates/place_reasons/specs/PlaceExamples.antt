@@ -1,5 +1,5 @@
 -- Some programs of Alice and Bob, to see why a host may not hold parts of them.
-use Rattle.std.specs.Prelude.{ℕ, ◌+◌, ◌-◌, ◌^◌, pos, true, false, List, [], ◌∷◌, Option, Some, None, codes}
+use Rattle.std.specs.Prelude.{ℕ, ◌+◌, ◌-◌, ◌^◌, pos, false, List, [], ◌∷◌, Option, Some, None, codes}
 use Rattle.js_base.specs.declared.bits.TheConstants.{WORD_BITS}
 use Rattle.js_base.specs.declared.binary_operator.BinOp.TheVariants.{Add}
 use Rattle.js_base.specs.declared.ids.FieldId.{FieldId}
@@ -11,8 +11,8 @@ use Rattle.principals.specs.ActsFor.{outsider}
 use Rattle.label_lattice.specs.declared.label.Label.{Label}
 use Rattle.label_lattice.specs.Lattice.{first_bits, empty_label}
 use Rattle.label_lattice.specs.PrintedExamples.{alice_and_bob}
-use Rattle.jif_tree.specs.Trees.{Heading, ExprTree, number, local, scalar, element, binary, declassified, BlockTree}
-use Rattle.jif_tree.specs.Trees.{done, set_local, set_field, branch, call, FieldTree, VarTree, MethodTree}
+use Rattle.jif_tree.specs.Trees.{Heading, local, scalar, element, binary, declassified, BlockTree}
+use Rattle.jif_tree.specs.Trees.{done, set_local, set_field, branch, FieldTree, MethodTree}
 use Rattle.label_reasons.specs.declared.reason.Trait.{Trait}
 use Rattle.label_reasons.specs.declared.reason.Trait.TheVariants.{Keeps}
 use Rattle.label_reasons.specs.declared.reason.Source.{Source}

@@ -1,5 +1,5 @@
 -- What the laws need of a program whose labels were checked.
-use Rattle.std.specs.Prelude.{◌≡◌, ℕ, List, All, map, filter, nat_eq, Some, slice_get}
+use Rattle.std.specs.Prelude.{◌≡◌, List, All, map, filter, nat_eq, Some, slice_get}
 use Rattle.std.specs.List.{flat_map}
 use Rattle.js_base.specs.declared.ids.FieldId.{FieldId}
 use Rattle.principals.specs.ActsFor.{Declared}

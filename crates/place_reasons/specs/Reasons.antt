@@ -4,7 +4,7 @@
 -- trusts what it changes trusts the host. Each row is one of the parts that a field or a statement tells or needs, in
 -- the order in which whoever reads the program meets them. The pairs of a part are listed as those of a flow that is
 -- refused: what nobody may release.
-use Rattle.std.specs.Prelude.{ℕ, ◌==◌, ◌&&◌, Bool, not, if◌then◌else◌, List, [], ◌∷◌, ◌++◌, map, Option, Some, None}
+use Rattle.std.specs.Prelude.{ℕ, ◌==◌, ◌&&◌, not, if◌then◌else◌, List, [], ◌∷◌, Option, Some, None}
 use Rattle.std.specs.Prelude.{slice_get}
 use Rattle.std.specs.List.{list_any}
 use Rattle.std.specs.Option.{option_map}

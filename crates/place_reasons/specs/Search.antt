@@ -2,7 +2,7 @@
 use Rattle.std.specs.Prelude.{◌≡◌, ℕ, List, ◌∷◌, ◌++◌, Option}
 use Rattle.js_base.specs.declared.ids.StmtId.{StmtId}
 use Rattle.js_base.specs.declared.ids.VarId.{VarId}
-use Rattle.jif_tree.specs.Trees.{ExprTree, BlockTree, MethodTree, ProgramTree, program_tree, method_tree}
+use Rattle.jif_tree.specs.Trees.{ExprTree, BlockTree, MethodTree, ProgramTree, method_tree}
 use Rattle.principals.specs.ActsFor.{Declared}
 use Rattle.label_lattice.specs.Lattice.{join_of}
 use Rattle.jif_tree.specs.LabelRules.{VariableLabels, labels_after, labels_after_assignment, setting_of}

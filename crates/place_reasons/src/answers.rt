@@ -156,7 +156,10 @@ fn exprs_answer(
 {
     let mut found = None;
     for value in values {
-        found = or_first(found, expr_answer(place, question, here, stand, known, value));
+        found = or_first(
+            found,
+            expr_answer(place, question, here, stand, known, value),
+        );
     }
     found
 }

@@ -31,7 +31,13 @@ pub enum Backed {
 }
 
 /// For what changes, where the principal trusts its label.
-fn change_backed(principal: u8, here: StmtId, label: &Label, what: Needed, found: &mut Option<Backed>)
+fn change_backed(
+    principal: u8,
+    here: StmtId,
+    label: &Label,
+    what: Needed,
+    found: &mut Option<Backed>,
+)
     requires { principal < READERS }
     ensures { found.new ≡ or_first found.old (change_backed principal here label.now what) }
 {
@@ -91,9 +97,23 @@ fn call_backed(
     let program = &site.checked.program;
     let begin = begin_label(program, method);
     change_backed(principal, here, &begin, Needed::Begin(method), found);
-    params_backed(site, principal, here, method, params_of(program, method), found);
+    params_backed(
+        site,
+        principal,
+        here,
+        method,
+        params_of(program, method),
+        found,
+    );
     if let Some(variable) = into {
-        variable_backed(site, principal, here, variable, Needed::Variable(variable), found);
+        variable_backed(
+            site,
+            principal,
+            here,
+            variable,
+            Needed::Variable(variable),
+            found,
+        );
     }
 }
 
@@ -171,12 +191,7 @@ fn statement_releases(statement: &Stmt) -> bool
 }
 
 /// For what a statement changes itself.
-fn changed_by(
-    site: &HostSite<'_>,
-    principal: u8,
-    statement: &Stmt,
-    found: &mut Option<Backed>,
-)
+fn changed_by(site: &HostSite<'_>, principal: u8, statement: &Stmt, found: &mut Option<Backed>)
     requires { principal < READERS }
     ensures { (rest : BlockTree) → found.new
         ≡ or_first found.old (changed_by (site_is site.now) principal (tree_before statement.now rest)) }
@@ -203,7 +218,14 @@ fn changed_by(
         }
         StmtKind::Return { .. } => {
             if let Some(variable) = site.method.result {
-                variable_backed(site, principal, here, variable, Needed::Result(variable), found)
+                variable_backed(
+                    site,
+                    principal,
+                    here,
+                    variable,
+                    Needed::Result(variable),
+                    found,
+                )
             }
         }
     }
@@ -225,12 +247,7 @@ fn own_backed(site: &HostSite<'_>, principal: u8, statement: &Stmt, found: &mut 
 
 /// For what the statements of a block change or release.
 #[cycle(blocks)]
-fn block_backed(
-    site: &HostSite<'_>,
-    principal: u8,
-    statements: &[Stmt],
-    found: &mut Option<Backed>,
-)
+fn block_backed(site: &HostSite<'_>, principal: u8, statements: &[Stmt], found: &mut Option<Backed>)
     requires declared { principal < length site.now.principals.now.names }
     requires reader { principal < READERS }
     requires authority { AreDeclared site.now.principals.now site.now.method.now.authority.items }

@@ -61,7 +61,11 @@ pub fn first_pair(
 }
 
 /// The first pair of a label that the host of a site does not keep.
-pub fn pair_at(alloc: Global, site: &HostSite<'_>, label: &Label) -> Result<Option<Trait>, OutOfMemory>
+pub fn pair_at(
+    alloc: Global,
+    site: &HostSite<'_>,
+    label: &Label,
+) -> Result<Option<Trait>, OutOfMemory>
     ensures { IfOk result (λ pair. pair ≡ pair_at (site_is site.now) label.now) }
 {
     first_pair(alloc, site.principals, label, site.host)

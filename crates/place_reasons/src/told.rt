@@ -25,11 +25,7 @@ pub enum Told {
 }
 
 /// What a read of a field tells: that the statement reads it.
-fn run_told(
-    alloc: Global,
-    site: &HostSite<'_>,
-    here: StmtId,
-) -> Result<Option<Told>, OutOfMemory>
+fn run_told(alloc: Global, site: &HostSite<'_>, here: StmtId) -> Result<Option<Told>, OutOfMemory>
     ensures { IfOk result (λ told. told
         ≡ option_map (λ pair. Read pair here) (pair_at (site_is site.now) (pc_at (site_is site.now) here))) }
 {

@@ -48,25 +48,15 @@ fn used_inside(
 {
     match expr {
         Expr::Number(_) | Expr::Local(_) | Expr::Scalar(_) => Ok(()),
-        Expr::Element(_, index) => {
-            used_in(alloc, site, here, index, found)
-        }
-        Expr::Not(operand) => {
-            used_in(alloc, site, here, operand, found)
-        }
-        Expr::Negate(operand) => {
-            used_in(alloc, site, here, operand, found)
-        }
+        Expr::Element(_, index) => { used_in(alloc, site, here, index, found) }
+        Expr::Not(operand) => { used_in(alloc, site, here, operand, found) }
+        Expr::Negate(operand) => { used_in(alloc, site, here, operand, found) }
         Expr::Binary(_, left, right) => {
             used_in(alloc, site, here, left, found)?;
             used_in(alloc, site, here, right, found)
         }
-        Expr::Declassify(operand, _) => {
-            used_in(alloc, site, here, operand, found)
-        }
-        Expr::Endorse(operand, _) => {
-            used_in(alloc, site, here, operand, found)
-        }
+        Expr::Declassify(operand, _) => { used_in(alloc, site, here, operand, found) }
+        Expr::Endorse(operand, _) => { used_in(alloc, site, here, operand, found) }
     }
 }
 

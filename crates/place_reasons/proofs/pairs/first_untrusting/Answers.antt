@@ -1,4 +1,4 @@
-use Rattle.std.proofs.Common.{ap, ap₂, ◌∙◌}
+use Rattle.std.proofs.Common.{ap₂, ◌∙◌}
 use Rattle.place_reasons.specs.Firsts.{or_first}
 use Rattle.place_reasons.specs.Reasons.{untrusting}
 use Rattle.place_reasons.proofs.Firsts.{first_range_more}

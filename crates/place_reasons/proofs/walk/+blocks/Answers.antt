@@ -1,7 +1,7 @@
-use Rattle.std.proofs.Common.{suc, List, map, drop, refl, sym, subst, add-one, arith}
+use Rattle.std.proofs.Common.{suc, List, drop, sym, subst, add-one, arith}
 use Rattle.js_base.proofs.Lists.{next_of}
 use Rattle.jif_tree.specs.declared.program.Stmt.{Stmt}
-use Rattle.jif_tree.specs.Trees.{BlockTree, done, block_tree, tree_before, head_of, expr_tree}
+use Rattle.jif_tree.specs.Trees.{done, block_tree, tree_before, head_of, expr_tree}
 use Rattle.jif_tree.proofs.StatementCounts.{part_counts, first_counts, second_counts, body_counts}
 use Rattle.jif_tree.proofs.NestingTrees.{if_is, while_is}
 use Rattle.place_reasons.specs.Search.{Answers}
@@ -44,9 +44,10 @@ pub answer_statement-answer_block-requires-in-If : goal.answer_statement-answer_
 answer_statement-answer_block-requires-in-If t c =
     let less = second_counts (head_of c.args.statement.now) (block_tree c.in-If.yes.items) (block_tree c.in-If.no.items)
     (tree_before c.args.statement.now done)
-    (if_is c.args.statement.now c.in-If.guard c.in-If.yes c.in-If.no done c.in-If.is c.tree_laws.ensures.branches) in
-    (rw c.deref-in-If.ensures.value (omega (arith, c.decreases)),
-    (c.requires.held, c.in_ok-answer_block-in-If.ensures.long))
+    (if_is c.args.statement.now c.in-If.guard c.in-If.yes c.in-If.no done c.in-If.is c.tree_laws.ensures.branches) in (
+      rw c.deref-in-If.ensures.value (omega (arith, c.decreases)),
+      (c.requires.held, c.in_ok-answer_block-in-If.ensures.long),
+    )
 
 pub answer_statement-answer_block-requires-in-While : goal.answer_statement-answer_block-requires-in-While
 answer_statement-answer_block-requires-in-While t c =
