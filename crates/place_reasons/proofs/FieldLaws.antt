@@ -64,7 +64,7 @@ conf_right principals laws first second host one two flows owner reader owner_in
     flows owner reader owner_in reader_in
     (((laws.joined first second one.is_label two.is_label).forbids owner reader owner_in reader_in).1 (inr held))
 
-abbrev first_told : Declared → Label → List Label → Option Trait
+abbrev pub first_told : Declared → Label → List Label → Option Trait
 first_told principals host labels = first_some (λ label. first_pair principals label host) labels
 
 fold_over : (principals : Declared) → LabelLaws principals → (label : Label) (labels : List Label) →
@@ -75,7 +75,7 @@ fold_over principals laws label (one ∷ labels) over all =
     (laws.over label one over (All-head (IsLabelOver principals) one labels all))
     (All-tail (IsLabelOver principals) one labels all)
 
-fold_flows : (principals : Declared) → LabelLaws principals → AreTrusted → ActsLaws principals → (host label : Label)
+pub fold_flows : (principals : Declared) → LabelLaws principals → AreTrusted → ActsLaws principals → (host label : Label)
     (labels : List Label) → IsLabelOver principals label → All (IsLabelOver principals) labels → ConfFlows label host →
     first_told principals host labels ≡ None → ConfFlows (fold join_of label labels) host
 fold_flows principals laws tells acts host label [] over all flows none = flows
@@ -86,7 +86,7 @@ fold_flows principals laws tells acts host label (one ∷ labels) over all flows
     (All-tail (IsLabelOver principals) one labels all)
     (conf_join principals laws label one host over own flows (pair_due tells principals acts one host own both.0)) both.1
 
-fold_below : (principals : Declared) → LabelLaws principals → (host label : Label) (labels : List Label) →
+pub fold_below : (principals : Declared) → LabelLaws principals → (host label : Label) (labels : List Label) →
     IsLabelOver principals label → All (IsLabelOver principals) labels → ConfFlows (fold join_of label labels) host →
     ConfFlows label host
 fold_below principals laws host label [] over all flows = flows
@@ -96,7 +96,7 @@ fold_below principals laws host label (one ∷ labels) over all flows =
     (fold_below principals laws host (join_of label one) labels (laws.over label one over own)
     (All-tail (IsLabelOver principals) one labels all) flows)
 
-fold_denies : (principals : Declared) → LabelLaws principals → IsDeclared principals → (host label : Label)
+pub fold_denies : (principals : Declared) → LabelLaws principals → IsDeclared principals → (host label : Label)
     (labels : List Label) (pair : Trait) → IsLabelOver principals label → All (IsLabelOver principals) labels →
     first_told principals host labels ≡ Some pair → ¬ ConfFlows (fold join_of label labels) host
 fold_denies principals laws declared host label [] pair over all is flows = none-some pair is

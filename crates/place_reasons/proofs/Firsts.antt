@@ -32,7 +32,7 @@ any_mapped test f [] = refl
 any_mapped test f (x ∷ xs) = ap (λ rest. test (f x) || rest) (any_mapped test f xs)
 
 -- with one more item
-first_pushed : {X Y : Type 0} (make : X → Option Y) (xs : List X) (x : X) →
+pub first_pushed : {X Y : Type 0} (make : X → Option Y) (xs : List X) (x : X) →
     first_some make (xs ++ x ∷ []) ≡ or_first (first_some make xs) (make x)
 first_pushed make xs x = first_in_two make xs (x ∷ []) ∙ ap (or_first (first_some make xs)) (or_none (make x))
 

@@ -7,3 +7,4 @@ pub mod Numbered
 pub mod PairLaws
 pub mod ToldLabels
 pub mod FieldLaws
+pub mod UsedLabels

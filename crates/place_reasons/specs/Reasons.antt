@@ -347,6 +347,10 @@ use_row site block = option_map
 abbrev pub need_row : Site → BlockTree → Option PlaceReason
 need_row site block = first_some (need_of site block) (declared_numbers site.principals)
 
+-- what the labels of a statement keep
+abbrev pub kept_rows : Site → BlockTree → Option PlaceReason
+kept_rows site block = or_first (run_row site block) (or_first (use_row site block) (call_row site block))
+
 -- Why a host of this label may not hold the one statement of a block: what its execution tells, and who has to trust
 -- its host, also for what stands in it.
 abbrev pub statement_reason : Declared → Labelled → Label → MethodTree → BlockTree → Option PlaceReason

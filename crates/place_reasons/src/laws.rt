@@ -1,21 +1,23 @@
 //! Laws of why a host may not hold a part of a program. The calls do nothing: their contracts are the laws.
 
-ghost use Rattle.std.specs.Prelude.{◌≡◌, ◌<◌, ℕ, ◌∷◌, [], Some, None, length};
+ghost use Rattle.std.specs.Prelude.{◌≡◌, ◌<◌, ℕ, List, ◌∷◌, [], Some, None, length};
 ghost use Rattle.principals.specs.ActsFor.{Declared, IsDeclared};
 ghost use Rattle.label_lattice.specs.declared.label.Label.{Label};
 ghost use Rattle.label_lattice.specs.Label.{ConfFlows, IntegFlows, Trusts};
 ghost use Rattle.label_lattice.specs.Over.{IsLabelOver};
 ghost use Rattle.host_decl.specs.Hosts.{HostShape};
 ghost use Rattle.js_base.specs.declared.ids.FieldId.{FieldId};
-ghost use Rattle.jif_tree.specs.Trees.{FieldTree, MethodTree};
+ghost use Rattle.jif_tree.specs.Trees.{BlockTree, FieldTree, MethodTree};
+ghost use Rattle.jif_tree.specs.LabelRules.{setting_of};
 ghost use Rattle.need_labels.specs.Labelled.{Labelled};
 ghost use Rattle.label_reasons.specs.declared.reason.Trait.{Trait};
 ghost use Rattle.label_reasons.specs.Traits.{Fails, IsDeclaredTrait};
-ghost use Rattle.need_labels.specs.Needs.{IsNeed, for_label};
+ghost use Rattle.need_labels.specs.Needs.{IsNeed, StatementUse, block_uses, for_label};
 ghost use Rattle.place_rules.specs.PlaceRules.{MayHoldField, MayHoldStatement};
-ghost use Rattle.place_reasons.specs.Programs.{IsFieldOver, all_told};
+ghost use Rattle.place_reasons.specs.Programs.{IsFieldOver, IsUseOver, all_told};
 ghost use Rattle.place_reasons.specs.declared.reason.PlaceReason.{PlaceReason};
 ghost use Rattle.place_reasons.specs.Reasons.{first_pair, first_untrusting, field_reason, head_reason};
+ghost use Rattle.place_reasons.specs.Reasons.{site_of, kept_rows};
 ghost use Rattle.label_reasons.specs.declared.reason.Source.TheVariants.{OfField};
 ghost use Rattle.label_reasons.specs.declared.reason.Via.TheVariants.{Itself, ByLocal, ByGuard};
 ghost use Rattle.place_reasons.specs.declared.reason.Needed.TheVariants.{Field, Head};
@@ -67,6 +69,19 @@ pub fn place_laws()
         (tree : FieldTree) → IsDeclared principals → IsFieldOver principals labelled field tree →
         field_reason principals labelled host.label field ≡ None →
         MayHoldField (tree, all_told principals labelled field) host }
+    // Where there is a reason in what a statement's labels keep, the host may not hold the statement.
+    ensures statement_true { (principals : Declared) (labelled : Labelled) (host : HostShape) (method : MethodTree)
+        (block : BlockTree) (one : StatementUse) (inside : List StatementUse) (need : ℕ) (reason : PlaceReason) →
+        IsDeclared principals → block_uses labelled (setting_of principals labelled.program method) block ≡ one ∷ inside →
+        IsUseOver principals labelled (setting_of principals labelled.program method) block →
+        kept_rows (site_of principals labelled host.label method) block ≡ Some reason →
+        ¬ MayHoldStatement (one.used, need) host }
+    // Where there is none, all that its execution tells may flow to the host.
+    ensures statement_tells { (principals : Declared) (labelled : Labelled) (host : HostShape) (method : MethodTree)
+        (block : BlockTree) (one : StatementUse) (inside : List StatementUse) → IsDeclared principals →
+        block_uses labelled (setting_of principals labelled.program method) block ≡ one ∷ inside →
+        IsUseOver principals labelled (setting_of principals labelled.program method) block →
+        kept_rows (site_of principals labelled host.label method) block ≡ None → ConfFlows one.used host.label }
 {
     acts_for_laws();
     label_laws();
