@@ -17,7 +17,7 @@ use principals::{Principals, acts_for_laws};
 use std::alloc::Global;
 
 /// Whether a reader acts for a declared principal. The outsider acts for none.
-fn acts_for(principals: &Principals, first: u8, second: u8) -> bool
+pub fn acts_for(principals: &Principals, first: u8, second: u8) -> bool
     requires reader { IsReader principals.now first }
     requires declared { second < length principals.now.names }
     ensures { result ≡ acts_for principals.now first second }

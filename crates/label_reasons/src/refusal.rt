@@ -49,7 +49,10 @@ fn declared_cause(held: Trait, label: &Option<Label>, var: VarId) -> Option<Caus
 }
 
 /// What is known of variables where a program begins.
-fn declared(alloc: Global, program: &Program, held: Trait) -> Result<Known, OutOfMemory>
+///
+/// # Errors
+/// That memory ran out.
+pub fn declared(alloc: Global, program: &Program, held: Trait) -> Result<Known, OutOfMemory>
     requires held { IsTrait held }
     requires few { length program.now.vars.items < 2 ^ 32 }
     ensures labels { IfOk result (λ known. known.labels.items ≡ declared_labels (program_tree program.now)) }

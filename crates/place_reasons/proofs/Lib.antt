@@ -1,0 +1,10 @@
+pub mod Firsts
+pub mod Nested
+pub mod FirstPairs
+pub mod Walking
+pub mod Within
+pub mod Numbered
+pub mod PairLaws
+pub mod ToldLabels
+pub mod FieldLaws
+pub mod UsedLabels

@@ -1,0 +1,12 @@
+use Rattle.std.proofs.Common.{◌≡◌, take}
+use Rattle.jif_tree.specs.Trees.{expr_tree}
+use Rattle.place_reasons.specs.Firsts.{or_first, first_some}
+use Rattle.place_reasons.specs.Reasons.{used_in}
+use Rattle.place_reasons.specs.Search.{site_is}
+use Rattle.place_reasons.proofs.uses.used_in_all.Given as goal
+
+-- what was found is what there was, and otherwise the first pair of the expressions so far
+abbrev pub invariant-loop-value : goal.invariant-loop-value
+invariant-loop-value l =
+    l.found ≡ or_first l.fn.found
+    (first_some (λ value. used_in (site_is l.site) l.here (expr_tree value)) (take l.value-index l.values))
