@@ -89,7 +89,7 @@ nodes() {
 }
 
 # starts all nodes of an example in a copy of its folder by one command, and compares what it prints, the journals, the
-# script that these are merged into, and what its replay prints
+# script that these are merged into, what its replay prints, and the fields that each host's journal tells by itself
 launched() {
   local folder=$1 copy=$scratch/launched host
   rm -rf "$copy"
@@ -116,11 +116,21 @@ launched() {
     "$program" replay program.jif hosts.toml merged.script) >"$scratch/out" 2>>"$scratch/err" </dev/null
   if cmp -s "$copy/merged.script" "$folder/merged" && cmp -s "$scratch/out" "$folder/replayed"; then
     passed=$((passed + 1))
+  else
+    failed=$((failed + 1))
+    echo "$(basename "$folder"): the journals of its nodes were not merged, or not replayed"
+    cat "$scratch/err"
+    diff -u --label 'wanted script' --label script "$folder/merged" "$copy/merged.script"
+    diff -u --label 'wanted report' --label report "$folder/replayed" "$scratch/out"
+  fi
+  (cd "$copy" && for host in $(sed '/^#/d' nodes); do
+    "$fields" --program program.jif hosts.toml "$host" start.txt "$host.journal"
+  done) >"$scratch/out" 2>"$scratch/err" </dev/null
+  if cmp -s <(sort "$scratch/out") <(grep '^field ' "$folder/replayed" | sort); then
+    passed=$((passed + 1))
     return
   fi
   failed=$((failed + 1))
-  echo "$(basename "$folder"): the journals of its nodes were not merged, or not replayed"
-  cat "$scratch/err"
-  diff -u --label 'wanted script' --label script "$folder/merged" "$copy/merged.script"
-  diff -u --label 'wanted report' --label report "$folder/replayed" "$scratch/out"
+  echo "$(basename "$folder"): the journals of its hosts tell other fields"
+  cat "$scratch/out" "$scratch/err"
 }
