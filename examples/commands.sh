@@ -1,6 +1,6 @@
 # Runs the commands and the nodes of examples and cases, and compares what they print and how they end with what the files
-# there say. `program`, `node`, `tokens`, `picture`, `runner`, `merged` and `fields` are the programs, `scratch` is a folder to
-# work in, and `passed` and `failed` count.
+# there say. `program`, `node`, `tokens`, `picture`, `runner`, `merged`, `fields` and `explained` are the programs,
+# `scratch` is a folder to work in, and `passed` and `failed` count.
 
 # compares one command of an example: its folder, its words, of which `SCRATCH/NAME` is a file of the scratch folder, and
 # in the scratch folder what is wanted; where the first word is another program, that is run
@@ -14,6 +14,7 @@ compare() {
     jifrun) ran=$runner words=("${words[@]:1}") ;;
     jifmerge) ran=$merged words=("${words[@]:1}") ;;
     jiffields) ran=$fields words=("${words[@]:1}") ;;
+    jifexplain) ran=$explained words=("${words[@]:1}") ;;
     jifhost) ran=$node words=("${words[@]:1}") ;;
   esac
   (cd "$folder" && "$ran" "${words[@]}" >"$scratch/out" 2>"$scratch/err" </dev/null)

@@ -6,6 +6,7 @@ picture=$top/crates/jifpicture/out/jifpicture
 runner=$top/crates/jifrun/out/jifrun
 merged=$top/crates/jifmerge/out/jifmerge
 fields=$top/crates/jiffields/out/jiffields
+explained=$top/crates/jifexplain/out/jifexplain
 unchanged=''
 
 # A program is newer than all sources. To look at each of them takes far longer than a small answer, so a stamp beside
@@ -109,5 +110,6 @@ build_all() {
   build "$runner" jifrun || return 1
   lay_node
   build "$merged" jifmerge data/program.jif data/hosts.toml data/start.txt data/A.journal data/B.journal || return 1
-  build "$fields" jiffields
+  build "$fields" jiffields || return 1
+  build "$explained" jifexplain data/program.jif data/hosts.toml
 }

@@ -85,6 +85,10 @@ _jiffields() {
   esac
 }
 
+_jifexplain() {
+  _jif_in_order .jif .toml
+}
+
 _jifpicture() {
   _jif_in_order .jif .toml
 }
@@ -108,6 +112,7 @@ complete -F _jifhost jifhost
 complete -F _jifrun jifrun
 complete -F _jifmerge jifmerge
 complete -F _jiffields jiffields
+complete -F _jifexplain jifexplain
 complete -F _jifpicture jifpicture
 complete -F _jiftokens jiftokens
 complete -F _jifkeys jifkeys
