@@ -1,6 +1,22 @@
 //! What is told of a refused program: where it stands in the text, why it is refused, and what to try.
 //!
-//! Start at `specs/Told.antt`. Each text is a function of the files in `specs/`, over tokens, drafts and trees.
+//! **Promises.** Each text is exactly that of a definition, over tokens, drafts, trees and reasons.
+//!
+//! **Begin** with `specs/Told.antt` (how what is told is laid out), `specs/Heads.antt` (texts, grammar, names) and
+//! `specs/Labels.antt` (labels).
+//!
+//! **Stays.** The words of docs/FORMATS.md. That a part of the tree is written where the draft has the part of the same
+//! number is not proved; names are resolved in the order of the draft.
+//!
+//! - `told`: what is told as a value (a place, a message, lines), and how it is laid out
+//! - `token_texts`: how tokens are spelled, and where they stand
+//! - `heads`: a refused text, tokens that are no program, and names
+//! - `remedies`: what to try, by the tokens around a refused one
+//! - `written`: where the parts of a draft are written, as numbers of tokens
+//! - `sheet`, `names`: what names the parts of a program, and their lines
+//! - `causes`, `asked`, `reason_lines`: the lines of reasons: one for each owner and cause, and one for each principal
+//! - `labels`: a refused statement: its place, what may not be, the lines, and what to try
+//! - `unheld`: a part that no host may hold
 #![tactic(auto)]
 
 mod asked;

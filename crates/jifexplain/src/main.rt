@@ -1,5 +1,19 @@
 //! Tells why a program is refused that computes over the secrets of several parties: the place in the text, the
 //! reasons, and what to try.
+//!
+//! **Promises.** Whatever `jifsplit check` refuses is refused with the same status and a text that explains it, and
+//! nothing is put where it accepts.
+//!
+//! **Begin** with `src/top.rt`, then `specs/Due.antt`.
+//!
+//! **Stays.** What is refused is read once more, up to the stage before the one that refused it, so accepted programs
+//! pay nothing. A stage that is read once more may stop too, as far as the definition says (`DueThen`), so that no
+//! function has to show that it does not.
+//!
+//! - `shown`: what `explain_texts` tells of a refused program, as what is due; why a host file is refused
+//! - `explained`: what explains a refusal
+//! - `due`: what is due for two words
+//! - `top`: the public call: puts out what is due
 #![tactic(auto)]
 
 mod due;

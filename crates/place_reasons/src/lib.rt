@@ -1,4 +1,13 @@
 //! Why a host may not hold a field or a statement of a program. Definitions and their laws.
+//!
+//! **Promises.** What `field_reason`, `head_reason` and `statement_reason` answer is the reason of the definition: the
+//! first row that holds, by its first pair or principal; and `place_laws` says what such a reason denies. No program
+//! uses this crate yet.
+//!
+//! **Begin** with `specs/Reasons.antt`.
+//!
+//! **Stays.** The rows follow the tests of `place_rules` and the needs of `need_labels`: a test that changes there
+//! changes here.
 #![tactic(auto)]
 
 mod answers;
