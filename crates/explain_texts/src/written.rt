@@ -83,7 +83,8 @@ fn push_variables(tokens: &mut Vec<u32>, method: &MethodDraft) -> Result<(), Out
 
 /// Adds the names of parameters.
 fn push_params(tokens: &mut Vec<u32>, params: &[ParamDraft]) -> Result<(), OutOfMemory>
-    ensures { OnOk result (tokens.new.items ≡ tokens.old.items ++ map (λ param. param.name.at) (map param_shape params.now)) }
+    ensures { OnOk result (tokens.new.items
+        ≡ tokens.old.items ++ map (λ param. param.name.at) (map param_shape params.now)) }
 {
     for param in params {
         tokens.push(param.name.at)?;

@@ -1,3 +1,9 @@
+-- `Firsts`: the first of what may be there
+-- `Questions`: what brings a pair into a program label, an expression or an index, for each statement
+-- `Reasons`: why a host may not hold a field, a head or a statement: the first of the rows that holds
+-- `Search`: what the walks of the code find
+-- `Programs`: what the laws need of a program
+-- `PlaceExamples`: small programs
 pub mod Firsts
 pub mod Questions
 pub mod Reasons

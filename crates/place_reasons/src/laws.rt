@@ -72,7 +72,8 @@ pub fn place_laws()
     // Where there is a reason in what a statement's labels keep, the host may not hold the statement.
     ensures statement_true { (principals : Declared) (labelled : Labelled) (host : HostShape) (method : MethodTree)
         (block : BlockTree) (one : StatementUse) (inside : List StatementUse) (need : ℕ) (reason : PlaceReason) →
-        IsDeclared principals → block_uses labelled (setting_of principals labelled.program method) block ≡ one ∷ inside →
+        IsDeclared principals →
+        block_uses labelled (setting_of principals labelled.program method) block ≡ one ∷ inside →
         IsUseOver principals labelled (setting_of principals labelled.program method) block →
         kept_rows (site_of principals labelled host.label method) block ≡ Some reason →
         ¬ MayHoldStatement (one.used, need) host }

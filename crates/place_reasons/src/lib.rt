@@ -6,6 +6,9 @@
 //!
 //! **Begin** with `specs/Reasons.antt`.
 //!
+//! Rows are decided by the labels that were checked; only then is looked for what brings the pair in, by one walk over
+//! the program.
+//!
 //! **Stays.** The rows follow the tests of `place_rules` and the needs of `need_labels`: a test that changes there
 //! changes here.
 #![tactic(auto)]

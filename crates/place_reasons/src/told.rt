@@ -108,7 +108,8 @@ fn told_in(
     found: &mut Option<Told>,
 ) -> Result<(), OutOfMemory>
     requires { IsSite site.now }
-    ensures { OnOk result (found.new ≡ or_first found.old (told_in (site_is site.now) wanted here (expr_tree expr.now))) }
+    ensures { OnOk result (found.new
+        ≡ or_first found.old (told_in (site_is site.now) wanted here (expr_tree expr.now))) }
 {
     match expr {
         Expr::Number(_) | Expr::Local(_) => Ok(()),
