@@ -17,12 +17,14 @@
 //! - `causes`, `asked`, `reason_lines`: the lines of reasons: one for each owner and cause, and one for each principal
 //! - `labels`: a refused statement: its place, what may not be, the lines, and what to try
 //! - `unheld`: a part that no host may hold
+//! - `laws`: worked texts
 #![tactic(auto)]
 
 mod asked;
 mod causes;
 mod heads;
 mod labels;
+mod laws;
 mod names;
 mod reason_lines;
 mod remedies;
@@ -34,6 +36,7 @@ mod written;
 
 pub use heads::{lexed_told, parsed_told, resolved_told};
 pub use labels::labels_told;
+pub use laws::{head_examples, line_examples, remedy_examples};
 pub use sheet::Sheet;
 pub use told::{Told, told_text};
 pub use unheld::{field_told, statement_told};
