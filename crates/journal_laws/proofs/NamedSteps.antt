@@ -192,7 +192,7 @@ names_on code next host step passes names rest key other = record {
         (step_named name next step) (names.fresh name) (names.single name)
 
     by : (step_hits 0 (move_of next step) ≡ 0) ⊎ (step_hits 0 (move_of next step) ≡ (if next == 0 then 1 else 0)) →
-        count 0 (told_step code host (move_of next step) passes).state 
+        count 0 (told_step code host (move_of next step) passes).state
         ≤ count 0 host + step_hits 0 (move_of next step) →
         count 0 (told_step code host (move_of next step) passes).state ≡ 0
     by (inl is) few = let before = names.zero_none in omega (arith, few, is, before)
