@@ -1,6 +1,6 @@
 //! The words of a command line.
 //!
-//! **Promises.** The words of a command line as texts, none where one is no text.
+//! **Promises.** Nothing by a clause. It gives the words of a command line as texts, none where one is no text.
 //!
 //! **Begin** with `words`, the only call.
 //!

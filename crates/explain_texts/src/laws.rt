@@ -56,5 +56,6 @@ pub fn line_examples()
         ≡ codes "Alice does not trust what leads here, and has to, since the authority of Alice is used: "
         ++ codes "the begin label of main (line 3)\n" }
     ensures given { principal_line (record { asking = Flowing; target = codes "t"; method = codes "main" })
-        (codes "Alice") (codes "field p (line 2)") ≡ codes "Alice trusts t, and not what it is given: field p (line 2)\n" }
+        (codes "Alice") (codes "field p (line 2)")
+        ≡ codes "Alice trusts t, and not what it is given: field p (line 2)\n" }
 {}

@@ -5,7 +5,7 @@
 //!
 //! **Begin** with `specs/Exposed.antt` (what they may affect) and `specs/Altering.antt` (what is promised).
 //!
-//! **Stays.** This is one half of the headline: its clauses are cited word for word by `split_cli`.
+//! **Stays.** One half of the headline rests on its clauses, which `split_cli` cites.
 //!
 //! It has definitions and laws alone. `specs/Exposed` says which hosts misbehave, what they may affect and what they
 //! leave as it was, `specs/Outside` when all that goes on could be their doing, and `specs/Altering` what hosts promise

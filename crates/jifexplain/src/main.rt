@@ -1,8 +1,8 @@
 //! Tells why a program is refused that computes over the secrets of several parties: the place in the text, the
 //! reasons, and what to try.
 //!
-//! **Promises.** Whatever `jifsplit check` refuses is refused with the same status and a text that explains it, and
-//! nothing is put where it accepts.
+//! **Promises.** Where `jifsplit check` refuses a program or a host file, what explains that refusal is put, and where
+//! it accepts nothing is. That the status is the same, and that one explanation alone is due, no law says yet.
 //!
 //! **Begin** with `src/top.rt`, then `specs/Due.antt`.
 //!

@@ -1,7 +1,7 @@
 //! Runs the part of one host of a program that computes over the secrets of several parties, over Unix sockets.
 //!
-//! **Promises.** `main` makes the real links, journal and files, hands them to `node_engine`, and gives its status
-//! back.
+//! **Promises.** Nothing by itself. `main` makes the real links, journal and files, hands them to `node_engine`, and
+//! gives its status back.
 //!
 //! **Begin** with `main`; all that is promised stands in `node_engine`.
 //!

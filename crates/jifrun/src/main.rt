@@ -1,7 +1,7 @@
 //! Launches the nodes of all hosts of a program that computes over the secrets of several parties, on this machine.
 //!
-//! **Promises.** `main` makes the real files and the spawner of the system, hands them to `launch`, and gives its
-//! status back.
+//! **Promises.** Nothing by itself. `main` makes the real files and the spawner of the system, hands them to `launch`,
+//! and gives its status back.
 //!
 //! **Begin** with `main`; all that is promised stands in `launch`.
 //!

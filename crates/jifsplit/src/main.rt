@@ -1,6 +1,7 @@
 //! Replays what the hosts of a program do that computes over the secrets of several parties.
 //!
-//! **Promises.** `main` makes the real files and outputs, hands them to `split_cli`, and gives its status back.
+//! **Promises.** Nothing by itself. `main` makes the real files and outputs, hands them to `split_cli`, and gives its
+//! status back.
 //!
 //! **Begin** with `main`; all that is promised stands in `split_cli`.
 //!

@@ -1,7 +1,8 @@
 //! What the journal of a host tells of it: laws of hosts without the tags of their tokens.
 //!
 //! **Promises.** The journal of a host determines its fields and variables, whatever its key is and whatever was sent;
-//! and a journal is that of some host exactly where it can be played (`field_laws`).
+//! a journal that was played is that of some host, and where a played host does not go on by a line none has it
+//! (`field_laws`).
 //!
 //! **Begin** with `specs/Plays.antt` (`IsJournalOf`).
 //!
