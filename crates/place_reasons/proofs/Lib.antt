@@ -8,3 +8,8 @@ pub mod PairLaws
 pub mod ToldLabels
 pub mod FieldLaws
 pub mod UsedLabels
+pub mod FirstFound
+pub mod BackedStatements
+pub mod StatementLaws
+pub mod RefutedStatements
+pub mod RefutedFields

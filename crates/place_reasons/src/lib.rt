@@ -27,6 +27,6 @@ mod uses;
 mod walk;
 
 pub use fields::field_reason;
-pub use laws::{place_examples, place_laws};
+pub use laws::{place_examples, place_laws, program_place_laws, refuted_laws};
 pub use reason::{Needed, PlaceReason};
 pub use statements::{head_reason, statement_reason};
