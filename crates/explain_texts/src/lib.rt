@@ -34,10 +34,16 @@ mod told;
 mod unheld;
 mod written;
 
+pub use asked::param_text;
+pub use causes::{cause_text, on_line, source_text};
 pub use heads::{lexed_told, parsed_told, resolved_told};
 pub use labels::labels_told;
 pub use laws::{head_examples, line_examples, remedy_examples};
-pub use sheet::Sheet;
-pub use told::{Told, told_text};
+pub use names::{
+    field_name, kind_of_field, method_around, method_name, principal_name, variable_words,
+};
+pub use reason_lines::reader_name;
+pub use sheet::{Sheet, part_line};
+pub use told::{Told, message_told, told_text};
 pub use unheld::{field_told, statement_told};
 pub use written::{Places, draft_places};

@@ -260,7 +260,7 @@ fn reader_names(
 }
 
 /// The name of a reader.
-fn reader_name(principals: &Principals, held: Trait) -> &str
+pub fn reader_name(principals: &Principals, held: Trait) -> &str
     ensures { result.now ≡ lines.reader_name principals.now held }
 {
     match held {

@@ -112,7 +112,7 @@ lexed_or_not law text list (lex.BadByte at) short reads fails =
 lexed_or_not law text list (lex.BadNumber at) short reads fails =
     let same = law text (tokens list) (bad_number at) reads fails.1 in cc
 
-lexed_once : LexLaw → (text : List ℕ) → IsOne (Lexed text)
+pub lexed_once : LexLaw → (text : List ℕ) → IsOne (Lexed text)
 lexed_once law text (given first) (given second) one two =
     let same = law text (tokens first) (tokens second) one.1 two.1 in cc
 lexed_once law text (given first) (stopped verdict) one two =
@@ -147,7 +147,7 @@ tells list (parse.TooDeep at) refused not =
 tells list (parse.TooMany counted at) refused not =
     record { refusal = grammar.too_many counted at; refused = refused; told = refl }
 
-parsed_once : GrammarLaws → (list : List Token) → IsOne (Parsed list)
+pub parsed_once : GrammarLaws → (list : List Token) → IsOne (Parsed list)
 parsed_once laws list (given first) (given second) one two =
     ap (give {X = DraftShape}) (laws.one_draft list first second one two)
 parsed_once laws list (given first) (stopped verdict) one two =
@@ -208,7 +208,7 @@ tells_name principals draft (resolve.WrongCount at) refused not =
 tells_name principals draft resolve.NoMain refused not =
     record { refusal = verdicts.no_main; refused = refused; told = refl }
 
-resolved_once : NameLaws → (file : HostsShape) (draft : DraftShape) → IsDeclared file.principals →
+pub resolved_once : NameLaws → (file : HostsShape) (draft : DraftShape) → IsDeclared file.principals →
     IsOne (Resolved file draft)
 resolved_once laws file draft declared (given first) (given second) one two =
     ap (give {X = ProgramTree}) (laws.one_program file.principals draft first second declared one two)

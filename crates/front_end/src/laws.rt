@@ -2,12 +2,15 @@
 
 ghost use Rattle.std.specs.Prelude.{◌≡◌, ◌<◌, ℕ, List};
 ghost use Rattle.js_base.specs.Counts.{last_count};
+ghost use Rattle.principals.specs.ActsFor.{IsDeclared};
+ghost use Rattle.jif_lex.specs.declared.token.Token.{Token};
+ghost use Rattle.jif_tree.specs.Trees.{ProgramTree};
 ghost use Rattle.host_decl.specs.Hosts.{HostsShape};
 ghost use Rattle.jif_grammar.specs.DraftShapes.{DraftShape};
 ghost use Rattle.front_end.specs.Verdicts.{VerdictShape};
 ghost use Rattle.front_end.specs.Loads.{FilesChange, IsFileFault};
 ghost use Rattle.front_end.specs.PlacedSources.{PlacedSource, PlacedSources};
-ghost use Rattle.front_end.specs.Sources.{Drafted, HostsRead, Source, Sources};
+ghost use Rattle.front_end.specs.Sources.{Drafted, HostsRead, Lexed, Parsed, Resolved, Source, Sources};
 ghost use Rattle.front_end.specs.Stages.{Outcome};
 
 use host_decl::host_file_laws;
@@ -31,6 +34,15 @@ pub fn source_laws()
     // A program alone is one draft, or is refused for one cause.
     ensures one_draft { (program : List ℕ) (first second : Outcome DraftShape) →
         Drafted program first → Drafted program second → first ≡ second }
+
+    // So each stage alone gives one thing, or stops for one cause: the tokens of a program, their draft, and the program
+    // of a draft over declared principals.
+    ensures one_tokens { (program : List ℕ) (first second : Outcome (List Token)) →
+        Lexed program first → Lexed program second → first ≡ second }
+    ensures one_parse { (list : List Token) (first second : Outcome DraftShape) →
+        Parsed list first → Parsed list second → first ≡ second }
+    ensures one_program { (file : HostsShape) (draft : DraftShape) (first second : Outcome ProgramTree) →
+        IsDeclared file.principals → Resolved file draft first → Resolved file draft second → first ≡ second }
 
     // A host file alone says one row of hosts, or is refused for one cause.
     ensures one_hosts { (bytes : List ℕ) (first second : Outcome HostsShape) →

@@ -42,10 +42,11 @@ mod verdict;
 
 pub use answers::answer;
 pub use laws::source_laws;
-pub use load::{Asked, Loaded, as_loaded, load_all};
+pub use load::{Asked, Loaded, as_loaded, host_file, load_all, program_file};
 pub use placed::{PlacedSource, on_hosts, read_places};
 pub use placed_code::{code_of, releases_of};
 pub use refusal::{LineCause, Refusal};
+pub use refusal_texts::why_no_hosts;
 pub use sources::{
     Source, accepted, drafted, hosts_read, labelled, lexed, parsed, read_sources, resolved,
 };

@@ -265,8 +265,11 @@ fn field_name(fields: &[Field], field: FieldId) -> &str
     }
 }
 
-/// Why a host file is refused.
-fn why_no_hosts(alloc: Global, why: &HostsError) -> Result<String, AllocError>
+/// Why a host file is refused, in the words behind `hosts: `.
+///
+/// # Errors
+/// That memory ran out, here or as the file was read.
+pub fn why_no_hosts(alloc: Global, why: &HostsError) -> Result<String, AllocError>
     ensures { IfOk result (λ text. string_bytes text ≡ refusals.why_no_hosts (hosts.refusal_shape why.now)) }
 {
     match why {

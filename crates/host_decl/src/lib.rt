@@ -10,7 +10,7 @@
 //! **Stays.** The order of hosts in the file: plans, codes and tokens count hosts by it.
 //!
 //! - `read`: `read_hosts`, from the bytes to the hosts or the refusal
-//! - `schema`: which keys a table has and of which form: the first bad key
+//! - `schema`: which keys a table has and of which form: the first bad key. Public for who tells why a file is refused
 //! - `file_draft`, `draft`: what a sound file says, as plain texts and numbers
 //! - `resolve`: from these texts to hosts: `rows` has the hosts, `links` the costs, `key` the keys, `label_text` the
 //!   labels
@@ -35,4 +35,5 @@ pub use error::HostsError;
 pub use hosts::{HostRow, Hosts};
 pub use key::KEY_BYTES;
 pub use laws::host_file_laws;
-pub use read::read_hosts;
+pub use read::{document, read_hosts};
+pub use schema::{Form, TableKind, bad_key_of, form_at, items_at, value_at};

@@ -32,8 +32,11 @@ pub fn read_hosts(alloc: Global, bytes: &[u8]) -> Result<Hosts, HostsError>
     resolve(alloc, draft)
 }
 
-/// The TOML document in the bytes.
-fn document(alloc: Global, bytes: &[u8]) -> Result<Table, HostsError>
+/// The TOML document in the bytes of a host file.
+///
+/// # Errors
+/// `NotToml`, where they are none, or that memory ran out.
+pub fn document(alloc: Global, bytes: &[u8]) -> Result<Table, HostsError>
     requires { length bytes.now ≤ HOSTS_BYTES }
     ensures { MatchResult result (λ file. IsDocument bytes.now (table_view file)) (DocumentFails bytes.now) }
 {

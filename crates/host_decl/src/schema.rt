@@ -88,8 +88,8 @@ fn bad_key_in(kind: TableKind, value: &Value) -> Option<&str>
     }
 }
 
-/// The least bad key of a table.
-fn bad_key_of(kind: TableKind, table: &Table) -> Option<&str>
+/// The least bad key of a table, by its bytes.
+pub fn bad_key_of(kind: TableKind, table: &Table) -> Option<&str>
     ensures none { IfNone result (IsSound kind (table_view table.now)) }
     ensures some { IfSome result (λ key. IsLeast (IsBadKey kind (table_view table.now)) key.now) }
 {
@@ -154,7 +154,7 @@ fn is_unfit(kind: TableKind, key: &str, value: &Value) -> bool
 }
 
 /// The form of the value at a key, for each key that such a table may have.
-fn form_at(kind: TableKind, key: &str) -> Option<Form>
+pub fn form_at(kind: TableKind, key: &str) -> Option<Form>
     ensures { result ≡ form_at kind key.now }
 {
     match kind {

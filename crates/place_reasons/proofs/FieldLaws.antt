@@ -121,7 +121,7 @@ pub map_some : {X Y : Type 0} (f : X → Y) (found : Option X) (y : Y) → optio
 map_some f None y is = absurd (none-some y is)
 map_some f (Some x) y is = (x, refl)
 
-label_is : (labelled : Labelled) (field : FieldId) (tree : FieldTree) →
+pub label_is : (labelled : Labelled) (field : FieldId) (tree : FieldTree) →
     slice_get labelled.program.fields field.0 ≡ Some tree → field_label labelled.program field ≡ tree.label
 label_is labelled field tree is =
     ap (λ (found : Option FieldTree). unwrap_or (option_map (λ (one : FieldTree). one.label) found) empty_label) is

@@ -13,3 +13,6 @@ pub mod BackedStatements
 pub mod StatementLaws
 pub mod RefutedStatements
 pub mod RefutedFields
+pub mod TrueCauses
+pub mod ProgramLabels
+pub mod ProgramLaws

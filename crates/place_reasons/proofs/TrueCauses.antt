@@ -1,12 +1,14 @@
 -- What is found to bring a pair in has it: the label at its source has the pair.
 use Rattle.std.proofs.Common.{◌≡◌, ◌≢◌, inl, inr, ℕ, ◌+◌, zero, suc, Bool, true, false, List, [], ◌∷◌, ◌++◌, refl, sym}
 use Rattle.std.proofs.Common.{ap, ◌∙◌, subst, arith, flat_map}
+use Rattle.std.specs.Option.{option_map}
 use Rattle.std.specs.Prelude.{◌==◌, All, Any, IsTrue, if◌then◌else◌, Option, Some, None, slice_get, unwrap_or}
 use Rattle.std.proofs.lemmas.Bool.{cases_Bool}
 use Rattle.std.proofs.lemmas.List.Concat.{flat_map-cons}
 use Rattle.std.proofs.lemmas.List.Elements.{All-nil, All-cons, All-append}
-use Rattle.std.proofs.lemmas.Option.{none-some, slice_get_cases}
+use Rattle.std.proofs.lemmas.Option.{none-some, slice_get_cases, slice_get_within, get_or_from_slice_get}
 use Rattle.js_base.specs.declared.ids.FieldId.{FieldId}
+use Rattle.js_base.specs.declared.ids.MethodId.{MethodId}
 use Rattle.js_base.specs.declared.ids.StmtId.{StmtId}
 use Rattle.js_base.specs.declared.ids.VarId.{VarId}
 use Rattle.principals.specs.ActsFor.{Declared}
@@ -17,6 +19,7 @@ use Rattle.jif_tree.specs.Trees.{endorsed, BlockTree, done, set_local, set_field
 use Rattle.jif_tree.specs.Trees.{give_back, MethodTree, ProgramTree}
 use Rattle.jif_tree.specs.LabelRules.{MethodSetting, VariableLabels, expr_label, field_label, guarded, labels_after}
 use Rattle.jif_tree.specs.LabelRules.{labels_after_assignment, setting_of, declared_labels, method_at, begin_label}
+use Rattle.jif_tree.specs.LabelRules.{result_of}
 use Rattle.jif_tree.specs.WrittenLabels.{written_in}
 use Rattle.label_reasons.specs.declared.reason.Trait.{Trait}
 use Rattle.label_reasons.specs.declared.reason.Trait.TheVariants.{Keeps, Distrusts}
@@ -29,14 +32,28 @@ use Rattle.label_reasons.specs.Traits.{has}
 use Rattle.label_reasons.specs.Causes.{or_else, cause_where, released_cause, endorsed_cause, expr_cause, begin_cause}
 use Rattle.label_reasons.specs.Causes.{label_cause, declared_causes, through, guarded_cause, with_cause, causes_after}
 use Rattle.label_reasons.specs.Causes.{causes_after_assignment}
+use Rattle.label_reasons.proofs.TraitTests.{AreTrusted}
+use Rattle.need_labels.specs.Labelled.{Labelled}
+use Rattle.need_labels.specs.Needs.{label_of}
 use Rattle.need_labels.proofs.Somewhere.{any_here, any_later, any_left, any_right}
 use Rattle.place_reasons.specs.declared.question.Question.{Question}
 use Rattle.place_reasons.specs.declared.question.Question.TheVariants.{OfRun, OfUse, OfIndex}
+use Rattle.place_reasons.specs.declared.backed.Backed.{Backed}
+use Rattle.place_reasons.specs.declared.backed.Backed.TheVariants as backed
+use Rattle.place_reasons.specs.declared.told.Told.{Told}
+use Rattle.place_reasons.specs.declared.told.Told.TheVariants.{Read, Index}
+use Rattle.place_reasons.specs.declared.reason.PlaceReason.{PlaceReason}
+use Rattle.place_reasons.specs.declared.reason.PlaceReason.TheVariants as row
 use Rattle.place_reasons.specs.Firsts.{or_first, first_some}
 use Rattle.place_reasons.specs.Questions.{use_cause, own_index_cause, index_cause, expr_answer, run_answer, answer}
 use Rattle.place_reasons.specs.Questions.{block_answers, methods_answers, program_answers, answer_at}
-use Rattle.place_reasons.specs.Reasons.{id_of, exprs_of}
-use Rattle.place_reasons.specs.Refuted.{statements_in, IsOneOf, IsSource, IsCaused}
+use Rattle.place_reasons.specs.Reasons.{Site, site_of, id_of, exprs_of, first_pair, first_untrusting, pc_at, pair_at}
+use Rattle.place_reasons.specs.Reasons.{used_by, kept_row, call_row, run_row, use_row, need_row, backed_reason}
+use Rattle.place_reasons.specs.Reasons.{statement_reason, method_told, told_reason, own_row, told_row, trust_row}
+use Rattle.place_reasons.specs.Reasons.{field_reason}
+use Rattle.place_reasons.specs.Refuted.{statements_in, IsOneOf, IsSource, IsCaused, IsCauseTrue}
+use Rattle.place_reasons.proofs.PairLaws.{or_so}
+use Rattle.place_reasons.proofs.StatementLaws.{need_so, map_found}
 
 -- ---- causes that may be there
 
@@ -475,3 +492,179 @@ block_caused question trait setting pc of_pc labels causes (give_back heading va
           (may_own setting.program trait alone (statements_in rest) may)) behind.answers;
       after = behind.after;
     }
+
+-- ---- programs
+
+-- these methods stand in the program, from this number on
+abbrev StandFrom : ProgramTree → ℕ → List MethodTree → Type 0
+StandFrom program place methods = (k : ℕ) → slice_get program.methods (place + k) ≡ slice_get methods k
+
+first_stands : (program : ProgramTree) (place : ℕ) (method : MethodTree) (methods : List MethodTree) →
+    StandFrom program place (method ∷ methods) → slice_get program.methods place ≡ Some method
+first_stands program place method methods stand =
+    let same : place ≡ place + 0 = omega arith in
+    ap (slice_get program.methods) same ∙ stand 0
+
+others_stand : (program : ProgramTree) (place : ℕ) (method : MethodTree) (methods : List MethodTree) →
+    StandFrom program place (method ∷ methods) → StandFrom program (place + 1) methods
+others_stand program place method methods stand k =
+    let same : (place + 1) + k ≡ place + suc k = omega arith in
+    ap (slice_get program.methods) same ∙ stand (suc k)
+
+begin_caused : (program : ProgramTree) (trait : Trait) (place : ℕ) (method : MethodTree) →
+    slice_get program.methods place ≡ Some method →
+    IsCaused program trait (begin_cause trait (record { 0 = place }) method.begin)
+begin_caused program trait place method there =
+    where_caused program trait (has trait method.begin) (OfBegin (record { 0 = place })) (λ is.
+    let P : Option MethodTree → Type 0 = λ found. IsTrue (has trait (begin_label found)) in
+    subst P (sym there) is)
+
+-- what is written in a method of the program is written in the program
+method_writes : (program : ProgramTree) (trait : Trait) (place : ℕ) (method : MethodTree) →
+    slice_get program.methods place ≡ Some method → MayWriteIn program trait (statements_in method.body)
+method_writes program trait place method there here some = (
+  place,
+  method,
+  slice_get_within program.methods place method there,
+  get_or_from_slice_get program.methods place method method there,
+  some,
+)
+
+methods_caused : (question : Question) (trait : Trait) (principals : Declared) (program : ProgramTree) (place : ℕ)
+    (labels : VariableLabels) (causes : VarId → Option Cause) (methods : List MethodTree) →
+    ((x : VarId) → IsCaused program trait (causes x)) → StandFrom program place methods →
+    All (IsCaused program trait) (methods_answers question trait principals program place labels causes methods)
+methods_caused question trait principals program place labels causes [] all stand = All-nil (IsCaused program trait)
+methods_caused question trait principals program place labels causes (method ∷ methods) all stand =
+    let P : Option Cause → Type 0 = IsCaused program trait in
+    let setting : MethodSetting = setting_of principals program method in
+    let of_begin : Option Cause = begin_cause trait (record { 0 = place }) method.begin in
+    let there = first_stands program place method methods stand in
+    let begins = begin_caused program trait place method there in
+    let one = block_caused question trait setting method.begin of_begin labels causes method.body
+    (record { pc = begins; variables = all }) (method_writes program trait place method there) in
+    let behind = methods_caused question trait principals program (place + 1)
+    (labels_after setting method.begin labels method.body)
+    (causes_after trait setting method.begin of_begin labels causes method.body) methods one.after
+    (others_stand program place method methods stand) in
+    All-cons P of_begin _ begins
+    (All-append P (block_answers question trait setting method.begin of_begin labels causes method.body)
+    (methods_answers question trait principals program (place + 1)
+    (labels_after setting method.begin labels method.body)
+    (causes_after trait setting method.begin of_begin labels causes method.body) methods) one.answers behind)
+
+declared_caused : (program : ProgramTree) (trait : Trait) (x : VarId) →
+    IsCaused program trait (declared_causes trait (declared_labels program) x)
+declared_caused program trait x = by (slice_get (declared_labels program) x.0) refl
+  where
+    by : (found : Option (Option Label)) → slice_get (declared_labels program) x.0 ≡ found →
+        IsCaused program trait (label_cause trait x found)
+    by None is = tt
+    by (Some None) is = tt
+    by (Some (Some label)) is =
+        where_caused program trait (has trait label) (OfVariable x) (λ held. (label, is, held))
+
+all_at : (program : ProgramTree) (trait : Trait) (causes : List (Option Cause)) →
+    All (IsCaused program trait) causes → (place : ℕ) →
+    IsCaused program trait (unwrap_or (slice_get causes place) None)
+all_at program trait causes all place = elim (slice_get_cases causes place).1 [
+  | inl (cause, within, is, read) ↦
+      let P : Option (Option Cause) → Type 0 = λ found. IsCaused program trait (unwrap_or found None) in
+      let Q : Option Cause → Type 0 = IsCaused program trait in
+      subst P (sym is) (subst Q read (all place cause within))
+  | inr (past, missing) ↦
+      let P : Option (Option Cause) → Type 0 = λ found. IsCaused program trait (unwrap_or found None) in
+      subst P (sym missing) tt
+]
+
+-- what is answered of a statement is a true cause
+pub answer_true : (question : Question) (principals : Declared) (program : ProgramTree) (statement : StmtId)
+    (trait : Trait) → IsCaused program trait (answer_at question principals program statement trait)
+answer_true question principals program statement trait =
+    all_at program trait (program_answers question trait principals program)
+    (methods_caused question trait principals program 0 (declared_labels program)
+    (declared_causes trait (declared_labels program)) program.methods (declared_caused program trait)
+    (λ k. ap (slice_get program.methods) (omega arith))) statement.0
+
+-- ---- reasons
+
+kept_true : (site : Site) (method : MethodId) (into kept : Option VarId) (reason : PlaceReason) →
+    kept_row site method into kept ≡ Some reason → IsCauseTrue site.labelled.program reason
+kept_true site method None None reason is = absurd (none-some reason is)
+kept_true site method None (Some result) reason is = absurd (none-some reason is)
+kept_true site method (Some into) None reason is = absurd (none-some reason is)
+kept_true site method (Some into) (Some result) reason is =
+    let made = map_found (λ pair. row.CallGives pair method) (pair_at site (label_of site.labelled result)) reason is in
+    subst (IsCauseTrue site.labelled.program) made.2 tt
+
+call_true : (site : Site) (block : BlockTree) (reason : PlaceReason) → call_row site block ≡ Some reason →
+    IsCauseTrue site.labelled.program reason
+call_true site done reason is = absurd (none-some reason is)
+call_true site (set_local heading x value rest) reason is = absurd (none-some reason is)
+call_true site (set_field heading field value rest) reason is = absurd (none-some reason is)
+call_true site (set_element heading field index value rest) reason is = absurd (none-some reason is)
+call_true site (branch heading guard first second rest) reason is = absurd (none-some reason is)
+call_true site (loop heading guard body rest) reason is = absurd (none-some reason is)
+call_true site (call heading place method arguments into rest) reason is =
+    let called : Option MethodTree = method_at site.labelled.program method in
+    or_so (IsCauseTrue site.labelled.program)
+    (option_map (λ pair. row.CallBegins pair method) (pair_at site (begin_label called)))
+    (kept_row site method into (result_of called)) reason
+    (λ z one.
+    let made = map_found (λ pair. row.CallBegins pair method) (pair_at site (begin_label called)) z one in
+    subst (IsCauseTrue site.labelled.program) made.2 tt)
+    (λ z other. kept_true site method into (result_of called) z other) is
+call_true site (give_back heading value rest) reason is = absurd (none-some reason is)
+
+backed_true : (program : ProgramTree) (principal : ℕ) (found : Backed) →
+    IsCauseTrue program (backed_reason principal found)
+backed_true program principal (backed.Change what here) = tt
+backed_true program principal (backed.Release member here) = tt
+
+pub statement_cause : AreTrusted → (principals : Declared) (labelled : Labelled) (host : Label) (method : MethodTree)
+    (block : BlockTree) (reason : PlaceReason) → statement_reason principals labelled host method block ≡ Some reason →
+    IsCauseTrue labelled.program reason
+statement_cause tells principals labelled host method block reason is =
+    let site : Site = site_of principals labelled host method in
+    let P : PlaceReason → Type 0 = IsCauseTrue labelled.program in
+    or_so P (run_row site block)
+    (or_first (use_row site block) (or_first (call_row site block) (need_row site block))) reason
+    (λ z one.
+    let made = map_found (λ pair. row.Runs pair (answer_at OfRun principals labelled.program (id_of block) pair))
+    (pair_at site (pc_at site (id_of block))) z one in
+    subst P made.2 (answer_true OfRun principals labelled.program (id_of block) made.0))
+    (λ y later. or_so P (use_row site block) (or_first (call_row site block) (need_row site block)) y
+    (λ z one.
+    let made = map_found (λ pair. row.Uses pair (answer_at OfUse principals labelled.program (id_of block) pair))
+    (used_by site (id_of block) (exprs_of block)) z one in
+    subst P made.2 (answer_true OfUse principals labelled.program (id_of block) made.0))
+    (λ x behind. or_so P (call_row site block) (need_row site block) x
+    (λ z one. call_true site block z one)
+    (λ z one.
+    let made = need_so tells site block z one in
+    subst P made.same (backed_true labelled.program made.principal made.found)) behind) later) is
+
+told_true : (principals : Declared) (program : ProgramTree) (field : FieldId) (told : Told) →
+    IsCauseTrue program (told_reason principals program field told)
+told_true principals program field (Read pair statement) = answer_true OfRun principals program statement pair
+told_true principals program field (Index pair statement) =
+    answer_true (OfIndex field) principals program statement pair
+
+pub field_cause : (principals : Declared) (labelled : Labelled) (host : Label) (field : FieldId)
+    (reason : PlaceReason) → field_reason principals labelled host field ≡ Some reason →
+    IsCauseTrue labelled.program reason
+field_cause principals labelled host field reason is =
+    let P : PlaceReason → Type 0 = IsCauseTrue labelled.program in
+    let label : Label = field_label labelled.program field in
+    or_so P (own_row principals labelled host field)
+    (or_first (told_row principals labelled host field) (trust_row principals labelled host field)) reason
+    (λ z one.
+    let made = map_found (λ pair. row.Own pair) (first_pair principals label host) z one in subst P made.2 tt)
+    (λ y later. or_so P (told_row principals labelled host field) (trust_row principals labelled host field) y
+    (λ z one.
+    let made = map_found (told_reason principals labelled.program field)
+    (first_some (method_told principals labelled host field) labelled.program.methods) z one in
+    subst P made.2 (told_true principals labelled.program field made.0))
+    (λ z one.
+    let made = map_found (λ principal. row.Untrusted principal) (first_untrusting principals host label) z one in
+    subst P made.2 tt) later) is

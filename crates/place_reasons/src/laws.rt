@@ -29,7 +29,8 @@ ghost use Rattle.place_reasons.specs.declared.reason.PlaceReason.TheVariants.{Ow
 ghost use Rattle.place_reasons.specs.declared.reason.PlaceReason.TheVariants.{Runs, Uses, Needs, Releases};
 ghost use Rattle.place_reasons.specs.PlaceExamples.{from_bob, from_alice, from_outsiders, caused, first, second, q, o};
 ghost use Rattle.place_reasons.specs.PlaceExamples.{host_a, host_b, host_s, host_t, host_p, statement, alice};
-ghost use Rattle.place_reasons.specs.PlaceExamples.{field_at, statement_at, head_at, guarded_program, guarded_read};
+ghost use Rattle.place_reasons.specs.PlaceExamples.{field_at, statement_at, head_at, fields_at, statements_at};
+ghost use Rattle.place_reasons.specs.PlaceExamples.{guarded_program, guarded_read};
 ghost use Rattle.place_reasons.specs.PlaceExamples.{read_inside, chosen_program, sum_program, sum, local_program};
 ghost use Rattle.place_reasons.specs.PlaceExamples.{told_later, released_program, released, secret_begin};
 ghost use Rattle.place_reasons.specs.PlaceExamples.{trusted_begin};
@@ -187,4 +188,14 @@ pub fn place_examples()
     ensures begins { head_at secret_begin host_b ≡ Some (Begins from_bob) }
     ensures begins_trusted { head_at trusted_begin host_a ≡ Some (Needs 1 Head (statement 0)) }
     ensures begins_anywhere { head_at trusted_begin host_t ≡ None }
+    // Of a whole program: its fields, and its head with the statements, of which the nested one comes last.
+    ensures fields_by_number { fields_at guarded_program host_a ≡ Some (Own from_alice)
+        ∷ Some (Read from_alice (statement 2) (caused (OfField first) (ByGuard (statement 1)))) ∷ None ∷ [] }
+    ensures statements_by_number { statements_at guarded_program host_a ≡ None
+        ∷ Some (Uses from_alice (caused (OfField first) Itself))
+        ∷ Some (Runs from_alice (caused (OfField first) (ByGuard (statement 1)))) ∷ [] }
+    // What the statement inside sets counts for both.
+    ensures nested_by_number { statements_at guarded_program host_s ≡ None
+        ∷ Some (Needs 0 (Field q) (statement 2)) ∷ Some (Needs 0 (Field q) (statement 2)) ∷ [] }
+    ensures held_by_number { statements_at guarded_program host_t ≡ None ∷ None ∷ None ∷ [] }
 {}

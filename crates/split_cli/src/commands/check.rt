@@ -12,9 +12,10 @@ ghost use Rattle.front_end.specs.Loads.{AreKept, files_change};
 ghost use Rattle.front_end.specs.PlacedShapes.{placed_shape};
 ghost use Rattle.front_end.specs.Text.{line_text, lines_text};
 
-use crate::commands::{host_file, program_file};
 use crate::place_lines::push_places;
-use front_end::{Loaded, PlacedSource, Source, Stop, Verdict, load_all, read_places};
+use front_end::{
+    Loaded, PlacedSource, Source, Stop, Verdict, host_file, load_all, program_file, read_places,
+};
 use js_base::{Files, OutOfMemory, Status};
 use std::alloc::Global;
 use std::fmt::Write;

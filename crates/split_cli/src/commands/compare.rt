@@ -11,9 +11,12 @@ ghost use Rattle.front_end.specs.Loading.{EndsIn, IsLoaded};
 ghost use Rattle.front_end.specs.Loads.{AreKept, files_change};
 ghost use Rattle.front_end.specs.PlacedShapes.{placed_shape};
 
-use crate::commands::{host_file, program_file, script_file};
+use crate::commands::script_file;
 use event_text::Script;
-use front_end::{Loaded, PlacedSource, Stop, Verdict, code_of, load_all, read_places, releases_of};
+use front_end::{
+    Loaded, PlacedSource, Stop, Verdict, code_of, host_file, load_all, program_file, read_places,
+    releases_of,
+};
 use host_code::Code;
 use js_base::Files;
 use run_comparison::{

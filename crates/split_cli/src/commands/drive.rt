@@ -12,11 +12,12 @@ ghost use Rattle.front_end.specs.Loads.{AreKept, files_change};
 ghost use Rattle.front_end.specs.PlacedShapes.{placed_shape};
 ghost use Rattle.front_end.specs.Verdicts.{verdict_shape};
 
-use crate::commands::{host_file, program_file, script_file};
+use crate::commands::script_file;
 use crate::driving::drive;
 use crate::world_report::drive_text;
 use front_end::{
-    Loaded, PlacedSource, Stop, Verdict, code_of, load_all, read_places, starting_values,
+    Loaded, PlacedSource, Stop, Verdict, code_of, host_file, load_all, program_file, read_places,
+    starting_values,
 };
 use jif_tree::Store;
 use js_base::{Files, OutOfMemory};

@@ -11,10 +11,12 @@ ghost use Rattle.front_end.specs.Loads.{AreKept, files_change};
 ghost use Rattle.front_end.specs.PlacedShapes.{placed_shape};
 ghost use Rattle.split_cli.specs.Replay.{DueForSaid};
 
-use crate::commands::{host_file, program_file, script_file};
+use crate::commands::script_file;
 use crate::world_report::replay_text;
 use event_text::Script;
-use front_end::{Loaded, PlacedSource, Stop, Verdict, code_of, load_all, read_places};
+use front_end::{
+    Loaded, PlacedSource, Stop, Verdict, code_of, host_file, load_all, program_file, read_places,
+};
 use host_code::Code;
 use js_base::{Files, Status};
 use script_stages::{events_happen, first_world, read_script};

@@ -12,9 +12,11 @@ ghost use Rattle.split_cli.specs.PlainRun.{IsRunReport, end_line, end_status, ru
 ghost use Rattle.front_end.specs.Text.{line_text, lines_text};
 ghost use Rattle.front_end.specs.Verdicts.{verdict_shape};
 
-use crate::commands::{host_file, program_file, script_file};
+use crate::commands::script_file;
 use crate::row_line::push_row_line;
-use front_end::{Loaded, Stop, Verdict, load_all, read_sources, starting_values};
+use front_end::{
+    Loaded, Stop, Verdict, host_file, load_all, program_file, read_sources, starting_values,
+};
 use jif_tree::{Field, Program, Row, Store};
 use js_base::{Files, OutOfMemory, Status};
 use source_run::RunEnd;

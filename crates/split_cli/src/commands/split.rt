@@ -15,8 +15,10 @@ ghost use Rattle.front_end.specs.Verdicts.{Print, file_fault, verdict_shape};
 
 use crate::code_lines::push_code;
 use crate::commands::check::plan_text;
-use crate::commands::{host_file, program_file};
-use front_end::{Loaded, PlacedSource, Stop, Verdict, code_of, load_all, read_places, stopped};
+use front_end::{
+    Loaded, PlacedSource, Stop, Verdict, code_of, host_file, load_all, program_file, read_places,
+    stopped,
+};
 use js_base::{Files, OutOfMemory, SaveError, Status};
 use split_file::write;
 use std::alloc::Global;

@@ -1,6 +1,7 @@
 use Rattle.front_end.proofs.OneFault.{one_fault_place}
 use Rattle.front_end.proofs.OnePlaced.{PlaceLaws, places_once}
-use Rattle.front_end.proofs.OneSource.{SourceLaws, drafted_once, hosts_once, sources_once}
+use Rattle.front_end.proofs.OneSource.{SourceLaws, drafted_once, hosts_once, lexed_once, parsed_once, resolved_once}
+use Rattle.front_end.proofs.OneSource.{sources_once}
 use Rattle.front_end.proofs.SomePlaced.{PlaceCauses, places_some}
 use Rattle.front_end.proofs.SomeSource.{SourceCauses, sources_some}
 use Rattle.front_end.proofs.laws.source_laws.Goals as goal
@@ -72,6 +73,16 @@ returns-clause-some_plan c = places_some (source_causes c) (place_causes c)
 
 pub returns-clause-one_draft : goal.returns-clause-one_draft
 returns-clause-one_draft c = drafted_once (source_laws c)
+
+pub returns-clause-one_tokens : goal.returns-clause-one_tokens
+returns-clause-one_tokens c = lexed_once (source_laws c).lexing
+
+pub returns-clause-one_parse : goal.returns-clause-one_parse
+returns-clause-one_parse c = parsed_once (source_laws c).grammar
+
+pub returns-clause-one_program : goal.returns-clause-one_program
+returns-clause-one_program c = λ file draft first second declared one two.
+    resolved_once (source_laws c).names file draft declared first second one two
 
 pub returns-clause-one_hosts : goal.returns-clause-one_hosts
 returns-clause-one_hosts c = hosts_once (source_laws c).hosts
