@@ -1,18 +1,18 @@
 -- Over a whole program: a part has no reason exactly where the host may hold it.
-use Rattle.std.proofs.Common.{◌≡◌, ◌↔◌, ℕ, zero, suc, ◌+◌, List, [], ◌∷◌, ◌++◌, map, length, flat_map, refl, sym, ap}
+use Rattle.std.proofs.Common.{◌≡◌, ◌↔◌, ℕ, zero, suc, ◌+◌, List, [], ◌∷◌, ◌++◌, map, length, flat_map, refl, sym, ap, ap₂}
 use Rattle.std.proofs.Common.{◌∙◌, subst, arith}
 use Rattle.std.specs.Prelude.{All, Option, Some, None, slice_get}
 use Rattle.std.specs.List.{AllZip, zip, range_with_len}
+use Rattle.std.proofs.lemmas.List.{map-append}
 use Rattle.std.proofs.lemmas.List.Concat.{flat_map-cons}
-use Rattle.std.proofs.lemmas.List.Elements.{All-append, All-head, All-tail}
+use Rattle.std.proofs.lemmas.List.Elements.{All-head, All-tail}
 use Rattle.js_base.specs.declared.ids.FieldId.{FieldId}
 use Rattle.principals.specs.ActsFor.{Declared, IsDeclared}
 use Rattle.label_lattice.specs.declared.label.Label.{Label}
 use Rattle.label_lattice.specs.Over.{IsLabelOver}
 use Rattle.host_decl.specs.Hosts.{HostShape}
-use Rattle.jif_tree.specs.Trees.{ExprTree, BlockTree, done, set_local, set_field, set_element, branch, loop, call}
+use Rattle.jif_tree.specs.Trees.{BlockTree, done, set_local, set_field, set_element, branch, loop, call}
 use Rattle.jif_tree.specs.Trees.{give_back, FieldTree, MethodTree, ProgramTree}
-use Rattle.jif_tree.specs.LabelRules.{field_label}
 use Rattle.jif_tree.specs.WrittenLabels.{written_in, written_in_block}
 use Rattle.label_check.proofs.LabelOrder.{LabelOrder}
 use Rattle.label_reasons.specs.Programs.{IsMethodOver, IsProgramOver}
@@ -25,7 +25,8 @@ use Rattle.place_rules.specs.PlaceRules.{MayHoldField, MayHoldStatement, told_fi
 use Rattle.place_reasons.specs.declared.reason.PlaceReason.{PlaceReason}
 use Rattle.place_reasons.specs.Programs.{IsFieldOver, labelled_by, rest_of}
 use Rattle.place_reasons.specs.ProgramReasons.{field_reasons, block_reasons, method_reasons, statement_reasons}
-use Rattle.place_reasons.specs.Reasons.{Site, site_of, exprs_of, field_reason, head_reason, statement_reason}
+use Rattle.place_reasons.specs.Reasons.{site_of, exprs_of, field_reason, head_reason, statement_reason}
+use Rattle.place_reasons.specs.Refuted.{statements_in}
 use Rattle.place_reasons.proofs.PairLaws.{head_true, head_due}
 use Rattle.place_reasons.proofs.ToldLabels.{tellings_of}
 use Rattle.place_reasons.proofs.FieldLaws.{LabelLaws, label_is, field_true, field_due}
@@ -64,6 +65,43 @@ zip_numbered R f g (x ∷ xs) from each =
           let same : from + suc k ≡ (from + 1) + k = omega arith in
           subst Q same (each (suc k) y is)),
     )
+
+-- ---- the statements of a block, one by one
+
+pub one_by_one : (principals : Declared) (labelled : Labelled) (host : Label) (method : MethodTree)
+    (block : BlockTree) → block_reasons principals labelled host method block
+    ≡ map (statement_reason principals labelled host method) (statements_in block)
+one_by_one principals labelled host method done = refl
+one_by_one principals labelled host method (set_local heading x value rest) =
+    ap (λ reasons. statement_reason principals labelled host method (set_local heading x value done) ∷ reasons)
+    (one_by_one principals labelled host method rest)
+one_by_one principals labelled host method (set_field heading field value rest) =
+    ap (λ reasons. statement_reason principals labelled host method (set_field heading field value done) ∷ reasons)
+    (one_by_one principals labelled host method rest)
+one_by_one principals labelled host method (set_element heading field index value rest) =
+    ap (λ reasons. statement_reason principals labelled host method (set_element heading field index value done)
+    ∷ reasons) (one_by_one principals labelled host method rest)
+one_by_one principals labelled host method (branch heading guard first second rest) =
+    let one : BlockTree → Option PlaceReason = statement_reason principals labelled host method in
+    ap (λ reasons. one (branch heading guard first second done) ∷ reasons)
+    (ap₂ (λ xs ys. xs ++ ys)
+    (ap₂ (λ xs ys. xs ++ ys) (one_by_one principals labelled host method first)
+    (one_by_one principals labelled host method second)
+    ∙ sym (map-append one (statements_in first) (statements_in second)))
+    (one_by_one principals labelled host method rest)
+    ∙ sym (map-append one (statements_in first ++ statements_in second) (statements_in rest)))
+one_by_one principals labelled host method (loop heading guard body rest) =
+    let one : BlockTree → Option PlaceReason = statement_reason principals labelled host method in
+    ap (λ reasons. one (loop heading guard body done) ∷ reasons)
+    (ap₂ (λ xs ys. xs ++ ys) (one_by_one principals labelled host method body)
+    (one_by_one principals labelled host method rest)
+    ∙ sym (map-append one (statements_in body) (statements_in rest)))
+one_by_one principals labelled host method (call heading place called arguments into rest) =
+    ap (λ reasons. statement_reason principals labelled host method (call heading place called arguments into done)
+    ∷ reasons) (one_by_one principals labelled host method rest)
+one_by_one principals labelled host method (give_back heading value rest) =
+    ap (λ reasons. statement_reason principals labelled host method (give_back heading value done) ∷ reasons)
+    (one_by_one principals labelled host method rest)
 
 -- ---- a reason is missing exactly where the host may hold the part
 

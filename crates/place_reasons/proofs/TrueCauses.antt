@@ -621,10 +621,10 @@ backed_true : (program : ProgramTree) (principal : ℕ) (found : Backed) →
 backed_true program principal (backed.Change what here) = tt
 backed_true program principal (backed.Release member here) = tt
 
-pub statement_cause : AreTrusted → (principals : Declared) (labelled : Labelled) (host : Label) (method : MethodTree)
+pub statement_cause_true : AreTrusted → (principals : Declared) (labelled : Labelled) (host : Label) (method : MethodTree)
     (block : BlockTree) (reason : PlaceReason) → statement_reason principals labelled host method block ≡ Some reason →
     IsCauseTrue labelled.program reason
-statement_cause tells principals labelled host method block reason is =
+statement_cause_true tells principals labelled host method block reason is =
     let site : Site = site_of principals labelled host method in
     let P : PlaceReason → Type 0 = IsCauseTrue labelled.program in
     or_so P (run_row site block)
@@ -650,10 +650,10 @@ told_true principals program field (Read pair statement) = answer_true OfRun pri
 told_true principals program field (Index pair statement) =
     answer_true (OfIndex field) principals program statement pair
 
-pub field_cause : (principals : Declared) (labelled : Labelled) (host : Label) (field : FieldId)
+pub field_cause_true : (principals : Declared) (labelled : Labelled) (host : Label) (field : FieldId)
     (reason : PlaceReason) → field_reason principals labelled host field ≡ Some reason →
     IsCauseTrue labelled.program reason
-field_cause principals labelled host field reason is =
+field_cause_true principals labelled host field reason is =
     let P : PlaceReason → Type 0 = IsCauseTrue labelled.program in
     let label : Label = field_label labelled.program field in
     or_so P (own_row principals labelled host field)

@@ -1,6 +1,6 @@
 //! Laws of why a host may not hold a part of a program. The calls do nothing: their contracts are the laws.
 
-ghost use Rattle.std.specs.Prelude.{◌≡◌, ◌<◌, ◌↔◌, ℕ, List, ◌∷◌, [], All, Some, None, length};
+ghost use Rattle.std.specs.Prelude.{◌≡◌, ◌<◌, ◌↔◌, ℕ, List, ◌∷◌, [], All, Some, None, length, map};
 ghost use Rattle.std.specs.List.{AllZip};
 ghost use Rattle.principals.specs.ActsFor.{Declared, IsDeclared};
 ghost use Rattle.label_lattice.specs.declared.label.Label.{Label};
@@ -20,8 +20,8 @@ ghost use Rattle.place_reasons.specs.Programs.{IsFieldOver, IsUseOver, IsBacking
 ghost use Rattle.place_reasons.specs.declared.reason.PlaceReason.{PlaceReason};
 ghost use Rattle.place_reasons.specs.Reasons.{first_pair, first_untrusting, field_reason, head_reason};
 ghost use Rattle.place_reasons.specs.Reasons.{statement_reason, site_of, kept_rows};
-ghost use Rattle.place_reasons.specs.ProgramReasons.{field_reasons, statement_reasons};
-ghost use Rattle.place_reasons.specs.Refuted.{RefutesField, RefutesHead, RefutesStatement, IsCauseTrue};
+ghost use Rattle.place_reasons.specs.ProgramReasons.{field_reasons, block_reasons, statement_reasons};
+ghost use Rattle.place_reasons.specs.Refuted.{statements_in, RefutesField, RefutesHead, RefutesStatement, IsCauseTrue};
 ghost use Rattle.label_reasons.specs.declared.reason.Source.TheVariants.{OfField};
 ghost use Rattle.label_reasons.specs.declared.reason.Via.TheVariants.{Itself, ByLocal, ByGuard};
 ghost use Rattle.place_reasons.specs.declared.reason.Needed.TheVariants.{Field, Head};
@@ -119,10 +119,10 @@ pub fn refuted_laws()
         statement_reason principals labelled host method block ≡ Some reason →
         RefutesStatement principals labelled host method block reason }
     // The source of the cause that it tells has the pair.
-    ensures field_cause { (principals : Declared) (labelled : Labelled) (host : Label) (field : FieldId)
+    ensures field_cause_true { (principals : Declared) (labelled : Labelled) (host : Label) (field : FieldId)
         (reason : PlaceReason) → field_reason principals labelled host field ≡ Some reason →
         IsCauseTrue labelled.program reason }
-    ensures statement_cause { (principals : Declared) (labelled : Labelled) (host : Label) (method : MethodTree)
+    ensures statement_cause_true { (principals : Declared) (labelled : Labelled) (host : Label) (method : MethodTree)
         (block : BlockTree) (reason : PlaceReason) →
         statement_reason principals labelled host method block ≡ Some reason → IsCauseTrue labelled.program reason }
 {
@@ -143,6 +143,10 @@ pub fn program_place_laws()
         IsProgramOver principals program → AreNeedsOf principals (labelled_by principals program) needs →
         AllZip (λ reason one. (reason ≡ None) ↔ MayHoldStatement one host)
         (statement_reasons principals (labelled_by principals program) host.label) (needed_statements needs) }
+    // The reasons of a block are those of its statements and of the statements in these, one by one.
+    ensures one_by_one { (principals : Declared) (labelled : Labelled) (host : Label) (method : MethodTree)
+        (block : BlockTree) → block_reasons principals labelled host method block
+        ≡ map (statement_reason principals labelled host method) (statements_in block) }
 {
     acts_for_laws();
     label_laws();

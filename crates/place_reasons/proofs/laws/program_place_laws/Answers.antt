@@ -1,6 +1,6 @@
 use Rattle.principals.specs.ActsFor.{Declared, IsDeclared}
 use Rattle.label_check.proofs.LabelOrder.{LabelOrder}
-use Rattle.place_reasons.proofs.ProgramLaws.{PlaceLaws, fields_hold, statements_hold}
+use Rattle.place_reasons.proofs.ProgramLaws.{PlaceLaws, one_by_one, fields_hold, statements_hold}
 use Rattle.place_reasons.proofs.laws.program_place_laws.Goals as goal
 
 pub returns : goal.returns
@@ -9,6 +9,7 @@ returns c = record {
       fields_hold principals (laws principals is.declared) (order principals is.declared) program needs host is;
   statements = λ principals program needs host is.
       statements_hold principals (laws principals is.declared) (order principals is.declared) program needs host is;
+  one_by_one = one_by_one;
 }
   where
     laws : (principals : Declared) → IsDeclared principals → PlaceLaws principals
