@@ -9,14 +9,13 @@ use Rattle.std.proofs.lemmas.List.{append-nil, map-append}
 use Rattle.std.proofs.lemmas.List.Concat.{flat_map-cons}
 use Rattle.std.proofs.lemmas.Grind.{flat_map-append}
 use Rattle.std.proofs.lemmas.Option.{none-some}
-use Rattle.js_base.specs.declared.ids.PrincipalId.{PrincipalId}
 use Rattle.js_base.specs.declared.ids.VarId.{VarId}
 use Rattle.js_base.specs.declared.ids.StmtId.{StmtId}
 use Rattle.principals.specs.ActsFor.{ActsFor}
 use Rattle.label_lattice.specs.declared.label.Label.{Label}
 use Rattle.label_lattice.specs.Label.{Trusts}
 use Rattle.label_lattice.specs.Printed.{is_trusted_by}
-use Rattle.jif_tree.specs.Trees.{ExprTree, BlockTree, done, set_local, set_field, set_element, branch, loop, call}
+use Rattle.jif_tree.specs.Trees.{BlockTree, done, set_local, set_field, set_element, branch, loop, call}
 use Rattle.jif_tree.specs.Trees.{give_back, MethodTree}
 use Rattle.jif_tree.specs.LabelRules.{method_at, begin_label, params_of}
 use Rattle.label_reasons.specs.Listed.{acts_for}
@@ -38,7 +37,7 @@ use Rattle.place_reasons.specs.Reasons.{release_backed, changed_by, own_backed, 
 use Rattle.place_reasons.specs.Refuted.{statements_in, variables_of, changes_of, needed_label}
 use Rattle.place_reasons.proofs.Firsts.{or_none, or_assoc, first_in_two, first_mapped}
 use Rattle.place_reasons.proofs.PairLaws.{or_so, or_nones}
-use Rattle.place_reasons.proofs.FirstFound.{any_weaker, any_mapped, mapped_any, any_contains, first_in, none_in, if_found}
+use Rattle.place_reasons.proofs.FirstFound.{any_weaker, any_mapped, mapped_any, first_in, none_in, if_found}
 use Rattle.place_reasons.proofs.FirstFound.{some_same, if_none}
 
 -- ---- what a statement changes

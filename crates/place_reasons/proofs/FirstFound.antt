@@ -1,10 +1,10 @@
 -- From what a search finds to an item of the list, and from facts on items to those on lists.
-use Rattle.std.proofs.Common.{◌≡◌, inl, inr, zero, suc, Bool, true, false, List, [], ◌∷◌, map, refl, sym, ap, subst, arith}
+use Rattle.std.proofs.Common.{◌≡◌, inl, inr, Bool, true, false, List, [], ◌∷◌, map, refl, ap}
 use Rattle.std.specs.Prelude.{Any, Contains, if◌then◌else◌, Option, Some, None, unwrap_or}
 use Rattle.std.proofs.lemmas.Bool.{false≢true}
 use Rattle.std.proofs.lemmas.Option.{none-some}
 use Rattle.need_labels.proofs.Somewhere.{any_here, any_later, any_first, any_none}
-use Rattle.place_reasons.specs.Firsts.{or_first, first_some}
+use Rattle.place_reasons.specs.Firsts.{first_some}
 use Rattle.place_reasons.proofs.PairLaws.{or_so, or_nones}
 
 pub any_weaker : {X : Type 0} (P Q : X → Type 0) (xs : List X) → ((x : X) → P x → Q x) → Any P xs → Any Q xs

@@ -1,5 +1,5 @@
 -- The labels of a program that was checked are over the declared principals, and so is all that is made of them.
-use Rattle.std.proofs.Common.{◌≡◌, inl, inr, ℕ, zero, suc, true, false, List, [], ◌∷◌, ◌++◌, map, flat_map, refl, sym, ap}
+use Rattle.std.proofs.Common.{◌≡◌, inl, inr, ℕ, zero, suc, List, [], ◌∷◌, ◌++◌, map, flat_map, refl, sym}
 use Rattle.std.proofs.Common.{subst}
 use Rattle.std.specs.Prelude.{All, Option, Some, None, slice_get, slice_set, unwrap_or}
 use Rattle.std.specs.List.{list_any}
@@ -23,7 +23,7 @@ use Rattle.jif_tree.specs.Trees.{give_back, FieldTree, VarTree, MethodTree, Prog
 use Rattle.jif_tree.specs.LabelRules.{MethodSetting, VariableLabels, StatementLabels, expr_label, part_labels, guarded}
 use Rattle.jif_tree.specs.LabelRules.{variable_label, field_label, method_at, begin_label, result_of, labels_after}
 use Rattle.jif_tree.specs.LabelRules.{block_labels, setting_of, methods_labels, labels_after_methods, declared_labels}
-use Rattle.jif_tree.specs.LabelRules.{program_labels, variable_labels, labels_after_assignment}
+use Rattle.jif_tree.specs.LabelRules.{program_labels, labels_after_assignment}
 use Rattle.jif_tree.specs.WrittenLabels.{written_in, written_in_block, label_of_variable}
 use Rattle.label_check.specs.RuleLaws.{AreNamedOver}
 use Rattle.label_check.proofs.LabelOrder.{LabelOrder, expr_over}
@@ -37,7 +37,7 @@ use Rattle.need_labels.specs.Needs.{all_backing}
 use Rattle.need_labels.proofs.Backings.{releasing_is, not_releasing_is}
 use Rattle.place_reasons.specs.declared.reason.Needed.{Needed}
 use Rattle.place_reasons.specs.declared.reason.Needed.TheVariants as needed
-use Rattle.place_reasons.specs.Programs.{told_beside, labels_of_use, IsUseOver, IsBackingOver, labelled_by, labels_told}
+use Rattle.place_reasons.specs.Programs.{told_beside, IsUseOver, IsBackingOver, labelled_by, labels_told}
 use Rattle.place_reasons.specs.Programs.{program_tellings}
 use Rattle.place_reasons.specs.Reasons.{Site, id_of, exprs_of}
 use Rattle.place_reasons.specs.Refuted.{needed_label}

@@ -1,6 +1,6 @@
 -- What the rows of fields claim is so.
 use Rattle.std.proofs.Common.{◌≡◌, List, [], ◌∷◌, ◌++◌, refl, sym, ap, ap₂, ◌∙◌, subst}
-use Rattle.std.specs.Prelude.{Any, nat_eq, Option, Some, None}
+use Rattle.std.specs.Prelude.{Any, nat_eq, Option, Some}
 use Rattle.std.specs.Option.{option_map}
 use Rattle.std.proofs.lemmas.Bool.{eqb-true}
 use Rattle.std.proofs.lemmas.Option.{none-some}
@@ -11,8 +11,7 @@ use Rattle.label_lattice.specs.declared.label.Label.{Label}
 use Rattle.jif_tree.specs.Trees.{ExprTree, number, local, scalar, element, inverted, negated, binary, declassified}
 use Rattle.jif_tree.specs.Trees.{endorsed, BlockTree, done, set_local, set_field, set_element, branch, loop, call}
 use Rattle.jif_tree.specs.Trees.{give_back, MethodTree}
-use Rattle.jif_tree.specs.LabelRules.{field_label, setting_of}
-use Rattle.label_reasons.specs.declared.reason.Trait.{Trait}
+use Rattle.jif_tree.specs.LabelRules.{field_label}
 use Rattle.label_reasons.specs.Traits.{Fails}
 use Rattle.label_reasons.proofs.TraitTests.{AreTrusted}
 use Rattle.need_labels.specs.Labelled.{Labelled}

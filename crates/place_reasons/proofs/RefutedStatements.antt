@@ -1,6 +1,6 @@
 -- What the rows of heads and statements claim is so.
-use Rattle.std.proofs.Common.{◌≡◌, ℕ, List, [], ◌∷◌, flat_map, refl, sym, ◌∙◌, subst}
-use Rattle.std.specs.Prelude.{Any, Contains, IsSome, Option, Some, None}
+use Rattle.std.proofs.Common.{◌≡◌, ℕ, List, [], flat_map, refl, sym, ◌∙◌, subst}
+use Rattle.std.specs.Prelude.{Any, IsSome, Option, Some, None}
 use Rattle.std.specs.Option.{option_map}
 use Rattle.std.proofs.lemmas.Option.{none-some}
 use Rattle.js_base.specs.declared.ids.MethodId.{MethodId}
@@ -15,7 +15,7 @@ use Rattle.label_reasons.specs.declared.reason.Trait.{Trait}
 use Rattle.label_reasons.specs.Traits.{Fails}
 use Rattle.label_reasons.proofs.TraitTests.{AreTrusted}
 use Rattle.label_reasons.proofs.ActsTests.{ActsLaws}
-use Rattle.need_labels.specs.Labelled.{Labelled, pc_of, all_labels}
+use Rattle.need_labels.specs.Labelled.{Labelled, all_labels}
 use Rattle.need_labels.specs.Needs.{label_of}
 use Rattle.need_labels.proofs.Somewhere.{any_here}
 use Rattle.place_reasons.specs.declared.question.Question.TheVariants.{OfRun, OfUse}
@@ -27,14 +27,14 @@ use Rattle.place_reasons.specs.declared.reason.PlaceReason.TheVariants as row
 use Rattle.place_reasons.specs.Firsts.{or_first}
 use Rattle.place_reasons.specs.Questions.{answer_at}
 use Rattle.place_reasons.specs.Reasons.{Site, site_of, id_of, exprs_of, first_pair, first_untrusting, pc_at, pair_at}
-use Rattle.place_reasons.specs.Reasons.{used_by, kept_row, told_by_call, call_row, run_row, use_row, need_row}
+use Rattle.place_reasons.specs.Reasons.{used_by, kept_row, call_row, run_row, use_row, need_row}
 use Rattle.place_reasons.specs.Reasons.{backed_reason, statement_reason, head_reason}
-use Rattle.place_reasons.specs.Refuted.{statements_in, variables_of, called_by, kept_by, RefutesHead, RefutesStatement}
+use Rattle.place_reasons.specs.Refuted.{statements_in, variables_of, RefutesHead, RefutesStatement}
 use Rattle.place_reasons.proofs.PairLaws.{or_so, pair_true, trust_true}
 use Rattle.place_reasons.proofs.UsedLabels.{exprs_used}
 use Rattle.place_reasons.proofs.FirstFound.{any_weaker, first_in}
 use Rattle.place_reasons.proofs.BackedStatements.{IsOwn, block_true}
-use Rattle.place_reasons.proofs.StatementLaws.{IsNeeded, need_so, map_found}
+use Rattle.place_reasons.proofs.StatementLaws.{need_so, map_found}
 
 -- ---- pairs
 

@@ -1,5 +1,5 @@
 -- Where there is a reason for a statement the host may not hold it, and where there is none it may.
-use Rattle.std.proofs.Common.{◌≡◌, inl, inr, ℕ, ◌<◌, Bool, true, false, List, [], ◌∷◌, length, refl, sym, ap, ◌∙◌}
+use Rattle.std.proofs.Common.{◌≡◌, inl, inr, ℕ, ◌<◌, Bool, true, false, List, ◌∷◌, length, refl, sym, ap, ◌∙◌}
 use Rattle.std.proofs.Common.{subst, arith}
 use Rattle.std.specs.Prelude.{All, Any, if◌then◌else◌, Option, Some, None}
 use Rattle.std.specs.Option.{option_map}
@@ -8,7 +8,7 @@ use Rattle.std.proofs.lemmas.Option.{none-some}
 use Rattle.js_base.specs.declared.ids.PrincipalId.{PrincipalId}
 use Rattle.principals.specs.ActsFor.{Declared, ActsFor, IsDeclared}
 use Rattle.label_lattice.specs.declared.label.TheConstants.{READERS}
-use Rattle.label_lattice.specs.Label.{Trusts, IsTrustedBy}
+use Rattle.label_lattice.specs.Label.{Trusts}
 use Rattle.label_lattice.specs.Printed.{is_trusted_by}
 use Rattle.host_decl.specs.Hosts.{HostShape}
 use Rattle.jif_tree.specs.Trees.{BlockTree, done, MethodTree}
@@ -19,7 +19,7 @@ use Rattle.need_labels.specs.Needs.{Backing, for_label, for_release, Backs, IsNe
 use Rattle.place_rules.specs.PlaceRules.{MayHoldStatement}
 use Rattle.place_reasons.specs.declared.backed.Backed.{Backed}
 use Rattle.place_reasons.specs.declared.reason.PlaceReason.{PlaceReason}
-use Rattle.place_reasons.specs.Firsts.{or_first, first_some}
+use Rattle.place_reasons.specs.Firsts.{or_first}
 use Rattle.place_reasons.specs.Programs.{IsUseOver, IsBackingOver, rest_of}
 use Rattle.place_reasons.specs.Reasons.{Site, site_of, block_backed, backed_reason, need_of, run_row, use_row, call_row}
 use Rattle.place_reasons.specs.Reasons.{need_row, kept_rows, statement_reason}
