@@ -126,7 +126,7 @@ pub label_is : (labelled : Labelled) (field : FieldId) (tree : FieldTree) →
 label_is labelled field tree is =
     ap (λ (found : Option FieldTree). unwrap_or (option_map (λ (one : FieldTree). one.label) found) empty_label) is
 
-same_told : (principals : Declared) (labelled : Labelled) (host : Label) (field : FieldId) →
+pub same_told : (principals : Declared) (labelled : Labelled) (host : Label) (field : FieldId) →
     option_map told_pair (first_some (method_told principals labelled host field) labelled.program.methods)
     ≡ first_told principals host (labels_told principals labelled field)
 same_told principals labelled host field =

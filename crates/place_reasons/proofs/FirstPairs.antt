@@ -38,7 +38,7 @@ pub record IsPairOf (principals : Declared) (from to : Label) (pair : Trait) : T
   pub within : IsDeclaredTrait principals pair
   pub fails : PairFails from to pair
 
-first_of : {X : Type 0} (P : X → Type 0) (xs : List X) (x : X) → All P xs → slice_get xs 0 ≡ Some x → P x
+pub first_of : {X : Type 0} (P : X → Type 0) (xs : List X) (x : X) → All P xs → slice_get xs 0 ≡ Some x → P x
 first_of P [] x all is = absurd (none-some x is)
 first_of {X} P (y ∷ ys) x all is =
     let same : y ≡ x = ap (λ (found : Option X). unwrap_or found y) is in

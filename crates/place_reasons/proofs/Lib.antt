@@ -2,7 +2,7 @@
 -- and are due goes from pairs and principals (`PairLaws`) to what reads tell (`ToldLabels`, `FieldLaws`), to what
 -- statements tell (`UsedLabels`) and need (`BackedStatements`, `StatementLaws`), and with the labels of a checked
 -- program (`ProgramLabels`) to whole programs (`ProgramLaws`). What rows claim is shown in `RefutedStatements`,
--- `RefutedFields` and `TrueCauses`.
+-- `RefutedFields`, `NamedPrincipals` and `TrueCauses`.
 pub mod Firsts
 pub mod Nested
 pub mod FirstPairs
@@ -18,6 +18,7 @@ pub mod BackedStatements
 pub mod StatementLaws
 pub mod RefutedStatements
 pub mod RefutedFields
+pub mod NamedPrincipals
 pub mod TrueCauses
 pub mod ProgramLabels
 pub mod ProgramLaws

@@ -1,5 +1,5 @@
 -- What is found to bring a pair in has it: the label at its source has the pair.
-use Rattle.std.proofs.Common.{◌≡◌, inl, inr, ℕ, ◌+◌, suc, Bool, true, false, List, [], ◌∷◌, ◌++◌, refl, sym}
+use Rattle.std.proofs.Common.{◌≡◌, inl, inr, ℕ, ◌+◌, ◌<◌, suc, length, get_or, Bool, true, false, List, [], ◌∷◌, ◌++◌, refl, sym}
 use Rattle.std.proofs.Common.{ap, ◌∙◌, subst, arith, flat_map}
 use Rattle.std.specs.Option.{option_map}
 use Rattle.std.specs.Prelude.{◌==◌, All, Any, IsTrue, if◌then◌else◌, Option, Some, None, slice_get, unwrap_or}
@@ -51,7 +51,8 @@ use Rattle.place_reasons.specs.Reasons.{Site, site_of, id_of, exprs_of, first_pa
 use Rattle.place_reasons.specs.Reasons.{used_by, kept_row, call_row, run_row, use_row, need_row, backed_reason}
 use Rattle.place_reasons.specs.Reasons.{statement_reason, method_told, told_reason, own_row, told_row, trust_row}
 use Rattle.place_reasons.specs.Reasons.{field_reason}
-use Rattle.place_reasons.specs.Refuted.{statements_in, IsOneOf, IsSource, IsCaused, IsCauseTrue}
+use Rattle.place_reasons.specs.Refuted.{statements_in, IsOneOf, IsSource, SetsLocal, HasGuard, IsVia}
+use Rattle.place_reasons.specs.Refuted.{IsCaused, IsCauseTrue}
 use Rattle.place_reasons.proofs.PairLaws.{or_so}
 use Rattle.place_reasons.proofs.StatementLaws.{need_so, map_found}
 
@@ -69,7 +70,7 @@ first_caused program trait (Some cause) second one other = one
 
 where_caused : (program : ProgramTree) (trait : Trait) (test : Bool) (source : Source) →
     (IsTrue test → IsSource program trait source) → IsCaused program trait (cause_where test source)
-where_caused program trait true source so = so refl
+where_caused program trait true source so = (so refl, tt)
 where_caused program trait false source so = tt
 
 if_caused : (program : ProgramTree) (trait : Trait) (test : Bool) (found : Option Cause) → IsCaused program trait found →
@@ -77,10 +78,10 @@ if_caused : (program : ProgramTree) (trait : Trait) (test : Bool) (found : Optio
 if_caused program trait true found is = is
 if_caused program trait false found is = tt
 
-through_caused : (program : ProgramTree) (trait : Trait) (via : Via) (cause : Option Cause) →
+through_caused : (program : ProgramTree) (trait : Trait) (via : Via) (cause : Option Cause) → IsVia program via →
     IsCaused program trait cause → IsCaused program trait (through via cause)
-through_caused program trait via None is = tt
-through_caused program trait via (Some cause) is = is
+through_caused program trait via None there is = tt
+through_caused program trait via (Some cause) there is = (is.0, there)
 
 -- ---- where a search stands
 
@@ -279,33 +280,47 @@ answer_caused question setting trait here of_pc causes values at may =
 
 -- ---- blocks
 
--- a label with the trait that is written in one of these statements is a source
-abbrev MayWriteIn : ProgramTree → Trait → List BlockTree → Type 0
-MayWriteIn program trait statements = (here : StmtId) →
-    IsOneOf here (λ one. Any (λ label. IsTrue (has trait label)) (flat_map written_in (exprs_of one))) statements →
-    IsSource program trait (Written here)
+-- a statement has this number, and is so
+abbrev Of : StmtId → (BlockTree → Type 0) → BlockTree → Type 0
+Of here is one = (id_of one ≡ here) × is one
 
-abbrev Writes : Trait → StmtId → BlockTree → Type 0
-Writes trait here one =
-    (id_of one ≡ here) × Any (λ label. IsTrue (has trait label)) (flat_map written_in (exprs_of one))
+abbrev Writes : Trait → BlockTree → Type 0
+Writes trait one = Any (λ label. IsTrue (has trait label)) (flat_map written_in (exprs_of one))
+
+-- these statements stand in the program
+record Stand (program : ProgramTree) (trait : Trait) (statements : List BlockTree) : Type 0 where
+  writes : (here : StmtId) → IsOneOf here (Writes trait) statements → IsSource program trait (Written here)
+  locals : (x : VarId) (here : StmtId) → IsOneOf here (SetsLocal x) statements → IsVia program (ByLocal x here)
+  guards : (here : StmtId) → IsOneOf here HasGuard statements → IsVia program (ByGuard here)
 
 may_own : (program : ProgramTree) (trait : Trait) (one : BlockTree) (statements : List BlockTree) →
-    MayWriteIn program trait (one ∷ statements) →
-    MayWrite program trait (id_of one) (flat_map written_in (exprs_of one))
+    Stand program trait (one ∷ statements) → MayWrite program trait (id_of one) (flat_map written_in (exprs_of one))
 may_own program trait one statements may some =
-    may (id_of one) (any_here (Writes trait (id_of one)) one statements (refl, some))
+    may.writes (id_of one) (any_here (Of (id_of one) (Writes trait)) one statements (refl, some))
 
 may_rest : (program : ProgramTree) (trait : Trait) (one : BlockTree) (statements : List BlockTree) →
-    MayWriteIn program trait (one ∷ statements) → MayWriteIn program trait statements
-may_rest program trait one statements may here some = may here (any_later (Writes trait here) one statements some)
+    Stand program trait (one ∷ statements) → Stand program trait statements
+may_rest program trait one statements may = record {
+  writes = λ here some. may.writes here (any_later (Of here (Writes trait)) one statements some);
+  locals = λ x here some. may.locals x here (any_later (Of here (SetsLocal x)) one statements some);
+  guards = λ here some. may.guards here (any_later (Of here HasGuard) one statements some);
+}
 
 may_left : (program : ProgramTree) (trait : Trait) (first second : List BlockTree) →
-    MayWriteIn program trait (first ++ second) → MayWriteIn program trait first
-may_left program trait first second may here some = may here (any_left (Writes trait here) first second some)
+    Stand program trait (first ++ second) → Stand program trait first
+may_left program trait first second may = record {
+  writes = λ here some. may.writes here (any_left (Of here (Writes trait)) first second some);
+  locals = λ x here some. may.locals x here (any_left (Of here (SetsLocal x)) first second some);
+  guards = λ here some. may.guards here (any_left (Of here HasGuard) first second some);
+}
 
 may_right : (program : ProgramTree) (trait : Trait) (first second : List BlockTree) →
-    MayWriteIn program trait (first ++ second) → MayWriteIn program trait second
-may_right program trait first second may here some = may here (any_right (Writes trait here) first second some)
+    Stand program trait (first ++ second) → Stand program trait second
+may_right program trait first second may = record {
+  writes = λ here some. may.writes here (any_right (Of here (Writes trait)) first second some);
+  locals = λ x here some. may.locals x here (any_right (Of here (SetsLocal x)) first second some);
+  guards = λ here some. may.guards here (any_right (Of here HasGuard) first second some);
+}
 
 -- the only expression of a statement
 may_one : (program : ProgramTree) (trait : Trait) (here : StmtId) (value : ExprTree) →
@@ -324,10 +339,10 @@ with_caused setting trait causes x cause all is y = elim (cases_Bool (y.0 == x.0
 ]
 
 assigned_caused : (setting : MethodSetting) (trait : Trait) (labels : VariableLabels) (causes : VarId → Option Cause)
-    (x : VarId) (here : StmtId) (cause : Option Cause) → ((y : VarId) → IsCaused setting.program trait (causes y)) →
-    IsCaused setting.program trait cause → (y : VarId) →
+    (x : VarId) (here : StmtId) (cause : Option Cause) → IsVia setting.program (ByLocal x here) →
+    ((y : VarId) → IsCaused setting.program trait (causes y)) → IsCaused setting.program trait cause → (y : VarId) →
     IsCaused setting.program trait (causes_after_assignment labels causes x here cause y)
-assigned_caused setting trait labels causes x here cause all is = by (slice_get labels x.0) refl
+assigned_caused setting trait labels causes x here cause there all is = by (slice_get labels x.0) refl
   where
     by : (found : Option (Option Label)) → slice_get labels x.0 ≡ found → (y : VarId) →
         IsCaused setting.program trait (causes_after_assignment labels causes x here cause y)
@@ -335,15 +350,15 @@ assigned_caused setting trait labels causes x here cause all is = by (slice_get 
     by (Some (Some declared)) found y = rw found (all y)
     by (Some None) found y =
         rw found (with_caused setting trait causes x (through (ByLocal x here) cause) all
-        (through_caused setting.program trait (ByLocal x here) cause is) y)
+        (through_caused setting.program trait (ByLocal x here) cause there is) y)
 
 guarded_caused : (setting : MethodSetting) (trait : Trait) (here : StmtId) (of_pc : Option Cause)
-    (causes : VarId → Option Cause) (guard : ExprTree) → IsTrueAt setting trait of_pc causes →
-    MayWrite setting.program trait here (written_in guard) →
+    (causes : VarId → Option Cause) (guard : ExprTree) → IsVia setting.program (ByGuard here) →
+    IsTrueAt setting trait of_pc causes → MayWrite setting.program trait here (written_in guard) →
     IsTrueAt setting trait (guarded_cause trait setting here of_pc causes guard) causes
-guarded_caused setting trait here of_pc causes guard at may = record {
+guarded_caused setting trait here of_pc causes guard there at may = record {
   pc = or_caused setting.program trait of_pc _ at.pc
-      (through_caused setting.program trait (ByGuard here) (expr_cause trait setting here of_pc causes guard)
+      (through_caused setting.program trait (ByGuard here) (expr_cause trait setting here of_pc causes guard) there
       (expr_caused setting trait here of_pc causes guard at may));
   variables = at.variables;
 }
@@ -365,7 +380,7 @@ record IsBlockTrue (question : Question) (trait : Trait) (setting : MethodSettin
 
 block_caused : (question : Question) (trait : Trait) (setting : MethodSetting) (pc : Label) (of_pc : Option Cause)
     (labels : VariableLabels) (causes : VarId → Option Cause) (block : BlockTree) → IsTrueAt setting trait of_pc causes →
-    MayWriteIn setting.program trait (statements_in block) →
+    Stand setting.program trait (statements_in block) →
     IsBlockTrue question trait setting pc of_pc labels causes block
 block_caused question trait setting pc of_pc labels causes done at may =
     record { answers = All-nil (IsCaused setting.program trait); after = at.variables }
@@ -378,7 +393,9 @@ block_caused question trait setting pc of_pc labels causes (set_local heading x 
     (labels_after_assignment labels x (join_of (expr_label setting pc labels value) pc))
     (causes_after_assignment labels causes x heading.id cause) rest (record {
       pc = at.pc;
-      variables = assigned_caused setting trait labels causes x heading.id cause at.variables
+      variables = assigned_caused setting trait labels causes x heading.id cause
+          (may.locals x heading.id
+          (any_here (Of heading.id (SetsLocal x)) alone (statements_in rest) (refl, refl))) at.variables
           (value_caused setting trait heading.id of_pc causes value at one);
     }) (may_rest setting.program trait alone (statements_in rest) may) in
     record {
@@ -418,7 +435,8 @@ block_caused question trait setting pc of_pc labels causes (branch heading guard
     let nested = may_left setting.program trait both (statements_in rest) later in
     let inside : Label = guarded setting pc labels guard in
     let of_inside : Option Cause = guarded_cause trait setting heading.id of_pc causes guard in
-    let at_inside = guarded_caused setting trait heading.id of_pc causes guard at
+    let at_inside = guarded_caused setting trait heading.id of_pc causes guard
+    (may.guards heading.id (any_here (Of heading.id HasGuard) alone (both ++ statements_in rest) (refl, tt))) at
     (may_one setting.program trait heading.id guard own) in
     let between : VariableLabels = labels_after setting inside labels first in
     let causes_between : VarId → Option Cause = causes_after trait setting inside of_inside labels causes first in
@@ -452,7 +470,9 @@ block_caused question trait setting pc of_pc labels causes (loop heading guard b
     let later = may_rest setting.program trait alone (statements_in body ++ statements_in rest) may in
     let inside : Label = guarded setting pc labels guard in
     let of_inside : Option Cause = guarded_cause trait setting heading.id of_pc causes guard in
-    let at_inside = guarded_caused setting trait heading.id of_pc causes guard at
+    let at_inside = guarded_caused setting trait heading.id of_pc causes guard
+    (may.guards heading.id
+    (any_here (Of heading.id HasGuard) alone (statements_in body ++ statements_in rest) (refl, tt))) at
     (may_one setting.program trait heading.id guard own) in
     let one = block_caused question trait setting inside of_inside labels causes body at_inside
     (may_left setting.program trait (statements_in body) (statements_in rest) later) in
@@ -519,16 +539,20 @@ begin_caused program trait place method there =
     let P : Option MethodTree → Type 0 = λ found. IsTrue (has trait (begin_label found)) in
     subst P (sym there) is)
 
--- what is written in a method of the program is written in the program
-method_writes : (program : ProgramTree) (trait : Trait) (place : ℕ) (method : MethodTree) →
-    slice_get program.methods place ≡ Some method → MayWriteIn program trait (statements_in method.body)
-method_writes program trait place method there here some = (
-  place,
-  method,
-  slice_get_within program.methods place method there,
-  get_or_from_slice_get program.methods place method method there,
-  some,
-)
+-- the statements of a method of the program
+method_stands : (program : ProgramTree) (trait : Trait) (place : ℕ) (method : MethodTree) →
+    slice_get program.methods place ≡ Some method → Stand program trait (statements_in method.body)
+method_stands program trait place method there = record {
+  writes = λ here some. (place, method, within, read, some);
+  locals = λ x here some. (place, method, within, read, some);
+  guards = λ here some. (place, method, within, read, some);
+}
+  where
+    within : place < length program.methods
+    within = slice_get_within program.methods place method there
+
+    read : get_or program.methods place method ≡ method
+    read = get_or_from_slice_get program.methods place method method there
 
 methods_caused : (question : Question) (trait : Trait) (principals : Declared) (program : ProgramTree) (place : ℕ)
     (labels : VariableLabels) (causes : VarId → Option Cause) (methods : List MethodTree) →
@@ -542,7 +566,7 @@ methods_caused question trait principals program place labels causes (method ∷
     let there = first_stands program place method methods stand in
     let begins = begin_caused program trait place method there in
     let one = block_caused question trait setting method.begin of_begin labels causes method.body
-    (record { pc = begins; variables = all }) (method_writes program trait place method there) in
+    (record { pc = begins; variables = all }) (method_stands program trait place method there) in
     let behind = methods_caused question trait principals program (place + 1)
     (labels_after setting method.begin labels method.body)
     (causes_after trait setting method.begin of_begin labels causes method.body) methods one.after

@@ -1,8 +1,9 @@
 -- What each row of a reason claims, by itself: for which label a pair or a principal stands against the host, and which
--- statement has to do with that label. And what is claimed of a cause: that the label at its source has the trait.
+-- statement has to do with that label. And what is claimed of a cause: that the label at its source has the trait, and that
+-- what it came through last is there.
 --
 -- These are facts on the program and its labels. They say nothing of which row comes first, nor of how it is found.
-use Rattle.std.specs.Prelude.{◌≡◌, ◌++◌, ◌∷◌, [], ⊤, List, map, Any, Contains, IsTrue}
+use Rattle.std.specs.Prelude.{◌≡◌, ◌<◌, length, ◌++◌, ◌∷◌, [], ⊤, List, map, Any, Contains, IsTrue}
 use Rattle.std.specs.Prelude.{Option, Some, None, IsSome, slice_get}
 use Rattle.std.specs.List.{flat_map, list_any}
 use Rattle.js_base.specs.declared.ids.FieldId.{FieldId}
@@ -22,6 +23,9 @@ use Rattle.label_reasons.specs.declared.reason.Trait.{Trait}
 use Rattle.label_reasons.specs.declared.reason.Cause.{Cause}
 use Rattle.label_reasons.specs.declared.reason.Source.{Source}
 use Rattle.label_reasons.specs.declared.reason.Source.TheVariants.{OfField, OfVariable, OfBegin, Written}
+use Rattle.label_reasons.specs.declared.reason.Via.{Via}
+use Rattle.label_reasons.specs.declared.reason.Via.TheVariants.{Itself, ByLocal, ByGuard}
+use Rattle.label_reasons.specs.Listed.{IsListable}
 use Rattle.label_reasons.specs.Traits.{has, Fails}
 use Rattle.need_labels.specs.Labelled.{Labelled, pc_of, all_labels}
 use Rattle.need_labels.specs.Needs.{label_of, releases}
@@ -196,6 +200,23 @@ RefutesStatement principals labelled host method block (row.Releases member prin
     × IsOneOf statement ReleasesValue (statements_in block)
 RefutesStatement principals labelled host method block other = ⊥
 
+-- ---- who is named
+
+-- The principals in a reason are declared. The reader of a pair may be the outsider.
+abbrev pub NamesDeclared : Declared → PlaceReason → Type 0
+NamesDeclared principals (row.Own pair) = IsListable principals pair
+NamesDeclared principals (row.Read pair statement cause) = IsListable principals pair
+NamesDeclared principals (row.Index pair statement cause) = IsListable principals pair
+NamesDeclared principals (row.Untrusted principal) = principal < length principals.names
+NamesDeclared principals (row.Begins pair) = IsListable principals pair
+NamesDeclared principals (row.Runs pair cause) = IsListable principals pair
+NamesDeclared principals (row.Uses pair cause) = IsListable principals pair
+NamesDeclared principals (row.CallBegins pair called) = IsListable principals pair
+NamesDeclared principals (row.CallGives pair called) = IsListable principals pair
+NamesDeclared principals (row.Needs principal what statement) = principal < length principals.names
+NamesDeclared principals (row.Releases member principal statement) =
+    (member.0 < length principals.names) × (principal < length principals.names)
+
 -- ---- causes
 
 -- The label of this source has the trait: that of a field, of a variable, or of how a method begins, or one that is
@@ -208,10 +229,38 @@ IsSource program trait (OfBegin method) = IsTrue (has trait (begin_label (method
 IsSource program trait (Written here) = IsIn program here
     (λ method one. Any (λ label. IsTrue (has trait label)) (flat_map written_in (exprs_of one)))
 
--- so it is of the source of a cause, where there is one
+-- a statement sets the local
+abbrev pub SetsLocal : VarId → BlockTree → Type 0
+SetsLocal x done = ⊥
+SetsLocal x (set_local heading y value rest) = y ≡ x
+SetsLocal x (set_field heading field value rest) = ⊥
+SetsLocal x (set_element heading field index value rest) = ⊥
+SetsLocal x (branch heading guard first second rest) = ⊥
+SetsLocal x (loop heading guard body rest) = ⊥
+SetsLocal x (call heading place method arguments into rest) = ⊥
+SetsLocal x (give_back heading value rest) = ⊥
+
+-- it has a guard
+abbrev pub HasGuard : BlockTree → Type 0
+HasGuard done = ⊥
+HasGuard (set_local heading x value rest) = ⊥
+HasGuard (set_field heading field value rest) = ⊥
+HasGuard (set_element heading field index value rest) = ⊥
+HasGuard (branch heading guard first second rest) = ⊤
+HasGuard (loop heading guard body rest) = ⊤
+HasGuard (call heading place method arguments into rest) = ⊥
+HasGuard (give_back heading value rest) = ⊥
+
+-- what it came through last is there
+abbrev pub IsVia : ProgramTree → Via → Type 0
+IsVia program Itself = ⊤
+IsVia program (ByLocal x here) = IsIn program here (λ method one. SetsLocal x one)
+IsVia program (ByGuard here) = IsIn program here (λ method one. HasGuard one)
+
+-- so it is of a cause, where there is one
 abbrev pub IsCaused : ProgramTree → Trait → Option Cause → Type 0
 IsCaused program trait None = ⊤
-IsCaused program trait (Some cause) = IsSource program trait cause.source
+IsCaused program trait (Some cause) = IsSource program trait cause.source × IsVia program cause.via
 
 -- so it is of the cause that a reason tells
 abbrev pub IsCauseTrue : ProgramTree → PlaceReason → Type 0

@@ -2,7 +2,7 @@
 
 ghost use Rattle.std.specs.Prelude.{◌≡◌, ◌<◌, ◌↔◌, ℕ, List, ◌∷◌, [], All, Some, None, length, map};
 ghost use Rattle.std.specs.List.{AllZip};
-ghost use Rattle.principals.specs.ActsFor.{Declared, IsDeclared};
+ghost use Rattle.principals.specs.ActsFor.{Declared, IsDeclared, AreDeclared};
 ghost use Rattle.label_lattice.specs.declared.label.Label.{Label};
 ghost use Rattle.label_lattice.specs.Label.{ConfFlows, IntegFlows, Trusts};
 ghost use Rattle.label_lattice.specs.Over.{IsLabelOver};
@@ -22,6 +22,7 @@ ghost use Rattle.place_reasons.specs.Reasons.{first_pair, first_untrusting, fiel
 ghost use Rattle.place_reasons.specs.Reasons.{statement_reason, site_of, kept_rows};
 ghost use Rattle.place_reasons.specs.ProgramReasons.{field_reasons, block_reasons, statement_reasons};
 ghost use Rattle.place_reasons.specs.Refuted.{statements_in, RefutesField, RefutesHead, RefutesStatement, IsCauseTrue};
+ghost use Rattle.place_reasons.specs.Refuted.{NamesDeclared};
 ghost use Rattle.label_reasons.specs.declared.reason.Source.TheVariants.{OfField};
 ghost use Rattle.label_reasons.specs.declared.reason.Via.TheVariants.{Itself, ByLocal, ByGuard};
 ghost use Rattle.place_reasons.specs.declared.reason.Needed.TheVariants.{Field, Head};
@@ -40,7 +41,7 @@ use principals::acts_for_laws;
 
 /// Laws of the pairs and principals by which a host may not hold something, and of the heads of methods.
 pub fn place_laws()
-    // A pair is of declared principals or the outsider, and is held against the first label and not against the second.
+    // A pair has a place in labels, and is held against the first label and not against the second.
     ensures pair_true { (principals : Declared) (from to : Label) (pair : Trait) → IsDeclared principals →
         first_pair principals from to ≡ Some pair → IsDeclaredTrait principals pair × Fails pair from to }
     // So not all that the first may be known of may flow to the second.
@@ -118,7 +119,16 @@ pub fn refuted_laws()
         (block : BlockTree) (reason : PlaceReason) → IsDeclared principals →
         statement_reason principals labelled host method block ≡ Some reason →
         RefutesStatement principals labelled host method block reason }
-    // The source of the cause that it tells has the pair.
+    // Each principal that it names is declared, but for the outsider as the reader of a pair.
+    ensures field_names { (principals : Declared) (labelled : Labelled) (host : Label) (field : FieldId)
+        (reason : PlaceReason) → field_reason principals labelled host field ≡ Some reason →
+        NamesDeclared principals reason }
+    ensures head_names { (principals : Declared) (host : Label) (method : MethodTree) (reason : PlaceReason) →
+        head_reason principals host method ≡ Some reason → NamesDeclared principals reason }
+    ensures statement_names { (principals : Declared) (labelled : Labelled) (host : Label) (method : MethodTree)
+        (block : BlockTree) (reason : PlaceReason) → AreDeclared principals method.authority →
+        statement_reason principals labelled host method block ≡ Some reason → NamesDeclared principals reason }
+    // The source of the cause that it tells has the pair, and what that came through last is there.
     ensures field_cause_true { (principals : Declared) (labelled : Labelled) (host : Label) (field : FieldId)
         (reason : PlaceReason) → field_reason principals labelled host field ≡ Some reason →
         IsCauseTrue labelled.program reason }

@@ -3,6 +3,7 @@ use Rattle.label_reasons.proofs.TraitTests.{AreTrusted}
 use Rattle.label_reasons.proofs.ActsTests.{ActsLaws}
 use Rattle.place_reasons.proofs.RefutedStatements.{head_refuted, statement_refuted}
 use Rattle.place_reasons.proofs.RefutedFields.{field_refuted}
+use Rattle.place_reasons.proofs.NamedPrincipals.{field_names, head_names, statement_names}
 use Rattle.place_reasons.proofs.TrueCauses.{field_cause_true, statement_cause_true}
 use Rattle.place_reasons.proofs.laws.refuted_laws.Goals as goal
 
@@ -11,6 +12,9 @@ returns c = record {
   field_refuted = field_refuted trusts;
   head_refuted = head_refuted trusts;
   statement_refuted = λ principals. statement_refuted trusts principals (acts principals);
+  field_names = field_names trusts;
+  head_names = head_names trusts;
+  statement_names = λ principals. statement_names trusts principals (acts principals);
   field_cause_true = field_cause_true;
   statement_cause_true = statement_cause_true trusts;
 }
