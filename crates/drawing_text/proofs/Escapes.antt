@@ -24,7 +24,8 @@ letter_unmarked : (letter : ℕ) (amp less more : Bool) → (letter == 38) ≡ a
     (if amp then codes "&amp;"
     else (if less then codes "&lt;" else (if more then codes "&gt;" else letter ∷ [])))
 letter_unmarked letter true less more is less_is more_is =
-    more_unmarked 38 (codes "amp;") (omega arith, omega arith) (more_unmarked 97 (codes "mp;") (omega arith, omega arith)
+    more_unmarked 38 (codes "amp;") (omega arith, omega arith)
+    (more_unmarked 97 (codes "mp;") (omega arith, omega arith)
     (more_unmarked 109 (codes "p;") (omega arith, omega arith) (more_unmarked 112 (codes ";") (omega arith, omega arith)
     (more_unmarked 59 [] (omega arith, omega arith) none))))
 letter_unmarked letter false true more is less_is more_is =

@@ -35,5 +35,4 @@ pub fn drawing_laws()
     ensures worked_escape { escaped (codes "a<b && c>d") ≡ codes "a&lt;b &amp;&amp; c&gt;d" }
     ensures worked_cut { cut 6 (codes "reserve") ≡ codes "rese.." }
     ensures worked_width { wide_width 28 ≡ 203 }
-{
-}
+{}

@@ -16,14 +16,13 @@
 #![tactic(auto)]
 
 mod laws;
-
 mod spans;
 mod style;
 mod texts;
 mod widths;
 
 pub use laws::drawing_laws;
-pub use texts::{cut, letters, push_escaped};
 pub use spans::{Span, Starts, starts_of};
 pub use style::STYLE;
+pub use texts::{cut, letters, push_escaped};
 pub use widths::{small_room, small_width, wide_room, wide_width};

@@ -1,7 +1,6 @@
 //! Texts as characters: cut to a room, and escaped.
 
 ghost use Rattle.std.specs.Prelude.{◌≡◌, ◌≤◌, ◌++◌, IfOk, OnOk, length};
-
 ghost use Rattle.std.specs.Str.{chars, encode_utf8_all};
 ghost use Rattle.std.specs.String.{string_bytes};
 ghost use Rattle.drawing_text.specs.Letters.{escaped, escaped_letter};

@@ -1,23 +1,24 @@
 -- A statement's text in short: without the labels of what it declares and without the brace that opens its block. The
 -- labels in which `declassify` and `endorse` release a value stay. A text is a list of characters here.
-use Rattle.std.specs.Prelude.{ℕ, ◌-◌, ◌==◌, nat_lt, Bool, true, false, ◌&&◌, ◌||◌, if◌then◌else◌}
+use Rattle.std.specs.Prelude.{ℕ, ◌-◌, ◌==◌, nat_lt, Bool, true, false, not, ◌&&◌, ◌||◌, if◌then◌else◌}
 use Rattle.std.specs.Prelude.{List, [], ◌∷◌, ◌++◌, codes, length, slice_index, take}
+use Rattle.std.specs.Char.{is_ascii_alphanumeric}
 use Rattle.statement_texts.specs.declared.short.Place.{Place}
 use Rattle.statement_texts.specs.declared.short.Place.TheVariants.{Apart, InLabel, InWord}
 
-abbrev pub within : (low high letter : ℕ) → Bool
-within low high letter = nat_lt (low - 1) letter && nat_lt letter (high + 1)
-
 -- a letter of a name or a number
 abbrev pub is_word : ℕ → Bool
-is_word letter =
-    within 48 57 letter || within 65 90 letter || within 97 122 letter || letter == 95
+is_word letter = is_ascii_alphanumeric letter || letter == 95
 
--- what stays of a letter at a place
+-- whether a letter stays at a place
+abbrev pub stays : Place → ℕ → Bool
+stays Apart letter = true
+stays InWord letter = not (letter == 123)
+stays InLabel letter = false
+
+-- what stays of it
 abbrev pub kept_of : Place → ℕ → List ℕ
-kept_of Apart letter = letter ∷ []
-kept_of InWord letter = if letter == 123 then [] else letter ∷ []
-kept_of InLabel letter = []
+kept_of place letter = if stays place letter then letter ∷ [] else []
 
 -- a place behind a letter that is kept
 abbrev pub place_of : ℕ → Place

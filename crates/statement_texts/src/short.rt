@@ -2,7 +2,7 @@
 
 ghost use Rattle.std.specs.Prelude.{◌≡◌, ◌++◌, IfOk, OnOk};
 ghost use Rattle.statement_texts.specs.Short as short;
-ghost use Rattle.statement_texts.specs.declared.short.Place.TheVariants.{Apart};
+ghost use Rattle.statement_texts.specs.declared.short.Place.TheVariants.{Apart, InLabel, InWord};
 
 use js_base::OutOfMemory;
 use std::alloc::Global;
@@ -20,7 +20,11 @@ enum Place {
 
 /// A statement's text without the labels of what it declares and without the brace that opens its block. What is done
 /// otherwise begins with `else: `.
-pub fn short_text(alloc: Global, letters: &[char], otherwise: bool) -> Result<Vec<char>, OutOfMemory>
+pub fn short_text(
+    alloc: Global,
+    letters: &[char],
+    otherwise: bool,
+) -> Result<Vec<char>, OutOfMemory>
     ensures { IfOk result (λ text. text.items ≡ short.short otherwise letters.now) }
 {
     let kept = unlabelled(alloc, letters)?;
@@ -65,7 +69,7 @@ fn keep(kept: &mut Vec<char>, place: Place, letter: char) -> Result<(), OutOfMem
 
 /// Whether a letter stays at a place.
 fn stays(place: Place, letter: char) -> bool
-    ensures { short.kept_of place letter ≡ (if result then letter ∷ [] else []) }
+    ensures { result ≡ short.stays place letter }
 {
     match place {
         Place::Apart => true,
@@ -80,10 +84,30 @@ fn place_behind(place: Place, letter: char) -> Place
 {
     match place {
         Place::Apart => place_of(letter),
-        Place::InWord if letter == '{' => Place::InLabel,
-        Place::InWord => place_of(letter),
-        Place::InLabel if letter == '}' => Place::Apart,
-        Place::InLabel => Place::InLabel,
+        Place::InWord => behind_word(letter),
+        Place::InLabel => inside_label(letter),
+    }
+}
+
+/// The place behind a letter that stands right behind a word.
+fn behind_word(letter: char) -> Place
+    ensures { result ≡ short.place_behind InWord letter }
+{
+    if letter == '{' {
+        Place::InLabel
+    } else {
+        place_of(letter)
+    }
+}
+
+/// The place behind a letter of a label.
+fn inside_label(letter: char) -> Place
+    ensures { result ≡ short.place_behind InLabel letter }
+{
+    if letter == '}' {
+        Place::Apart
+    } else {
+        Place::InLabel
     }
 }
 
@@ -102,10 +126,7 @@ fn place_of(letter: char) -> Place
 fn is_word(letter: char) -> bool
     ensures { result ≡ short.is_word letter }
 {
-    ('0' <= letter && letter <= '9')
-        || ('A' <= letter && letter <= 'Z')
-        || ('a' <= letter && letter <= 'z')
-        || letter == '_'
+    letter.is_ascii_alphanumeric() || letter == '_'
 }
 
 /// A text without the blank and the brace that may end it.
