@@ -1,5 +1,5 @@
 -- Things in a row stand in their order.
-use Rattle.std.proofs.Common.{◌≡◌, ◌<◌, ◌≤◌, ◌+◌, ◌*◌, ℕ, zero, suc, List, [], ◌∷◌, ◌++◌, length, refl, ap, sym, ◌∙◌}
+use Rattle.std.proofs.Common.{◌≡◌, ◌<◌, ◌≤◌, ◌+◌, ℕ, zero, suc, List, [], ◌∷◌, ◌++◌, length, refl, ap, sym, ◌∙◌}
 use Rattle.std.proofs.Common.{Some, arith, append_assoc, drop, get_or}
 use Rattle.std.specs.Prelude.{slice_get}
 use Rattle.drawing_text.specs.Spans.{past, past_all, starts_from}
