@@ -1,6 +1,6 @@
 -- The first bad key of a host file, with the number of its table among those of its kind, and the way in which it is
 -- bad. Tables are looked at in the order of refusals: the file itself, then its hosts, then its links.
-use Rattle.std.specs.Prelude.{◌≡◌, ⊤, ⊥, ℕ, zero, suc, List, [], ◌∷◌, Option, Some, None, codes, string_bytes}
+use Rattle.std.specs.Prelude.{◌≡◌, ⊤, ℕ, zero, suc, List, [], ◌∷◌, Option, Some, None, codes, string_bytes}
 use Rattle.std.specs.List.{AllByRecursion}
 use Rattle.toml.specs.Data.{Data, Members, get_member}
 use Rattle.host_decl.specs.declared.schema.Form.{Form}

@@ -51,8 +51,8 @@ struct Found<'a> {
 /// That memory ran out.
 pub fn first_bad_key(alloc: Global, file: &Table) -> Result<Option<BadKey>, OutOfMemory>
     ensures found { IfOk result (λ found. MatchOption found
-        (λ bad. IsBadKeyOf (table_view file.now) (bad_key_shape bad))
-        (IsSoundFile (table_view file.now))) }
+        (IsSoundFile (table_view file.now))
+        (λ bad. IsBadKeyOf (table_view file.now) (bad_key_shape bad))) }
     ensures few { IfOk result (λ found. IfSome found (λ bad. bad.number < 2 ^ 63)) }
 {
     let Some(found) = found_in(file) else {

@@ -20,5 +20,5 @@ mod laws;
 mod told;
 
 pub use bad_key::{BadKey, KeyFault, first_bad_key};
-pub use laws::{host_reason_examples, host_reason_laws};
+pub use laws::{host_reason_examples, host_reason_laws, host_told_laws};
 pub use told::hosts_told;
