@@ -67,7 +67,7 @@ conf_right principals laws first second host one two flows owner reader owner_in
 abbrev pub first_told : Declared → Label → List Label → Option Trait
 first_told principals host labels = first_some (λ label. first_pair principals label host) labels
 
-fold_over : (principals : Declared) → LabelLaws principals → (label : Label) (labels : List Label) →
+pub fold_over : (principals : Declared) → LabelLaws principals → (label : Label) (labels : List Label) →
     IsLabelOver principals label → All (IsLabelOver principals) labels → IsLabelOver principals (fold join_of label labels)
 fold_over principals laws label [] over all = over
 fold_over principals laws label (one ∷ labels) over all =
@@ -112,16 +112,16 @@ fold_denies principals laws declared host label (one ∷ labels) pair over all i
 
 -- ---- rows
 
-map_none : {X Y : Type 0} (f : X → Y) (found : Option X) → option_map f found ≡ None → found ≡ None
+pub map_none : {X Y : Type 0} (f : X → Y) (found : Option X) → option_map f found ≡ None → found ≡ None
 map_none f None none = refl
 map_none f (Some x) none = absurd (none-some (f x) (sym none))
 
-map_some : {X Y : Type 0} (f : X → Y) (found : Option X) (y : Y) → option_map f found ≡ Some y →
+pub map_some : {X Y : Type 0} (f : X → Y) (found : Option X) (y : Y) → option_map f found ≡ Some y →
     (x : X) × (found ≡ Some x)
 map_some f None y is = absurd (none-some y is)
 map_some f (Some x) y is = (x, refl)
 
-label_is : (labelled : Labelled) (field : FieldId) (tree : FieldTree) →
+pub label_is : (labelled : Labelled) (field : FieldId) (tree : FieldTree) →
     slice_get labelled.program.fields field.0 ≡ Some tree → field_label labelled.program field ≡ tree.label
 label_is labelled field tree is =
     ap (λ (found : Option FieldTree). unwrap_or (option_map (λ (one : FieldTree). one.label) found) empty_label) is

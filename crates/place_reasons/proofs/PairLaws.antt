@@ -80,7 +80,7 @@ pub or_nones : {Y : Type 0} (first second : Option Y) → or_first first second 
 or_nones None second none = (refl, none)
 or_nones (Some x) second none = absurd (none-some x (sym none))
 
-range_so : {Y : Type 0} (P : Y → Type 0) (make : ℕ → Option Y) (from count : ℕ) →
+pub range_so : {Y : Type 0} (P : Y → Type 0) (make : ℕ → Option Y) (from count : ℕ) →
     ((k : ℕ) → k < from + count → (y : Y) → make k ≡ Some y → P y) → (y : Y) →
     first_some make (range_with_len from count) ≡ Some y → P y
 range_so P make from zero each y is = absurd (none-some y is)
@@ -88,7 +88,7 @@ range_so P make from (suc count) each y is =
     or_so P (make from) (first_some make (range_with_len (from + 1) count)) y (each from (omega arith))
     (range_so P make (from + 1) count (λ k lt. each k (omega (arith, lt)))) is
 
-range_none : {Y : Type 0} (make : ℕ → Option Y) (from count k : ℕ) → from ≤ k → k < from + count →
+pub range_none : {Y : Type 0} (make : ℕ → Option Y) (from count k : ℕ) → from ≤ k → k < from + count →
     first_some make (range_with_len from count) ≡ None → make k ≡ None
 range_none make from zero k above below none = absurd (omega (arith, above, below))
 range_none {Y} make from (suc count) k above below none =
@@ -135,7 +135,7 @@ trust_due tells principals host label over none principal within trusts =
 
 -- ---- heads
 
-either_some : {X Y Z : Type 0} (f : X → Z) (g : Y → Z) (a : Option X) (b : Option Y) (z : Z) →
+pub either_some : {X Y Z : Type 0} (f : X → Z) (g : Y → Z) (a : Option X) (b : Option Y) (z : Z) →
     or_first (option_map f a) (option_map g b) ≡ Some z → ((x : X) × (a ≡ Some x)) ⊎ ((y : Y) × (b ≡ Some y))
 either_some f g (Some x) b z is = inl (x, refl)
 either_some f g None (Some y) z is = inr (y, refl)

@@ -69,7 +69,7 @@ expr_used site here (endorsed operand label) =
     ap (λ inside. or_first inside (own_use site here (endorsed operand label))) (expr_used site here operand)
     ∙ sym (first_pushed (pair_at site) (parts_at site here operand) (label_at site here (endorsed operand label)))
 
-exprs_used : (site : Site) (here : StmtId) (values : List ExprTree) →
+pub exprs_used : (site : Site) (here : StmtId) (values : List ExprTree) →
     used_by site here values ≡ told_at site (flat_map (parts_at site here) values)
 exprs_used site here [] = refl
 exprs_used site here (value ∷ values) =

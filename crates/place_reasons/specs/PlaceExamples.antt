@@ -20,6 +20,7 @@ use Rattle.label_reasons.specs.declared.reason.Via.{Via}
 use Rattle.label_reasons.specs.declared.reason.Cause.{Cause}
 use Rattle.need_labels.specs.Labelled.{Labelled}
 use Rattle.place_reasons.specs.declared.reason.PlaceReason.{PlaceReason}
+use Rattle.place_reasons.specs.ProgramReasons.{field_reasons, statement_reasons}
 use Rattle.place_reasons.specs.Reasons.{field_reason, statement_reason, head_reason}
 
 -- Alice is principal 0, and Bob principal 1
@@ -146,6 +147,13 @@ statement_at labelled host block = statement_reason alice_and_bob labelled host 
 
 abbrev pub head_at : Label → Label → Option PlaceReason
 head_at begin host = head_reason alice_and_bob host (main_of begin done)
+
+-- and all of its fields, and all of its heads and statements, by their numbers
+abbrev pub fields_at : Labelled → Label → List (Option PlaceReason)
+fields_at labelled host = field_reasons alice_and_bob labelled host
+
+abbrev pub statements_at : Labelled → Label → List (Option PlaceReason)
+statements_at labelled host = statement_reasons alice_and_bob labelled host
 
 -- `if (a) { q = b; }`, where Bob keeps `a`, and Alice keeps `b` and trusts it and `q`
 abbrev pub read_inside : BlockTree

@@ -2,14 +2,15 @@
 use Rattle.std.specs.Prelude.{◌≡◌, ◌++◌, ◌∷◌, [], List, All, map, filter, nat_eq, Some, slice_get}
 use Rattle.std.specs.List.{flat_map}
 use Rattle.js_base.specs.declared.ids.FieldId.{FieldId}
-use Rattle.principals.specs.ActsFor.{Declared}
+use Rattle.principals.specs.ActsFor.{Declared, AreDeclared}
 use Rattle.label_lattice.specs.declared.label.Label.{Label}
 use Rattle.label_lattice.specs.Over.{IsLabelOver}
 use Rattle.jif_tree.specs.Trees.{FieldTree, BlockTree, done, set_local, set_field, set_element, branch, loop, call}
-use Rattle.jif_tree.specs.Trees.{give_back}
-use Rattle.jif_tree.specs.LabelRules.{MethodSetting, part_labels, method_at, begin_label}
+use Rattle.jif_tree.specs.Trees.{give_back, ProgramTree}
+use Rattle.jif_tree.specs.LabelRules.{MethodSetting, part_labels, method_at, begin_label, program_labels}
+use Rattle.jif_tree.specs.LabelRules.{variable_labels}
 use Rattle.need_labels.specs.Labelled.{Labelled, pc_of, all_labels}
-use Rattle.need_labels.specs.Needs.{Telling, told_of, statement_uses, kept_result}
+use Rattle.need_labels.specs.Needs.{Telling, told_of, statement_uses, kept_result, Backing, for_label, for_release}
 use Rattle.place_reasons.specs.Reasons.{id_of, exprs_of}
 
 -- all that reads tell
@@ -56,3 +57,29 @@ pub record IsUseOver (principals : Declared) (labelled : Labelled) (setting : Me
     Type 0 where
   pub pc : IsLabelOver principals (pc_of labelled (id_of block))
   pub told : All (IsLabelOver principals) (labels_of_use labelled setting block)
+
+-- what follows the first statement of a block
+abbrev pub rest_of : BlockTree → BlockTree
+rest_of done = done
+rest_of (set_local heading x value rest) = rest
+rest_of (set_field heading field value rest) = rest
+rest_of (set_element heading field index value rest) = rest
+rest_of (branch heading guard first second rest) = rest
+rest_of (loop heading guard body rest) = rest
+rest_of (call heading place method arguments into rest) = rest
+rest_of (give_back heading value rest) = rest
+
+-- those who have to trust a host are declared principals: the label is over them, and the authority is of them
+abbrev pub IsBackingOver : Declared → Backing → Type 0
+IsBackingOver principals (for_label label) = IsLabelOver principals label
+IsBackingOver principals (for_release authority) = AreDeclared principals authority
+
+-- ---- programs
+
+-- the program with the labels that the label check finds
+abbrev pub labelled_by : Declared → ProgramTree → Labelled
+labelled_by principals program = record {
+  program = program;
+  var_labels = variable_labels principals program;
+  pc = map (λ statement. statement.pc) (program_labels principals program);
+}

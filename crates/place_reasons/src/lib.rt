@@ -1,10 +1,13 @@
 //! Why a host may not hold a field or a statement of a program. Definitions and their laws.
 //!
 //! **Promises.** What `field_reason`, `head_reason` and `statement_reason` answer is the reason of the definition: the
-//! first row that holds, by its first pair or principal; and `place_laws` says what such a reason denies. No program
-//! uses this crate yet.
+//! first row that holds, by its first pair or principal. A host for which there is one may not hold the part, and one
+//! for which there is none may (`place_laws`). What each row claims is so by itself, and the source of a cause that it
+//! tells has the pair (`refuted_laws`). Over a whole program the parts without a reason are just those that the host
+//! may hold (`program_place_laws`). No program uses this crate yet.
 //!
-//! **Begin** with `specs/Reasons.antt`.
+//! **Begin** with `specs/Reasons.antt`; `specs/Refuted.antt` says what rows claim, and `specs/ProgramReasons.antt` has
+//! the reasons of all parts of a program.
 //!
 //! Rows are decided by the labels that were checked; only then is looked for what brings the pair in, by one walk over
 //! the program.
@@ -27,6 +30,6 @@ mod uses;
 mod walk;
 
 pub use fields::field_reason;
-pub use laws::{place_examples, place_laws};
+pub use laws::{place_examples, place_laws, program_place_laws, refuted_laws};
 pub use reason::{Needed, PlaceReason};
 pub use statements::{head_reason, statement_reason};

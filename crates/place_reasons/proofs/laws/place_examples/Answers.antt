@@ -26,4 +26,8 @@ returns c = record {
   begins = refl;
   begins_trusted = refl;
   begins_anywhere = refl;
+  fields_by_number = refl;
+  statements_by_number = refl;
+  nested_by_number = refl;
+  held_by_number = refl;
 }

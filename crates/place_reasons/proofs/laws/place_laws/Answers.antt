@@ -4,7 +4,8 @@ use Rattle.label_reasons.proofs.ActsTests.{ActsLaws}
 use Rattle.place_reasons.proofs.PairLaws.{pair_true, pair_denies, pair_due, trust_true, trust_due, head_true, head_due}
 use Rattle.place_reasons.proofs.FieldLaws.{LabelLaws, field_true, field_due}
 use Rattle.place_reasons.specs.Reasons.{site_of}
-use Rattle.place_reasons.proofs.UsedLabels.{kept_due, kept_denies}
+use Rattle.place_reasons.proofs.UsedLabels.{kept_due}
+use Rattle.place_reasons.proofs.StatementLaws.{statement_true, statement_due}
 use Rattle.place_reasons.proofs.laws.place_laws.Goals as goal
 
 pub returns : goal.returns
@@ -20,9 +21,12 @@ returns c = record {
       field_true trusts principals (labels principals declared) declared labelled host field tree reason;
   field_due = λ principals labelled host field tree declared.
       field_due trusts principals (acts principals) (labels principals declared) labelled host field tree;
-  statement_true = λ principals labelled host method block one inside need reason declared is over yes may.
-      kept_denies trusts (site_of principals labelled host.label method) (labels principals declared) declared block one
-      inside reason is over yes may.0;
+  statement_true = λ principals labelled host method block one inside need reason declared.
+      statement_true trusts principals (acts principals) (labels principals declared) declared labelled host method
+      block one inside need reason;
+  statement_due = λ principals labelled host method block one inside need declared alone.
+      statement_due trusts principals (acts principals) (labels principals declared)
+      (λ p q. c.acts_for_laws.ensures.of_declared principals p q declared) labelled host method block one inside need;
   statement_tells = λ principals labelled host method block one inside declared.
       kept_due trusts (site_of principals labelled host.label method) (acts principals) (labels principals declared)
       block one inside;
