@@ -3,8 +3,8 @@
 --
 -- What is refused is read once more, up to the stage before the one that refused it. So nothing has to be kept for what
 -- is accepted.
-use Rattle.std.specs.Prelude.{◌≡◌, ℕ, nat_lt, if◌then◌else◌, List, [], ◌++◌, codes, length, Option, Some, None}
-use Rattle.js_base.specs.declared.limits.TheConstants.{PROGRAM_BYTES}
+use Rattle.std.specs.Prelude.{◌≡◌, ℕ, nat_lt, if◌then◌else◌, List, [], length, Option, Some, None}
+use Rattle.js_base.specs.declared.limits.TheConstants.{HOSTS_BYTES, PROGRAM_BYTES}
 use Rattle.jif_lex.specs.declared.token.Token.{Token}
 use Rattle.jif_lex.specs.declared.lexer.LexError.{LexError}
 use Rattle.jif_grammar.specs.DraftShapes.{DraftShape}
@@ -22,8 +22,9 @@ use Rattle.explain_texts.specs.Labels.{labels_told}
 use Rattle.explain_texts.specs.Sheets.{SheetShape}
 use Rattle.explain_texts.specs.Told.{ToldShape, told_text}
 use Rattle.explain_texts.specs.Unheld.{field_told, statement_told}
+use Rattle.host_reasons.specs.HostsTold.{HostsTold}
 use Rattle.front_end.specs.Refusals as refusals
-use Rattle.front_end.specs.Refusals.{RefusalShape, why_no_hosts}
+use Rattle.front_end.specs.Refusals.{RefusalShape}
 use Rattle.front_end.specs.Sources.{HostsRead, Lexed, Parsed, Resolved}
 use Rattle.front_end.specs.Stages.{DueThen}
 use Rattle.front_end.specs.Verdicts.{VerdictShape, Refuse}
@@ -52,8 +53,17 @@ ResolveExplained name p why =
 
 -- ---- host files
 
-abbrev pub hosts_explained : (name : List ℕ) → HostsRefusal → VerdictShape
-hosts_explained name why = Refuse (refusals.InputExplained (name ++ (codes ": " ++ why_no_hosts why)))
+-- what is read of a host file: nothing of one that is too long
+abbrev pub readable_hosts : List ℕ → List ℕ
+readable_hosts h = if nat_lt HOSTS_BYTES (length h) then [] else h
+
+-- a host file of this name and these bytes is refused, and this is told of it
+abbrev pub told_hosts : (name h : List ℕ) → ToldShape → VerdictShape
+told_hosts name h told = Refuse (refusals.InputExplained (told_text name (readable_hosts h) told))
+
+abbrev pub HostsExplained : (name h : List ℕ) → HostsRefusal → VerdictShape → Type 0
+HostsExplained name h why verdict =
+    (told : ToldShape) × HostsTold (readable_hosts h) why told × (verdict ≡ told_hosts name h told)
 
 -- ---- labels
 
@@ -111,7 +121,7 @@ Explains program hosts p h (refusals.Parse why) = ParseExplained program p why
 Explains program hosts p h (refusals.Resolve why) = ResolveExplained program p why
 Explains program hosts p h (refusals.Labels why line words) =
     LabelsExplained program p h (refusals.Labels why line words)
-Explains program hosts p h (refusals.Hosts why) = λ verdict. verdict ≡ hosts_explained hosts why
+Explains program hosts p h (refusals.Hosts why) = HostsExplained hosts h why
 Explains program hosts p h (refusals.Places why words) = PlacesExplained program p why
 Explains program hosts p h other = λ verdict. verdict ≡ Refuse other
 

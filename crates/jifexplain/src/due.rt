@@ -8,8 +8,7 @@ ghost use Rattle.front_end.specs.Verdicts.{verdict_shape};
 ghost use Rattle.jifexplain.specs.Due.{DueForBytes, IsDue, IsDueForNames, accepted};
 
 use crate::explained::{Names, explained_verdict};
-use front_end::{Asked, Loaded, Stop, Verdict, load_all, read_places};
-use js_base::limits::{HOSTS_BYTES, PROGRAM_BYTES};
+use front_end::{Loaded, Stop, Verdict, host_file, load_all, program_file, read_places};
 use js_base::{Files, OutOfMemory, Status};
 use std::alloc::Global;
 
@@ -68,28 +67,6 @@ fn ended<F: Files>(
     };
     let names = Names { program, hosts };
     due_for_loaded(alloc, &names, p, h)
-}
-
-/// A program.
-fn program_file(name: &str) -> Asked<'_>
-    ensures name { result.name.now ≡ name.now }
-    ensures most { result.most ≡ PROGRAM_BYTES }
-{
-    Asked {
-        name,
-        most: PROGRAM_BYTES,
-    }
-}
-
-/// A host file.
-fn host_file(name: &str) -> Asked<'_>
-    ensures name { result.name.now ≡ name.now }
-    ensures most { result.most ≡ HOSTS_BYTES }
-{
-    Asked {
-        name,
-        most: HOSTS_BYTES,
-    }
 }
 
 /// What is due for a program and a host file of these names that were loaded.

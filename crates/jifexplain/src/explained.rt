@@ -9,20 +9,22 @@ ghost use Rattle.front_end.specs.Refusals.{refusal_shape};
 ghost use Rattle.front_end.specs.Verdicts.{verdict_shape};
 ghost use Rattle.jif_grammar.specs.DraftShapes.{draft_shape};
 ghost use Rattle.jif_lex.specs.TokenLists.{AreTokens};
+ghost use Rattle.host_decl.specs.Refusal.{refusal_shape as hosts_shape};
 ghost use Rattle.jif_tree.specs.Trees.{program_tree};
 ghost use Rattle.label_check.specs.Checking.{AreAuthorities};
 ghost use Rattle.label_reasons.specs.Reasons as reasons;
 ghost use Rattle.jifexplain.specs.Explained as explained;
-ghost use Rattle.jifexplain.specs.Explained.{DraftExplained, ExplainsVerdict, Explains, LabelsExplained, LexExplained};
-ghost use Rattle.jifexplain.specs.Explained.{ParseExplained, PlacesExplained, ResolveExplained, TokensExplained};
+ghost use Rattle.jifexplain.specs.Explained.{DraftExplained, ExplainsVerdict, Explains, HostsExplained};
+ghost use Rattle.jifexplain.specs.Explained.{LabelsExplained, LexExplained, ParseExplained, PlacesExplained, ResolveExplained, TokensExplained};
 ghost use Rattle.jifexplain.specs.Explained.{TreeExplained, UnheldTokens, readable};
 
 use crate::shown::{
-    Shown, hosts_shown, lexed_shown, parsed_shown, readable, resolved_shown, told_of, unheld_shown,
+    Shown, hosts_shown, lexed_shown, parsed_shown, readable, readable_hosts, resolved_shown, told_of,
+    unheld_shown,
 };
 use explain_texts::{Sheet, draft_places, labels_told};
 use front_end::{Loaded, Refusal, Stop, Verdict, hosts_read, lexed, parsed, resolved};
-use host_decl::Hosts;
+use host_decl::{Hosts, HostsError};
 use jif_lex::{LexError, Token};
 use jif_parse::ParseError;
 use jif_resolve::{ResolveError, limit_laws};
@@ -76,10 +78,25 @@ fn explained(
             let refusal = Refusal::Labels { why, line, words };
             labels_explained(alloc, name, program, hosts, refusal)
         }
-        Refusal::Hosts(why) => Ok(hosts_shown(alloc, names.hosts, &why)?),
+        Refusal::Hosts(why) => hosts_explained(alloc, names.hosts, hosts, &why),
         Refusal::Places { why, words: _ } => places_explained(alloc, name, program, why),
         other => Ok(Verdict::Refuse(other)),
     }
+}
+
+/// What explains that a host file is refused.
+fn hosts_explained(
+    alloc: Global,
+    name: &str,
+    hosts: &Loaded,
+    why: &HostsError,
+) -> Result<Verdict, Stop>
+    ensures { (h : List ℕ) → IsLoaded HOSTS_BYTES h hosts.now →
+        EndsIn (HostsExplained name.now h (hosts_shape why.now)) result }
+{
+    let text = readable_hosts(hosts);
+    let shown = Shown { name, text };
+    Ok(hosts_shown(alloc, &shown, why)?)
 }
 
 /// What explains that a program has no tokens.

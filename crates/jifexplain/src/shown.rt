@@ -1,35 +1,33 @@
 //! What is told of refused texts, as what is due for them.
 
 ghost use Rattle.std.specs.Prelude.{◌≡◌, ◌≤◌, ℕ, IfOk, List, length};
-ghost use Rattle.std.specs.String.{string_bytes};
-ghost use Rattle.js_base.specs.declared.limits.TheConstants.{PROGRAM_BYTES};
+ghost use Rattle.js_base.specs.declared.limits.TheConstants.{HOSTS_BYTES, PROGRAM_BYTES};
 ghost use Rattle.explain_texts.specs.Heads as heads;
 ghost use Rattle.explain_texts.specs.Sheets.{sheet_shape};
 ghost use Rattle.explain_texts.specs.Told.{told_shape};
 ghost use Rattle.front_end.specs.Loading.{IsLoaded};
-ghost use Rattle.front_end.specs.Refusals as refusals;
 ghost use Rattle.front_end.specs.Verdicts.{verdict_shape};
 ghost use Rattle.host_decl.specs.Refusal as hosts;
-ghost use Rattle.principals.specs.Refusal as principals;
 ghost use Rattle.jif_grammar.specs.DraftShapes.{draft_shape};
-ghost use Rattle.jifexplain.specs.Explained.{hosts_explained, readable, told_of, unheld_told};
+ghost use Rattle.jifexplain.specs.Explained as explained;
+ghost use Rattle.jifexplain.specs.Explained.{HostsExplained, readable, told_of, unheld_told};
 
 use explain_texts::{
     Told, field_told, lexed_told, parsed_told, resolved_told, statement_told, told_text,
 };
 use front_end::{Loaded, Refusal, Verdict};
 use host_decl::HostsError;
+use host_reasons::hosts_told;
 use jif_lex::{LexError, Token};
 use jif_parse::ParseError;
 use jif_resolve::ResolveError;
 use jif_tree::Draft;
 use js_base::OutOfMemory;
-use js_base::limits::PROGRAM_BYTES;
+use js_base::limits::{HOSTS_BYTES, PROGRAM_BYTES};
 use place_rules::PlaceError;
-use principals::PrincipalError;
-use std::alloc::{AllocError, Global};
+use std::alloc::Global;
 
-/// A program by its name and its text.
+/// A program or a host file by its name and its text.
 #[derive(Clone, Copy)]
 pub struct Shown<'a> {
     pub name: &'a str,
@@ -143,43 +141,36 @@ fn unheld_told(
     }
 }
 
-/// The host file of this name is refused.
-pub fn hosts_shown(alloc: Global, name: &str, why: &HostsError) -> Result<Verdict, OutOfMemory>
-    ensures { IfOk result (λ verdict.
-        verdict_shape verdict ≡ hosts_explained name.now (hosts.refusal_shape why.now)) }
+/// What is read of a host file: nothing of one that is too long.
+pub fn readable_hosts(hosts: &Loaded) -> &[u8]
+    ensures text { (h : List ℕ) → IsLoaded HOSTS_BYTES h hosts.now → result.now ≡ explained.readable_hosts h }
+    ensures short { length result.now ≤ HOSTS_BYTES }
 {
-    let words = why_no_hosts(alloc, why)?;
-    let text = format!(in alloc; "{name}: {words}")?;
+    match hosts {
+        Loaded::Bytes(bytes) => short_hosts(bytes),
+        Loaded::TooLong => &[],
+    }
+}
+
+/// A host file, or nothing of one that is too long.
+fn short_hosts(bytes: &[u8]) -> &[u8]
+    ensures text { result.now ≡ explained.readable_hosts bytes.now }
+    ensures short { length result.now ≤ HOSTS_BYTES }
+{
+    if HOSTS_BYTES < bytes.len() {
+        &[]
+    } else {
+        bytes
+    }
+}
+
+/// The host file of this name with this text is refused.
+pub fn hosts_shown(alloc: Global, shown: &Shown<'_>, why: &HostsError) -> Result<Verdict, OutOfMemory>
+    requires { length shown.now.text.now ≤ HOSTS_BYTES }
+    ensures { (h : List ℕ) → shown.now.text.now ≡ explained.readable_hosts h → IfOk result (λ verdict.
+        HostsExplained shown.now.name.now h (hosts.refusal_shape why.now) (verdict_shape verdict)) }
+{
+    let told = hosts_told(alloc, shown.text, why)?;
+    let text = told_text(alloc, shown.name, shown.text, &told)?;
     Ok(Verdict::Refuse(Refusal::InputExplained { text }))
-}
-
-/// Why a host file is refused.
-fn why_no_hosts(alloc: Global, why: &HostsError) -> Result<String, AllocError>
-    ensures { IfOk result (λ text. string_bytes text ≡ refusals.why_no_hosts (hosts.refusal_shape why.now)) }
-{
-    match why {
-        HostsError::OutOfMemory => Err(AllocError),
-        HostsError::NotToml => String::from_str(alloc, "not TOML"),
-        HostsError::BadKey(name) => format!(in alloc; "bad key {name}"),
-        HostsError::BadLabel(_, name) => format!(in alloc; "bad label of host {name}"),
-        HostsError::Principals(why) => why_no_principals(alloc, why),
-        HostsError::TooManyHosts => String::from_str(alloc, "too many hosts"),
-        HostsError::HostTwice(name) => format!(in alloc; "host {name} twice"),
-        HostsError::NoHost => String::from_str(alloc, "no host"),
-        HostsError::BadLink(number) => format!(in alloc; "bad link {number}"),
-        HostsError::TooLong => String::from_str(alloc, "too long"),
-    }
-}
-
-/// Why the principals of a host file are refused.
-fn why_no_principals(alloc: Global, why: &PrincipalError) -> Result<String, AllocError>
-    ensures { IfOk result
-        (λ text. string_bytes text ≡ refusals.why_no_principals (principals.refusal_shape why.now)) }
-{
-    match why {
-        PrincipalError::OutOfMemory => Err(AllocError),
-        PrincipalError::TooMany => String::from_str(alloc, "too many principals"),
-        PrincipalError::Twice(name) => format!(in alloc; "principal {name} twice"),
-        PrincipalError::Unknown(name) => format!(in alloc; "unknown principal {name}"),
-    }
 }
