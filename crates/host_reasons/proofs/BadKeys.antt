@@ -1,14 +1,15 @@
 -- The first bad key of a file: there is one where a file is refused for a key, and there is one only.
 use Rattle.std.proofs.Common.{◌≡◌, ◌⊎◌, ℕ, zero, suc, List, [], ◌∷◌, ◌++◌, refl, sym, ap, ◌∙◌, subst, inl, inr, ⊎_elim}
-use Rattle.std.proofs.Common.{codes, append-nil}
+use Rattle.std.proofs.Common.{append-nil}
 use Rattle.std.specs.List.{AllByRecursion}
 use Rattle.toml.specs.Data.{Members, get_member}
 use Rattle.host_decl.specs.declared.schema.TableKind.{TableKind}
 use Rattle.host_decl.specs.declared.schema.TableKind.TheVariants.{File, Host, Link}
-use Rattle.host_decl.specs.Schema.{IsBadKey, IsFirstBadKey, IsLeast, IsSound, file_tables, of_kind}
+use Rattle.host_decl.specs.Schema.{IsBadKey, IsFirstBadKey, IsLeast, IsSound, IsSoundAs, IsSoundFile}
+use Rattle.host_decl.specs.Schema.{file_tables, of_kind}
 use Rattle.host_decl.proofs.Least.{not_after_both}
 use Rattle.host_reasons.specs.declared.bad_key.KeyFault.{KeyFault}
-use Rattle.host_reasons.specs.BadKeys.{AreSoundBefore, BadKeyShape, IsBadAmong, IsBadKeyOf, key_fault}
+use Rattle.host_reasons.specs.BadKeys.{BadKeyShape, IsBadAmong, IsBadKeyOf, key_fault}
 use Rattle.host_reasons.specs.BadKeys.{tables_of_kind}
 
 least_once : (P : List ℕ → Type 0) (first second : List ℕ) → IsLeast P first → IsLeast P second → first ≡ second
@@ -138,3 +139,36 @@ pub same_key : (file : Members) (key : List ℕ) (bad : BadKeyShape) → IsFirst
 same_key file key bad first is =
     let some = some_bad_key file key first in
     ap (λ (b : BadKeyShape). b.key) (one_bad_key file bad some.0 is some.1) ∙ some.2
+
+-- ---- sound files
+
+sound_front : (kind : TableKind) (tables : List Members) (rest : List (TableKind × Members)) →
+    AllByRecursion IsSoundAs (of_kind kind tables ++ rest) →
+    AllByRecursion (IsSound kind) tables × AllByRecursion IsSoundAs rest
+sound_front kind [] rest all = (tt, all)
+sound_front kind (table ∷ tables) rest all =
+    let more = sound_front kind tables rest all.1 in ((all.0, more.0), more.1)
+
+-- the links are the last tables
+sound_links : (file : Members) → AllByRecursion IsSoundAs (of_kind Link (tables_of_kind Link file)) →
+    AllByRecursion (IsSound Link) (tables_of_kind Link file)
+sound_links file all =
+    (sound_front Link (tables_of_kind Link file) []
+    (subst (λ (tables : List (TableKind × Members)). AllByRecursion IsSoundAs tables)
+    (sym (append-nil (of_kind Link (tables_of_kind Link file)))) all)).0
+
+-- where no key is bad there is no first bad key
+none_by_kind : (file : Members) (kind : TableKind) (number : ℕ) (key : List ℕ) (fault : KeyFault) → IsSoundFile file →
+    IsBadAmong kind (tables_of_kind kind file) number key fault → ⊥
+none_by_kind file File number key fault sound bad =
+    among_or_sound File (tables_of_kind File file) number key fault bad (sound.0, tt)
+none_by_kind file Host number key fault sound bad =
+    among_or_sound Host (tables_of_kind Host file) number key fault bad
+    (sound_front Host (tables_of_kind Host file) (of_kind Link (tables_of_kind Link file)) sound.1).0
+none_by_kind file Link number key fault sound bad =
+    among_or_sound Link (tables_of_kind Link file) number key fault bad
+    (sound_links file
+    (sound_front Host (tables_of_kind Host file) (of_kind Link (tables_of_kind Link file)) sound.1).1)
+
+pub sound_has_none : (file : Members) (bad : BadKeyShape) → IsSoundFile file → IsBadKeyOf file bad → ⊥
+sound_has_none file bad sound is = none_by_kind file bad.kind bad.number bad.key bad.fault sound is.1

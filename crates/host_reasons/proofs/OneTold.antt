@@ -1,6 +1,7 @@
 -- What is told of a host file that is refused is one thing, and something is told.
-use Rattle.std.proofs.Common.{◌≡◌, ◌≢◌, ◌⊎◌, ℕ, ◌≤◌, List, [], None, String, Global, refl, sym, ap, ◌∙◌, subst, inl, inr}
+use Rattle.std.proofs.Common.{◌≡◌, ◌≢◌, ℕ, ◌≤◌, List, [], Option, Some, None, String, Global, refl, sym, ap, ◌∙◌, subst, inl}
 use Rattle.std.proofs.Common.{⊎_elim, string_bytes, length, arith, zero}
+use Rattle.std.specs.Prelude.{MatchOption}
 use Rattle.js_base.specs.declared.ids.HostId.{HostId}
 use Rattle.toml.specs.Data.{Members}
 use Rattle.host_decl.specs.declared.error.HostsError.{HostsError}
@@ -10,13 +11,14 @@ use Rattle.host_decl.specs.Meaning.{RefusesFile}
 use Rattle.host_decl.specs.Reading.{IsDocument, RefusesHosts}
 use Rattle.host_decl.specs.Refusal.{HostsRefusal, refusal_shape}
 use Rattle.host_decl.specs.Refusal as hosts
+use Rattle.host_decl.specs.Schema.{IsSoundFile}
 use Rattle.host_decl.proofs.OneMeaning.{document_once}
 use Rattle.explain_texts.specs.Heads.{told}
 use Rattle.explain_texts.specs.Told.{ToldShape}
-use Rattle.host_reasons.specs.BadKeys.{BadKeyShape, IsBadKeyOf}
+use Rattle.host_reasons.specs.declared.bad_key.BadKey.{BadKey}
+use Rattle.host_reasons.specs.BadKeys.{BadKeyShape, IsBadKeyOf, bad_key_shape}
 use Rattle.host_reasons.specs.HostsTold.{HasBadKey, HostsTold, KeyTold, LabelTold, key_message, label_in, label_message}
-use Rattle.host_reasons.specs.HostsTold.{plain}
-use Rattle.host_reasons.proofs.BadKeys.{one_bad_key, some_bad_key}
+use Rattle.host_reasons.proofs.BadKeys.{one_bad_key, some_bad_key, sound_has_none}
 
 -- bytes have one bad key
 bad_once : (bytes : List ℕ) (first second : BadKeyShape) → HasBadKey bytes first → HasBadKey bytes second →
@@ -24,6 +26,13 @@ bad_once : (bytes : List ℕ) (first second : BadKeyShape) → HasBadKey bytes f
 bad_once bytes first second one two =
     one_bad_key one.0 first second one.2
     (subst (λ (file : Members). IsBadKeyOf file second) (sym (document_once bytes one.0 two.0 one.1 two.1)) two.2)
+
+-- no key of a sound document is bad
+pub sound_document : (bytes : List ℕ) (file : Members) (bad : BadKeyShape) → IsDocument bytes file →
+    IsSoundFile file → HasBadKey bytes bad → ⊥
+sound_document bytes file bad document sound has =
+    sound_has_none file bad sound
+    (subst (λ (f : Members). IsBadKeyOf f bad) (document_once bytes has.0 file has.1 document) has.2)
 
 key_once : (bytes key : List ℕ) (first second : ToldShape) → KeyTold bytes key first → KeyTold bytes key second →
     first ≡ second
@@ -142,3 +151,17 @@ key_is_told bytes key what refuses is =
     ))
     (λ none. absurd (none.0 has.bad has.has))
     is
+
+-- ---- what the code found
+
+-- what is said of an option is said of what it holds
+pub some_matches : {A : Type 0} (Nothing : Type 0) (P : A → Type 0) (found : Option A) (x : A) → found ≡ Some x →
+    MatchOption found Nothing P → P x
+some_matches {A} Nothing P found x is matches = subst (λ (f : Option A). MatchOption f Nothing P) is matches
+
+-- the bad key of a document is that of its bytes
+pub found_in_document : (bytes : List ℕ) (file : Members) (found : Option BadKey) → IsDocument bytes file →
+    MatchOption found (IsSoundFile file) (λ bad. IsBadKeyOf file (bad_key_shape bad)) →
+    MatchOption found ((bad : BadKeyShape) → ¬ HasBadKey bytes bad) (λ bad. HasBadKey bytes (bad_key_shape bad))
+found_in_document bytes file None document sound = λ bad has. sound_document bytes file bad document sound has
+found_in_document bytes file (Some bad) document is = (file, document, is)

@@ -1,6 +1,7 @@
 //! Laws of bad keys, and messages that are worked out. The calls do nothing: their contracts have them.
 
-ghost use Rattle.std.specs.Prelude.{◌≡◌, ◌≢◌, ℕ, List, [], None, String, codes, string_bytes};
+ghost use Rattle.std.specs.Prelude.{◌≡◌, ◌≢◌, ◌++◌, ℕ, List, [], None, String, codes, string_bytes};
+ghost use Rattle.std.specs.Fmt.{decimal};
 ghost use Rattle.std.specs.declared.alloc.Global.{Global};
 ghost use Rattle.toml.specs.Data.{Members};
 ghost use Rattle.explain_texts.specs.Heads.{told};
@@ -47,14 +48,14 @@ pub fn host_told_laws()
 /// Messages, word by word.
 pub fn host_reason_examples()
     ensures missing { key_message (record { kind = Host; number = 1; key = codes "label"; fault = Missing })
-        ≡ codes "[[host]] number 2: key 'label' is missing" }
+        ≡ codes "[[host]] number " ++ (decimal 2 ++ codes ": key 'label' is missing") }
     ensures unknown { key_message (record { kind = File; number = 0; key = codes "hosts"; fault = Unknown })
         ≡ codes "the file: there is no key 'hosts'" }
-    ensures other_form {
-        key_message (record { kind = File; number = 0; key = codes "acts_for"; fault = OtherForm Pairs })
+    ensures other_form { key_message (record { kind = File; number = 0; key = codes "acts_for"; fault = OtherForm Pairs })
         ≡ codes "the file: key 'acts_for' has to be an array of pairs of texts" }
     ensures link { key_message (record { kind = Link; number = 0; key = codes "key"; fault = OtherForm Key })
-        ≡ codes "[[link]] number 1: key 'key' has to be a text of 64 hexadecimal digits" }
+        ≡ codes "[[link]] number " ++ (decimal 1
+        ++ codes ": key 'key' has to be a text of 64 hexadecimal digits") }
     ensures label { label_message (codes "A") (codes "{Alice")
         ≡ codes "host A: '{Alice' is no label of these principals" }
 {}

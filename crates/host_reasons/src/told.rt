@@ -1,6 +1,6 @@
 //! What is told of a host file that is refused.
 
-ghost use Rattle.std.specs.Prelude.{◌≡◌, ◌++◌, ◌<◌, ◌^◌, ℕ, List, IfOk, OnOk, MatchOption};
+ghost use Rattle.std.specs.Prelude.{◌≡◌, ◌++◌, ◌<◌, ◌^◌, [], None, IfOk, IfSome, OnOk, MatchOption};
 ghost use Rattle.std.specs.String.{string_bytes};
 ghost use Rattle.toml.specs.Data.{Members};
 ghost use Rattle.toml.specs.View.{table_view};
@@ -9,9 +9,9 @@ ghost use Rattle.host_decl.specs.Refusal.{bad_key, bad_label, not_toml, refusal_
 ghost use Rattle.principals.specs.Refusal as principals;
 ghost use Rattle.explain_texts.specs.Heads.{told};
 ghost use Rattle.explain_texts.specs.Told.{told_shape};
-ghost use Rattle.host_reasons.specs.BadKeys.{bad_key_shape};
+ghost use Rattle.host_reasons.specs.BadKeys.{BadKeyShape, bad_key_shape};
 ghost use Rattle.host_reasons.specs.HostsTold as texts;
-ghost use Rattle.host_reasons.specs.HostsTold.{HostsTold, KeyTold, LabelTold, NotTomlTold};
+ghost use Rattle.host_reasons.specs.HostsTold.{HasBadKey, HostsTold, KeyTold, LabelTold, NotTomlTold};
 
 use crate::bad_key::{BadKey, KeyFault, first_bad_key};
 use crate::labels::label_in;
@@ -36,7 +36,7 @@ pub fn hosts_told(alloc: Global, bytes: &[u8], why: &HostsError) -> Result<Told,
 {
     match why {
         HostsError::NotToml => toml_told(alloc, bytes, why),
-        HostsError::BadKey(_) => key_told(alloc, bytes, why),
+        HostsError::BadKey(key) => key_told(alloc, bytes, key.as_str(), why),
         HostsError::BadLabel(host, name) => label_told(alloc, bytes, *host, name.as_str(), why),
         HostsError::TooLong => message_told(
             alloc,
@@ -111,23 +111,43 @@ fn toml_told(alloc: Global, bytes: &[u8], why: &HostsError) -> Result<Told, OutO
 // ---- keys
 
 /// Which key is bad, and how.
-fn key_told(alloc: Global, bytes: &[u8], why: &HostsError) -> Result<Told, OutOfMemory>
-    ensures { (key : List ℕ) → refusal_shape why.now ≡ bad_key key →
-        IfOk result (λ what. KeyTold bytes.now key (told_shape what)) }
+fn key_told(alloc: Global, bytes: &[u8], key: &str, why: &HostsError) -> Result<Told, OutOfMemory>
+    requires { refusal_shape why.now ≡ bad_key key.now }
+    ensures { IfOk result (λ what. KeyTold bytes.now key.now (told_shape what)) }
 {
-    let Some(file) = document_in(alloc, bytes)? else {
-        return plain(alloc, why);
-    };
-    match first_bad_key(alloc, &file)? {
-        Some(bad) => message_told(alloc, None, key_message(alloc, &bad)?.as_str(), ""),
+    match bad_key_in(alloc, bytes)? {
+        Some(bad) => told_of_key(alloc, &bad),
         None => plain(alloc, why),
     }
 }
 
+/// What is told of a bad key.
+fn told_of_key(alloc: Global, bad: &BadKey) -> Result<Told, OutOfMemory>
+    requires { bad.now.number < 2 ^ 63 }
+    ensures { IfOk result (λ what.
+        told_shape what ≡ told None (texts.key_message (bad_key_shape bad.now)) []) }
+{
+    let message = key_message(alloc, bad)?;
+    message_told(alloc, None, message.as_str(), "")
+}
+
+/// The first bad key of the document in the bytes, where there is one.
+fn bad_key_in(alloc: Global, bytes: &[u8]) -> Result<Option<BadKey>, OutOfMemory>
+    ensures found { IfOk result (λ found. MatchOption found
+        ((bad : BadKeyShape) → ¬ HasBadKey bytes.now bad)
+        (λ bad. HasBadKey bytes.now (bad_key_shape bad))) }
+    ensures few { IfOk result (λ found. IfSome found (λ bad. bad.number < 2 ^ 63)) }
+{
+    let Some(file) = document_in(alloc, bytes)? else {
+        return Ok(None);
+    };
+    first_bad_key(alloc, &file)
+}
+
 /// The document in the bytes, where they are one.
 fn document_in(alloc: Global, bytes: &[u8]) -> Result<Option<Table>, OutOfMemory>
-    ensures { IfOk result (λ found. MatchOption found (λ file. IsDocument bytes.now (table_view file))
-        ((file : Members) → ¬ IsDocument bytes.now file)) }
+    ensures { IfOk result (λ found. MatchOption found ((file : Members) → ¬ IsDocument bytes.now file)
+        (λ file. IsDocument bytes.now (table_view file))) }
 {
     if HOSTS_BYTES < bytes.len() {
         return Ok(None);

@@ -1,2 +1,6 @@
 pub mod DueFiles
 pub mod Rereading
+pub mod StoppedStages
+pub mod OneExplanation
+pub mod OneVerdict
+pub mod SomeVerdict

@@ -1,3 +1,4 @@
 pub mod Answers
 pub mod Due
 pub mod Explained
+pub mod Statuses

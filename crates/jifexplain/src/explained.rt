@@ -19,8 +19,8 @@ ghost use Rattle.jifexplain.specs.Explained.{LabelsExplained, LexExplained, Pars
 ghost use Rattle.jifexplain.specs.Explained.{TreeExplained, UnheldTokens, readable};
 
 use crate::shown::{
-    Shown, hosts_shown, lexed_shown, parsed_shown, readable, readable_hosts, resolved_shown, told_of,
-    unheld_shown,
+    Shown, hosts_shown, lexed_shown, parsed_shown, readable, readable_hosts, resolved_shown,
+    told_of, unheld_shown,
 };
 use explain_texts::{Sheet, draft_places, labels_told};
 use front_end::{Loaded, Refusal, Stop, Verdict, hosts_read, lexed, parsed, resolved};

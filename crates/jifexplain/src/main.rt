@@ -18,6 +18,7 @@
 
 mod due;
 mod explained;
+mod laws;
 mod shown;
 mod top;
 

@@ -165,7 +165,11 @@ fn short_hosts(bytes: &[u8]) -> &[u8]
 }
 
 /// The host file of this name with this text is refused.
-pub fn hosts_shown(alloc: Global, shown: &Shown<'_>, why: &HostsError) -> Result<Verdict, OutOfMemory>
+pub fn hosts_shown(
+    alloc: Global,
+    shown: &Shown<'_>,
+    why: &HostsError,
+) -> Result<Verdict, OutOfMemory>
     requires { length shown.now.text.now ≤ HOSTS_BYTES }
     ensures { (h : List ℕ) → shown.now.text.now ≡ explained.readable_hosts h → IfOk result (λ verdict.
         HostsExplained shown.now.name.now h (hosts.refusal_shape why.now) (verdict_shape verdict)) }

@@ -6,6 +6,7 @@ ghost use Rattle.front_end.specs.Loads.{AreKept, files_change};
 ghost use Rattle.jifexplain.specs.Answers.{AnswersTo};
 
 use crate::due::due;
+use crate::laws::explanation_laws;
 use front_end::answer;
 use js_base::{Files, Sink, Status};
 use std::alloc::Global;
@@ -48,6 +49,7 @@ pub fn jifexplain<F: Files, S: Sink, E: Sink>(
     ensures loads { F.loads files.new ≤ F.loads files.old + length words.now }
     ensures kept { AreKept (files_change F.Files files.old files.new) }
 {
+    explanation_laws();
     let found = due(alloc, words, files);
     answer(alloc, PROGRAM, NO_MEMORY, found, out, err)
 }

@@ -1,7 +1,7 @@
-use Rattle.std.proofs.Common.{sym, ap, ◌∙◌, option_map, drop, ◌+◌, arith}
+use Rattle.std.proofs.Common.{drop, ◌+◌, arith}
 use Rattle.toml.specs.View.{items_view, table_view}
 use Rattle.host_decl.specs.Schema.{tables_of}
-use Rattle.host_reasons.proofs.Tables.{bad_found, bad_on, no_table_here, sound_on, table_here}
+use Rattle.host_reasons.proofs.Tables.{bad_found, bad_on, sound_on, table_here}
 use Rattle.host_reasons.proofs.bad_key.found_among.Goals as goal
 
 pub returns-in-Some-found_of-clause-some : goal.returns-in-Some-found_of-clause-some

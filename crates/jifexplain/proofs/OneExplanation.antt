@@ -1,0 +1,158 @@
+-- A refusal has one explanation, and some explanation, with the status of the refusal.
+use Rattle.std.proofs.Common.{◌≡◌, ◌≢◌, ◌⊎◌, ℕ, List, Option, Some, None, refl, sym, ◌∙◌, ap, subst, inl, inr, ⊎_elim}
+use Rattle.js_base.specs.declared.status.Status.{Status}
+use Rattle.js_base.specs.declared.status.Status.TheVariants.{InputRefused, SourceRefused}
+use Rattle.principals.specs.ActsFor.{IsDeclared}
+use Rattle.jif_lex.specs.declared.token.Token.{Token}
+use Rattle.jif_grammar.specs.DraftShapes.{DraftShape}
+use Rattle.jif_tree.specs.Trees.{ProgramTree}
+use Rattle.host_decl.specs.declared.error.HostsError.{HostsError}
+use Rattle.host_decl.specs.declared.error.HostsError.TheVariants as hosts_error
+use Rattle.host_decl.specs.Hosts.{HostsShape}
+use Rattle.host_decl.specs.Reading.{RefusesHosts}
+use Rattle.host_decl.specs.Refusal.{HostsRefusal, not_toml, refusal_shape}
+use Rattle.label_check.specs.declared.check_error.CheckError.{CheckError}
+use Rattle.label_reasons.specs.Reasons as reasons
+use Rattle.explain_texts.specs.Sheets.{SheetShape}
+use Rattle.explain_texts.specs.Told.{ToldShape}
+use Rattle.host_reasons.specs.HostsTold.{HostsTold}
+use Rattle.place_rules.specs.declared.place_error.PlaceError.{PlaceError}
+use Rattle.front_end.specs.PlacedSources.{PlacedSources}
+use Rattle.front_end.specs.Refusals.{RefusalShape}
+use Rattle.front_end.specs.Refusals as refusals
+use Rattle.front_end.specs.Sources.{HostsRead, Lexed, Parsed, Resolved, Source, Sources}
+use Rattle.front_end.specs.Stages.{Outcome, given, stopped}
+use Rattle.front_end.specs.Verdicts.{VerdictShape, Refuse, hosts_refused}
+use Rattle.front_end.proofs.Stages.{IsOne}
+use Rattle.jifexplain.specs.Explained.{DraftExplained, ExplainsVerdict, HostsExplained, LabelsExplained}
+use Rattle.jifexplain.specs.Explained.{PlacesExplained, TokensExplained, TreeExplained, UnheldTokens}
+use Rattle.jifexplain.specs.Explained.{labels_verdict, readable, sheet_of, told_hosts, told_of, unheld_told}
+use Rattle.jifexplain.specs.Statuses.{verdict_status}
+use Rattle.jifexplain.proofs.StoppedStages.{StopsAt, WasDrafted, WasRead, due_given, no_draft, no_hosts, no_labels}
+use Rattle.jifexplain.proofs.StoppedStages.{no_places, no_program, no_tokens, places_at}
+
+-- each stage gives one thing
+pub record OneOfEach : Type 0 where
+  pub tokens : (p : List ℕ) → IsOne (Lexed p)
+  pub drafts : (list : List Token) → IsOne (Parsed list)
+  pub hosts : (h : List ℕ) → IsOne (HostsRead h)
+  pub programs : (file : HostsShape) (draft : DraftShape) → IsDeclared file.principals → IsOne (Resolved file draft)
+  pub sources : (p h : List ℕ) → IsOne (Sources p h)
+  pub declared : (h : List ℕ) (file : HostsShape) → HostsRead h (given file) → IsDeclared file.principals
+
+-- what is told of a refused host file is one, but for the place at which it is no TOML
+abbrev pub OneTold : Type 0
+OneTold = (h : List ℕ) (why : HostsRefusal) (first second : ToldShape) → why ≢ not_toml → HostsTold h why first →
+    HostsTold h why second → first ≡ second
+
+abbrev pub SomeTold : Type 0
+SomeTold = (h : List ℕ) (why : HostsError) → RefusesHosts h why → why ≢ hosts_error.OutOfMemory →
+    (what : ToldShape) × HostsTold h (refusal_shape why) what
+
+-- ---- labels
+
+-- behind all stages
+labels_are : OneOfEach → (name p h : List ℕ) (refusal : RefusalShape) (list : List Token) (draft : DraftShape)
+    (file : HostsShape) (tree : ProgramTree) (verdict : VerdictShape) → WasRead p h list draft file tree →
+    LabelsExplained name p h refusal verdict →
+    verdict ≡ labels_verdict name (readable p) refusal (sheet_of list draft file tree)
+    (reasons.explained file.principals tree)
+labels_are one name p h refusal list draft file tree verdict was due =
+    due_given (Resolved file draft)
+    (λ t v. v ≡ labels_verdict name (readable p) refusal (sheet_of list draft file t) (reasons.explained file.principals t))
+    tree verdict (one.programs file draft (one.declared h file was.hosts)) was.resolved
+    (due_given (HostsRead h) (TreeExplained name p refusal list draft) file verdict (one.hosts h) was.hosts
+    (due_given (Parsed list) (DraftExplained name p h refusal list) draft verdict (one.drafts list) was.drafted.parsed
+    (due_given (Lexed p) (TokensExplained name p h refusal) list verdict (one.tokens p) was.drafted.lexed due)))
+
+-- ---- places
+
+places_are : OneOfEach → (name p : List ℕ) (why : PlaceError) (list : List Token) (draft : DraftShape)
+    (verdict : VerdictShape) → WasDrafted p list draft → PlacesExplained name p why verdict →
+    verdict ≡ told_of name (readable p) (unheld_told list draft why)
+places_are one name p why list draft verdict was due =
+    due_given (Parsed list) (λ d v. v ≡ told_of name (readable p) (unheld_told list d why)) draft verdict
+    (one.drafts list) was.parsed
+    (due_given (Lexed p) (UnheldTokens name p why) list verdict (one.tokens p) was.lexed due)
+
+-- ---- one explanation
+
+hosts_once : OneTold → (name h : List ℕ) (why : HostsRefusal) (first second : VerdictShape) → why ≢ not_toml →
+    HostsExplained name h why first → HostsExplained name h why second → first ≡ second
+hosts_once told name h why first second is one two =
+    one.2 ∙ ap (told_hosts name h) (told h why one.0 two.0 is one.1 two.1) ∙ sym two.2
+
+once_at : OneOfEach → OneTold → (program hosts p h : List ℕ) (refused first second : VerdictShape) →
+    StopsAt p h refused → refused ≢ hosts_refused not_toml → ExplainsVerdict program hosts p h refused first →
+    ExplainsVerdict program hosts p h refused second → first ≡ second
+once_at one told program hosts p h _ first second (no_tokens why) is here there = here ∙ sym there
+once_at one told program hosts p h _ first second (no_draft list why lexed) is here there =
+    let this = λ (v : VerdictShape) due. due_given (Lexed p) _ list v (one.tokens p) lexed due in
+    this first here ∙ sym (this second there)
+once_at one told program hosts p h _ first second (no_program list why lexed) is here there =
+    let this = λ (v : VerdictShape) due. due_given (Lexed p) _ list v (one.tokens p) lexed due in
+    this first here ∙ sym (this second there)
+once_at one told program hosts p h _ first second (no_hosts why refuses memory) is here there =
+    hosts_once told hosts h (refusal_shape why) first second (λ same. is (ap hosts_refused same)) here there
+once_at one told program hosts p h _ first second (no_labels list draft file tree why was) is here there =
+    labels_are one program p h _ list draft file tree first was here
+    ∙ sym (labels_are one program p h _ list draft file tree second was there)
+once_at one told program hosts p h _ first second (no_places list draft source why was sourced none) is here there =
+    places_are one program p why list draft first was here
+    ∙ sym (places_are one program p why list draft second was there)
+
+pub explained_once : OneOfEach → OneTold → (program hosts p h : List ℕ)
+    (refused first second : VerdictShape) → PlacedSources p h (stopped refused) → refused ≢ hosts_refused not_toml →
+    ExplainsVerdict program hosts p h refused first → ExplainsVerdict program hosts p h refused second →
+    first ≡ second
+explained_once one told program hosts p h refused first second stops is here there =
+    once_at one told program hosts p h refused first second (places_at p h refused stops) is here there
+
+-- ---- some explanation
+
+some_at : SomeTold → (program hosts p h : List ℕ) (refused : VerdictShape) →
+    StopsAt p h refused → (verdict : VerdictShape) × ExplainsVerdict program hosts p h refused verdict
+some_at told program hosts p h _ (no_tokens why) = (_, refl)
+some_at told program hosts p h _ (no_draft list why lexed) = (_, inl (list, lexed, refl))
+some_at told program hosts p h _ (no_program list why lexed) = (_, inl (list, lexed, refl))
+some_at told program hosts p h _ (no_hosts why refuses memory) =
+    let what = told h why refuses memory in (_, what.0, what.1, refl)
+some_at told program hosts p h _ (no_labels list draft file tree why was) =
+    (_, inl (list, was.drafted.lexed, inl (draft, was.drafted.parsed, inl (file, was.hosts, inl (tree, was.resolved, refl)))))
+some_at told program hosts p h _ (no_places list draft source why was sourced none) =
+    (_, inl (list, was.lexed, inl (draft, was.parsed, refl)))
+
+pub explained_some : SomeTold → (program hosts p h : List ℕ) (refused : VerdictShape) →
+    PlacedSources p h (stopped refused) →
+    (verdict : VerdictShape) × ExplainsVerdict program hosts p h refused verdict
+explained_some told program hosts p h refused stops =
+    some_at told program hosts p h refused (places_at p h refused stops)
+
+-- ---- the status of the refusal
+
+-- labels are refused, whether a reason is found or not
+labels_status : (name text : List ℕ) (why : CheckError) (line : ℕ) (words : List ℕ) (sheet : SheetShape)
+    (found : reasons.Explained) →
+    verdict_status (labels_verdict name text (refusals.Labels why line words) sheet found) ≡ SourceRefused
+labels_status name text why line words sheet None = refl
+labels_status name text why line words sheet (Some reason) = refl
+
+status_at : OneOfEach → (program hosts p h : List ℕ) (refused verdict : VerdictShape) → StopsAt p h refused →
+    ExplainsVerdict program hosts p h refused verdict → verdict_status verdict ≡ verdict_status refused
+status_at one program hosts p h _ verdict (no_tokens why) due = ap verdict_status due
+status_at one program hosts p h _ verdict (no_draft list why lexed) due =
+    ap verdict_status (due_given (Lexed p) _ list verdict (one.tokens p) lexed due)
+status_at one program hosts p h _ verdict (no_program list why lexed) due =
+    ap verdict_status (due_given (Lexed p) _ list verdict (one.tokens p) lexed due)
+status_at one program hosts p h _ verdict (no_hosts why refuses memory) due = ap verdict_status due.2
+status_at one program hosts p h _ verdict (no_labels list draft file tree why was) due =
+    ap verdict_status (labels_are one program p h _ list draft file tree verdict was due)
+    ∙ labels_status program (readable p) why _ _ (sheet_of list draft file tree) (reasons.explained file.principals tree)
+status_at one program hosts p h _ verdict (no_places list draft source why was sourced none) due =
+    ap verdict_status (places_are one program p why list draft verdict was due)
+
+pub same_status : OneOfEach → (program hosts p h : List ℕ) (refused verdict : VerdictShape) →
+    PlacedSources p h (stopped refused) → ExplainsVerdict program hosts p h refused verdict →
+    verdict_status verdict ≡ verdict_status refused
+same_status one program hosts p h refused verdict stops due =
+    status_at one program hosts p h refused verdict (places_at p h refused stops) due

@@ -1,0 +1,152 @@
+-- For words, and for files that tell what they hold, one verdict is due, where the host file is TOML.
+use Rattle.std.proofs.Common.{◌≡◌, ℕ, ◌+◌, ◌<◌, List, [], ◌∷◌, length, Option, Some, refl, sym, ap, ◌∙◌, subst}
+use Rattle.std.proofs.Common.{⊎_elim}
+use Rattle.js_base.specs.Counts.{last_count}
+use Rattle.host_decl.specs.Refusal.{not_toml}
+use Rattle.front_end.specs.Loads.{FilesChange, Told, IsHeld, IsFirstAbsent}
+use Rattle.front_end.specs.PlacedSources.{PlacedSource, PlacedSources}
+use Rattle.front_end.specs.Sources.{HostsRead}
+use Rattle.front_end.specs.Stages.{Outcome, given, stopped}
+use Rattle.front_end.specs.Verdicts.{VerdictShape, hosts_refused, no_such_file}
+use Rattle.front_end.proofs.Answering.{no_fault_and_fault}
+use Rattle.front_end.proofs.Places.{of_all}
+use Rattle.front_end.proofs.Stages.{IsOne, give, stop_with}
+use Rattle.front_end.proofs.AbsentFiles.{held_once as one_held, told_held, absent_not_held, absent_once}
+use Rattle.jifexplain.specs.Due.{DueForBytes, DueForNames, absent, loaded, Due, no_words, two_words, IsDue}
+use Rattle.jifexplain.specs.Explained.{ExplainsVerdict}
+use Rattle.jifexplain.specs.Statuses.{HoldsToml, checked_status, verdict_status}
+use Rattle.jifexplain.proofs.OneExplanation.{OneOfEach, OneTold, explained_once, same_status as refused_status}
+use Rattle.jifexplain.proofs.StoppedStages.{StopsAt, no_draft, no_hosts, no_labels, no_places, no_program}
+use Rattle.jifexplain.proofs.StoppedStages.{no_tokens, places_at}
+
+-- what is known of all stages
+pub record OneOfAll : Type 0 where
+  pub each : OneOfEach
+  pub told : OneTold
+  pub plans : (p h : List ℕ) → IsOne (PlacedSources p h)
+
+-- ---- refused ones
+
+-- where all stops since the host file is no TOML, that is why its reading stops
+stops_toml : (p h : List ℕ) (refused : VerdictShape) → StopsAt p h refused → refused ≡ hosts_refused not_toml →
+    HostsRead h (stopped (hosts_refused not_toml))
+stops_toml p h _ (no_tokens why) same = cc
+stops_toml p h _ (no_draft list why lexed) same = cc
+stops_toml p h _ (no_program list why lexed) same = cc
+stops_toml p h _ (no_hosts why refuses memory) same = (why, refuses, memory, sym same)
+stops_toml p h _ (no_labels list draft file tree why was) same = cc
+stops_toml p h _ (no_places list draft source why was sourced none) same = cc
+
+abbrev pub IsToml : List ℕ → Type 0
+IsToml h = ¬ HostsRead h (stopped (hosts_refused not_toml))
+
+refused_once : OneOfAll → (program hosts p h : List ℕ) (refused first second : VerdictShape) → IsToml h →
+    PlacedSources p h (stopped refused) → ExplainsVerdict program hosts p h refused first →
+    ExplainsVerdict program hosts p h refused second → first ≡ second
+refused_once one program hosts p h refused first second toml stops here there =
+    explained_once one.each one.told program hosts p h refused first second stops
+    (λ same. toml (stops_toml p h refused (places_at p h refused stops) same)) here there
+
+-- ---- files
+
+bytes_once : OneOfAll → (program hosts p h : List ℕ) (first second : VerdictShape) → IsToml h →
+    DueForBytes program hosts p h first → DueForBytes program hosts p h second → first ≡ second
+bytes_once one program hosts p h first second toml here there =
+    ⊎_elim
+    (λ held. ⊎_elim
+    (λ also. held.2 ∙ sym also.2)
+    (λ stops. absurd (let no : give held.0 ≡ stop_with stops.0 =
+    one.plans p h (given held.0) (stopped stops.0) held.1 stops.1 in cc))
+    there)
+    (λ stops. ⊎_elim
+    (λ held. absurd (let no : stop_with stops.0 ≡ give held.0 =
+    one.plans p h (stopped stops.0) (given held.0) stops.1 held.1 in cc))
+    (λ also. let both : stop_with {X = PlacedSource} stops.0 ≡ stop_with also.0 =
+    one.plans p h (stopped stops.0) (stopped also.0) stops.1 also.1 in
+    let same : also.0 ≡ stops.0 = cc in
+    refused_once one program hosts p h stops.0 first second toml stops.1 stops.2
+    (subst (λ (refused : VerdictShape). ExplainsVerdict program hosts p h refused second) same also.2))
+    there)
+    here
+
+-- ---- files that tell what they hold
+
+absent_or_held : (holds : List ℕ → Option (List ℕ)) (program hosts p h : List ℕ) (place : ℕ) (file : List ℕ) →
+    IsFirstAbsent (Some holds) (program ∷ hosts ∷ []) place file → Told (Some holds) program (Some p) →
+    Told (Some holds) hosts (Some h) → ⊥
+absent_or_held holds program hosts p h place file first p_told h_told =
+    absent_not_held holds file first.absent
+    (of_all (IsHeld (Some holds)) (program ∷ hosts ∷ []) place file
+    (told_held holds program p p_told, (told_held holds hosts h h_told, tt)) first.here)
+
+names_once : OneOfAll → (holds : List ℕ → Option (List ℕ)) (program hosts : List ℕ) (number other : ℕ)
+    (first second : VerdictShape) → ((h : List ℕ) → holds hosts ≡ Some h → IsToml h) →
+    DueForNames (Some holds) program hosts number first → DueForNames (Some holds) program hosts other second →
+    (number ≡ other) × (first ≡ second)
+names_once one holds program hosts _ _ _ _ toml (absent place file here) (absent other second there) =
+    let same = absent_once holds (program ∷ hosts ∷ []) place other file second here there in
+    (ap (λ n. n + 1) same.0, ap no_such_file same.1)
+names_once one holds program hosts _ _ _ _ toml (absent place file here) (loaded p h verdict p_told h_told due) =
+    absurd (absent_or_held holds program hosts p h place file here p_told h_told)
+names_once one holds program hosts _ _ _ _ toml (loaded p h verdict p_told h_told due) (absent place file there) =
+    absurd (absent_or_held holds program hosts p h place file there p_told h_told)
+names_once one holds program hosts _ _ _ _ toml (loaded p h first p_told h_told here)
+    (loaded q i second q_told i_told there) =
+    let program_same : q ≡ p = one_held holds program q p q_told p_told in
+    let hosts_same : i ≡ h = one_held holds hosts i h i_told h_told in (
+      refl,
+      bytes_once one program hosts p h first second (toml h h_told) here
+          (subst (λ (bytes : List ℕ). DueForBytes program hosts bytes h second) program_same
+          (subst (λ (bytes : List ℕ). DueForBytes program hosts q bytes second) hosts_same there)),
+    )
+
+-- ---- words
+
+pub due_once : OneOfAll → (words : List (List ℕ)) (holds : List ℕ → Option (List ℕ)) (number other : ℕ)
+    (first second : VerdictShape) → HoldsToml words holds → Due words (Some holds) number first →
+    Due words (Some holds) other second → (number ≡ other) × (first ≡ second)
+due_once one words holds _ _ _ _ toml (no_words none) (no_words also) = (refl, refl)
+due_once one words holds _ _ _ _ toml (no_words none) (two_words program hosts number verdict asked due) =
+    absurd (none (ap length asked))
+due_once one words holds _ _ _ _ toml (two_words program hosts number verdict asked due) (no_words none) =
+    absurd (none (ap length asked))
+due_once one words holds _ _ _ _ toml (two_words program hosts number first asked here)
+    (two_words other file place second asked_too there) =
+    let both : program ∷ hosts ∷ [] ≡ other ∷ file ∷ [] = sym asked ∙ asked_too in
+    let program_same : other ≡ program = cc in
+    let hosts_same : file ≡ hosts = cc in
+    names_once one holds program hosts number place first second (λ h held. toml program hosts h asked held) here
+    (subst (λ (name : List ℕ). DueForNames (Some holds) name hosts place second) program_same
+    (subst (λ (name : List ℕ). DueForNames (Some holds) other name place second) hosts_same there))
+
+-- ---- what is due for words and for what the files did
+
+pub answer_once : OneOfAll → (words : List (List ℕ)) (files : FilesChange) (holds : List ℕ → Option (List ℕ))
+    (first second : VerdictShape) → HoldsToml words holds → files.held ≡ Some holds →
+    files.faults_before < last_count → IsDue words files first → IsDue words files second → first ≡ second
+answer_once one words files holds first second toml tells below here there =
+    ⊎_elim
+    (λ by_files. ⊎_elim
+    (λ also. (due_once one words holds by_files.0 also.0 first second toml
+    (subst (λ (held : Option (List ℕ → Option (List ℕ))). Due words held by_files.0 first) tells by_files.1)
+    (subst (λ (held : Option (List ℕ → Option (List ℕ))). Due words held also.0 second) tells also.1)).1)
+    (λ fault. absurd (no_fault_and_fault files.faults_before files.faults_after below by_files.2.no_fault
+    fault.3.rose))
+    there)
+    (λ fault. ⊎_elim
+    (λ also. absurd (no_fault_and_fault files.faults_before files.faults_after below also.2.no_fault
+    fault.3.rose))
+    (λ also. fault.3.verdict_is ∙ sym also.3.verdict_is)
+    there)
+    here
+
+-- ---- the status of `check`
+
+pub same_status : OneOfAll → (program hosts p h : List ℕ) (end : Outcome PlacedSource) (verdict : VerdictShape) →
+    PlacedSources p h end → DueForBytes program hosts p h verdict → verdict_status verdict ≡ checked_status end
+same_status one program hosts p h end verdict was due =
+    ⊎_elim
+    (λ held. ap verdict_status held.2 ∙ ap checked_status (one.plans p h (given held.0) end held.1 was))
+    (λ stops. refused_status one.each program hosts p h stops.0 verdict stops.1 stops.2
+    ∙ ap checked_status (one.plans p h (stopped stops.0) end stops.1 was))
+    due
