@@ -8,3 +8,5 @@ pub mod PairLaws
 pub mod ToldLabels
 pub mod FieldLaws
 pub mod UsedLabels
+pub mod ToldSlots
+pub mod Sites
