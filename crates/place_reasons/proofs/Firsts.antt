@@ -65,6 +65,10 @@ first_range_more make k =
 
 -- ---- in a row
 
+pub one_in_row : {X : Type 0} (f0 f1 a d all : Option X) → f1 ≡ or_first f0 a → all ≡ or_first a d →
+    or_first f1 d ≡ or_first f0 all
+one_in_row f0 f1 a d all one is = ap (λ f. or_first f d) one ∙ or_assoc f0 a d ∙ sym (ap (or_first f0) is)
+
 pub two_in_row : {X : Type 0} (f0 f1 f2 a b d : Option X) → f1 ≡ or_first f0 a → f2 ≡ or_first f1 b →
     or_first f2 d ≡ or_first f0 (or_first a (or_first b d))
 two_in_row f0 f1 f2 a b d one two =

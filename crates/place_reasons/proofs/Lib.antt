@@ -22,3 +22,5 @@ pub mod NamedPrincipals
 pub mod TrueCauses
 pub mod ProgramLabels
 pub mod ProgramLaws
+pub mod ToldSlots
+pub mod Sites

@@ -1,9 +1,11 @@
 -- What walks over statements find, step by step.
-use Rattle.std.specs.Prelude.{◌≡◌, ℕ, List, ◌∷◌, ◌++◌, Option}
+use Rattle.std.specs.Prelude.{◌≡◌, ℕ, ◌<◌, ◌^◌, List, ◌∷◌, ◌++◌, length, Option, None, slice_get, unwrap_or}
+use Rattle.js_base.specs.declared.ids.FieldId.{FieldId}
 use Rattle.js_base.specs.declared.ids.StmtId.{StmtId}
 use Rattle.js_base.specs.declared.ids.VarId.{VarId}
 use Rattle.jif_tree.specs.Trees.{ExprTree, BlockTree, MethodTree, ProgramTree, method_tree}
 use Rattle.principals.specs.ActsFor.{Declared}
+use Rattle.label_lattice.specs.declared.label.Label.{Label}
 use Rattle.label_lattice.specs.Lattice.{join_of}
 use Rattle.jif_tree.specs.LabelRules.{VariableLabels, labels_after, labels_after_assignment, setting_of}
 use Rattle.label_reasons.specs.declared.reason.Cause.{Cause}
@@ -13,13 +15,15 @@ use Rattle.label_reasons.specs.declared.search_place.Stand.{Stand}
 use Rattle.label_reasons.specs.declared.search_place.Known.{Known}
 use Rattle.label_reasons.specs.Causes.{or_else, begin_cause, causes_after, causes_after_assignment}
 use Rattle.label_reasons.specs.Search.{listed_cause, setting_at, label_is, cause_is, IsKnown}
-use Rattle.need_labels.specs.Labelled.{labelled_of, all_labels}
+use Rattle.need_labels.specs.Labelled.{Labelled, labelled_of, all_labels}
 use Rattle.place_reasons.specs.declared.question.Question.{Question}
 use Rattle.place_reasons.specs.declared.site.HostSite.{HostSite}
+use Rattle.place_reasons.specs.declared.site.Search.{Search}
 use Rattle.place_reasons.specs.declared.told.Told.{Told}
 use Rattle.place_reasons.specs.declared.told.Told.TheVariants.{Read, Index}
 use Rattle.place_reasons.specs.Questions.{answer, block_answers}
-use Rattle.place_reasons.specs.Reasons.{Site, site_of}
+use Rattle.place_reasons.specs.Firsts.{first_some}
+use Rattle.place_reasons.specs.Reasons.{Site, site_of, method_told}
 
 -- what is answered of a statement with these expressions where the walk stands
 abbrev pub answer_is : Place → Question → StmtId → Stand → Known → List ExprTree → Option Cause
@@ -82,6 +86,25 @@ site_is site = site_of site.principals.now (labelled_of site.checked.now) site.h
 -- the labels at hand are those of the program
 abbrev pub IsSite : HostSite → Type 0
 IsSite site = site.labels.now ≡ all_labels (labelled_of site.checked.now)
+
+-- the labels at hand are those of the program, and what is numbered by 32 bits can be
+pub record IsSearch (search : Search) : Type 0 where
+  pub labels : search.labels.now ≡ all_labels (labelled_of search.checked.now)
+  pub few : length search.checked.now.program.vars.items < 2 ^ 32
+  pub few_methods : length search.checked.now.program.methods.items < 2 ^ 32
+
+-- ---- what reads tell of fields
+
+-- what was told of a field, by its number
+abbrev pub told_for : List (Option Told) → FieldId → Option Told
+told_for found field = unwrap_or (slice_get found field.0) None
+
+-- for each field, the first that the reads of the program tell a host of this label
+pub record AreTold (principals : Declared) (labelled : Labelled) (host : Label) (found : List (Option Told)) :
+    Type 0 where
+  pub each : length found ≡ length labelled.program.fields
+  pub told : (field : FieldId) → field.0 < length found →
+      told_for found field ≡ first_some (method_told principals labelled host field) labelled.program.methods
 
 -- the pair that is told
 abbrev pub told_pair : Told → Trait

@@ -10,7 +10,7 @@
 //! the reasons of all parts of a program.
 //!
 //! Rows are decided by the labels that were checked; only then is looked for what brings the pair in, by one walk over
-//! the program.
+//! the program for each question and pair that is asked about first (`KeptAnswers`).
 //!
 //! **Stays.** The rows follow the tests of `place_rules` and the needs of `need_labels`: a test that changes there
 //! changes here.
@@ -19,6 +19,7 @@
 mod answers;
 mod backed;
 mod fields;
+mod kept;
 mod laws;
 mod pairs;
 mod question;
@@ -29,7 +30,10 @@ mod told;
 mod uses;
 mod walk;
 
-pub use fields::field_reason;
+pub use fields::{field_reason, fields_told};
+pub use kept::KeptAnswers;
 pub use laws::{place_examples, place_laws, program_place_laws, refuted_laws};
 pub use reason::{Needed, PlaceReason};
+pub use site::{Search, labels_of};
 pub use statements::{head_reason, statement_reason};
+pub use told::Told;

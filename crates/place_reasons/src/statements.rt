@@ -7,16 +7,17 @@ ghost use Rattle.need_labels.specs.Labelled.{labelled_of, all_labels};
 ghost use Rattle.place_reasons.specs.Firsts.{or_first, first_some};
 ghost use Rattle.place_reasons.specs.Reasons.{run_row, use_row, kept_row, told_by_call, call_row, need_of};
 ghost use Rattle.place_reasons.specs.Reasons.{need_row, backed_reason, statement_reason, head_reason};
-ghost use Rattle.place_reasons.specs.Search.{IsSite, site_is};
+ghost use Rattle.place_reasons.specs.Kept.{AreAnswers};
+ghost use Rattle.place_reasons.specs.Search.{IsSearch, IsSite, site_is};
 
 use crate::backed::{Backed, statement_backed};
+use crate::kept::{KeptAnswers, answer_at};
 use crate::pairs::{first_pair, first_untrusting, is_trusted_by, pair_at};
 use crate::question::Question;
 use crate::reason::{Needed, PlaceReason};
-use crate::site::{HostSite, labels_of, pc_at};
+use crate::site::{HostSite, Search, pc_at, site_of};
 use crate::uses::used_by;
-use crate::walk::answer_at;
-use jif_tree::{Checked, Method, Stmt, StmtKind, begin_label, result_of, tree_laws};
+use jif_tree::{Method, Stmt, StmtKind, begin_label, result_of, tree_laws};
 use js_base::{MethodId, OutOfMemory, StmtId, VarId};
 use label_lattice::Label;
 use label_reasons::Trait;
@@ -29,11 +30,16 @@ fn run_row(
     alloc: Global,
     site: &HostSite<'_>,
     statement: &Stmt,
+    answers: &mut KeptAnswers,
 ) -> Result<Option<PlaceReason>, OutOfMemory>
     requires few { length site.now.checked.now.program.vars.items < 2 ^ 32 }
     requires few_methods { length site.now.checked.now.program.methods.items < 2 ^ 32 }
-    ensures { IfOk result (λ reason.
+    requires kept { AreAnswers site.now.principals.now (program_tree site.now.checked.now.program)
+        answers.old.kept.items }
+    ensures reason { IfOk result (λ reason.
         reason ≡ run_row (site_is site.now) (tree_before statement.now done)) }
+    ensures kept { OnOk result (AreAnswers site.now.principals.now (program_tree site.now.checked.now.program)
+        answers.new.kept.items) }
 {
     let here = statement.id;
     let program = &site.checked.program;
@@ -43,7 +49,15 @@ fn run_row(
     match found {
         Some(pair) => {
             let question = Question::OfRun;
-            let cause = answer_at(alloc, site.principals, program, question, here, pair)?;
+            let cause = answer_at(
+                alloc,
+                site.principals,
+                program,
+                question,
+                here,
+                pair,
+                answers,
+            )?;
             Ok(Some(PlaceReason::Runs(pair, cause)))
         }
         None => Ok(None),
@@ -55,12 +69,17 @@ fn use_row(
     alloc: Global,
     site: &HostSite<'_>,
     statement: &Stmt,
+    answers: &mut KeptAnswers,
 ) -> Result<Option<PlaceReason>, OutOfMemory>
     requires labels { IsSite site.now }
     requires few { length site.now.checked.now.program.vars.items < 2 ^ 32 }
     requires few_methods { length site.now.checked.now.program.methods.items < 2 ^ 32 }
-    ensures { IfOk result (λ reason.
+    requires kept { AreAnswers site.now.principals.now (program_tree site.now.checked.now.program)
+        answers.old.kept.items }
+    ensures reason { IfOk result (λ reason.
         reason ≡ use_row (site_is site.now) (tree_before statement.now done)) }
+    ensures kept { OnOk result (AreAnswers site.now.principals.now (program_tree site.now.checked.now.program)
+        answers.new.kept.items) }
 {
     let here = statement.id;
     let program = &site.checked.program;
@@ -70,7 +89,15 @@ fn use_row(
     match found {
         Some(pair) => {
             let question = Question::OfUse;
-            let cause = answer_at(alloc, site.principals, program, question, here, pair)?;
+            let cause = answer_at(
+                alloc,
+                site.principals,
+                program,
+                question,
+                here,
+                pair,
+                answers,
+            )?;
             Ok(Some(PlaceReason::Uses(pair, cause)))
         }
         None => Ok(None),
@@ -205,21 +232,26 @@ fn reason_at(
     alloc: Global,
     site: &HostSite<'_>,
     statement: &Stmt,
+    answers: &mut KeptAnswers,
 ) -> Result<Option<PlaceReason>, OutOfMemory>
     requires labels { IsSite site.now }
     requires authority { AreDeclared site.now.principals.now site.now.method.now.authority.items }
     requires few { length site.now.checked.now.program.vars.items < 2 ^ 32 }
     requires few_methods { length site.now.checked.now.program.methods.items < 2 ^ 32 }
-    ensures { IfOk result (λ reason. reason ≡ or_first
+    requires kept { AreAnswers site.now.principals.now (program_tree site.now.checked.now.program)
+        answers.old.kept.items }
+    ensures reason { IfOk result (λ reason. reason ≡ or_first
         (run_row (site_is site.now) (tree_before statement.now done))
         (or_first (use_row (site_is site.now) (tree_before statement.now done))
         (or_first (call_row (site_is site.now) (tree_before statement.now done))
         (need_row (site_is site.now) (tree_before statement.now done))))) }
+    ensures kept { OnOk result (AreAnswers site.now.principals.now (program_tree site.now.checked.now.program)
+        answers.new.kept.items) }
 {
-    if let Some(reason) = run_row(alloc, site, statement)? {
+    if let Some(reason) = run_row(alloc, site, statement, answers)? {
         return Ok(Some(reason));
     }
-    if let Some(reason) = use_row(alloc, site, statement)? {
+    if let Some(reason) = use_row(alloc, site, statement, answers)? {
         return Ok(Some(reason));
     }
     if let Some(reason) = call_row(alloc, site, statement)? {
@@ -234,29 +266,25 @@ fn reason_at(
 ///
 /// # Errors
 /// That memory ran out.
-pub fn statement_reason(
+pub fn statement_reason<'a>(
     alloc: Global,
-    principals: &Principals,
-    checked: &Checked,
-    host: &Label,
-    method: &Method,
+    search: &Search<'a>,
+    host: &'a Label,
+    method: &'a Method,
     statement: &Stmt,
+    answers: &mut KeptAnswers,
 ) -> Result<Option<PlaceReason>, OutOfMemory>
-    requires authority { AreDeclared principals.now method.now.authority.items }
-    requires few { length checked.now.program.vars.items < 2 ^ 32 }
-    requires few_methods { length checked.now.program.methods.items < 2 ^ 32 }
-    ensures { IfOk result (λ reason. reason ≡ statement_reason principals.now (labelled_of checked.now) host.now
-        (method_tree method.now) (tree_before statement.now done)) }
+    requires search { IsSearch search.now }
+    requires authority { AreDeclared search.now.principals.now method.now.authority.items }
+    requires kept { AreAnswers search.now.principals.now (program_tree search.now.checked.now.program)
+        answers.old.kept.items }
+    ensures reason { IfOk result (λ reason. reason ≡ statement_reason search.now.principals.now
+        (labelled_of search.now.checked.now) host.now (method_tree method.now) (tree_before statement.now done)) }
+    ensures kept { OnOk result (AreAnswers search.now.principals.now (program_tree search.now.checked.now.program)
+        answers.new.kept.items) }
 {
-    let labels = labels_of(alloc, checked)?;
-    let site = HostSite {
-        principals,
-        checked,
-        method,
-        labels: &labels,
-        host,
-    };
-    reason_at(alloc, &site, statement)
+    let site = site_of(search, host, method);
+    reason_at(alloc, &site, statement, answers)
 }
 
 /// Why a host of this label may not hold the head of a method, which stands for how it begins. `None` where it may.

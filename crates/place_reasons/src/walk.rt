@@ -8,7 +8,7 @@ ghost use Rattle.jif_tree.specs.LabelRules.{declared_labels};
 ghost use Rattle.label_reasons.specs.Traits.{IsTrait};
 ghost use Rattle.label_reasons.specs.Causes.{declared_causes, label_cause};
 ghost use Rattle.label_reasons.specs.Search.{listed_cause, IsKnown, stand_inside};
-ghost use Rattle.place_reasons.specs.Questions.{program_answers, answer_at};
+ghost use Rattle.place_reasons.specs.Questions.{program_answers};
 ghost use Rattle.place_reasons.specs.Reasons.{exprs_of};
 ghost use Rattle.place_reasons.specs.Search.{Answers, AnswersMethod, answer_is, assigned_labels, assigned_causes};
 
@@ -195,7 +195,7 @@ fn answer_method(
 ///
 /// # Errors
 /// That memory ran out.
-fn answer_program(
+pub fn answer_program(
     alloc: Global,
     principals: &Principals,
     program: &Program,
@@ -223,29 +223,4 @@ fn answer_program(
         )?;
     }
     Ok(answers)
-}
-
-/// The answer for one statement.
-///
-/// # Errors
-/// That memory ran out.
-pub fn answer_at(
-    alloc: Global,
-    principals: &Principals,
-    program: &Program,
-    question: Question,
-    statement: StmtId,
-    held: Trait,
-) -> Result<Option<Cause>, OutOfMemory>
-    requires held { IsTrait held }
-    requires few { length program.now.vars.items < 2 ^ 32 }
-    requires few_methods { length program.now.methods.items < 2 ^ 32 }
-    ensures { IfOk result (λ answer.
-        answer ≡ answer_at question principals.now (program_tree program.now) statement held) }
-{
-    let answers = answer_program(alloc, principals, program, question, held)?;
-    match answers.get(statement.0 as usize) {
-        Some(answer) => Ok(*answer),
-        None => Ok(None),
-    }
 }

@@ -10,20 +10,21 @@ use Rattle.place_reasons.proofs.fields.told_row.Goals as goal
 
 pub told_reason-requires-clause-held : goal.told_reason-requires-clause-held
 told_reason-requires-clause-held c =
-    told_within c.args.principals.now c.count-count.ensures.declared (labelled_of c.args.checked.now) c.args.host.now
-    c.args.field c.args.checked.now.program.methods.items c.in-Some.told
-    (sym c.in_ok-found.ensures ∙ c.in-Some.is)
+    let search = c.args.search.now in
+    let labelled = labelled_of search.checked.now in
+    told_within search.principals.now c.count-count.ensures.declared labelled c.args.host.now c.args.field
+    search.checked.now.program.methods.items c.in-Some.told
+    (sym (first_mapped (method_told search.principals.now labelled c.args.host.now c.args.field) method_tree
+    search.checked.now.program.methods.items) ∙ sym c.requires.told ∙ c.in-Some.is)
 
-pub returns-in_ok-reason-in-Some : goal.returns-in_ok-reason-in-Some
-returns-in_ok-reason-in-Some c =
-    let told_of = told_reason c.args.principals.now (program_tree c.args.checked.now.program) c.args.field in
-    ap Some c.in_ok-reason-in-Some.ensures ∙ ap (option_map told_of) (sym c.in-Some.is ∙ c.in_ok-found.ensures
-    ∙ sym (first_mapped (method_told c.args.principals.now (labelled_of c.args.checked.now) c.args.host.now c.args.field)
-    method_tree c.args.checked.now.program.methods.items))
+pub returns-in_ok-reason-in-Some-clause-reason : goal.returns-in_ok-reason-in-Some-clause-reason
+returns-in_ok-reason-in-Some-clause-reason c =
+    let search = c.args.search.now in
+    let told_of = told_reason search.principals.now (program_tree search.checked.now.program) c.args.field in
+    ap Some c.in_ok-reason-in-Some.ensures.reason ∙ ap (option_map told_of) (sym c.in-Some.is ∙ c.requires.told)
 
-pub returns-in-None : goal.returns-in-None
-returns-in-None c =
-    let told_of = told_reason c.args.principals.now (program_tree c.args.checked.now.program) c.args.field in
-    ap (option_map told_of) (sym c.in-None.is ∙ c.in_ok-found.ensures
-    ∙ sym (first_mapped (method_told c.args.principals.now (labelled_of c.args.checked.now) c.args.host.now c.args.field)
-    method_tree c.args.checked.now.program.methods.items))
+pub returns-in-None-clause-reason : goal.returns-in-None-clause-reason
+returns-in-None-clause-reason c =
+    let search = c.args.search.now in
+    let told_of = told_reason search.principals.now (program_tree search.checked.now.program) c.args.field in
+    ap (option_map told_of) (sym c.in-None.is ∙ c.requires.told)

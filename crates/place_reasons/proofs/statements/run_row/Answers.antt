@@ -20,18 +20,18 @@ answer_at-requires-clause-held c =
     is_pair c.args.site.now.principals.now c.count-count.ensures.declared c.pc_at-pc.result
     c.args.site.now.host.now c.in-Some.pair (sym c.in_ok-found.ensures ∙ c.in-Some.is)
 
-pub returns-in_ok-cause-in-Some : goal.returns-in_ok-cause-in-Some
-returns-in_ok-cause-in-Some c =
+pub returns-in_ok-cause-in-Some-clause-reason : goal.returns-in_ok-cause-in-Some-clause-reason
+returns-in_ok-cause-in-Some-clause-reason c =
     let site = site_is c.args.site.now in
     let row_of : StmtId → Trait → PlaceReason = λ here pair. row.Runs pair
     (answer_at OfRun site.principals site.labelled.program here pair) in
-    ap (λ (cause : Option Cause). Some (row.Runs c.in-Some.pair cause)) c.in_ok-cause-in-Some.ensures
+    ap (λ (cause : Option Cause). Some (row.Runs c.in-Some.pair cause)) c.in_ok-cause-in-Some.ensures.answer
     ∙ ap (option_map (row_of c.args.statement.now.id)) (sym c.in-Some.is ∙ c.in_ok-found.ensures
     ∙ ap (pair_at site) c.pc_at-pc.ensures)
     ∙ ap (λ here. option_map (row_of here) (pair_at site (pc_at site here))) (sym (id_is c.args.statement.now done))
 
-pub returns-in-None : goal.returns-in-None
-returns-in-None c =
+pub returns-in-None-clause-reason : goal.returns-in-None-clause-reason
+returns-in-None-clause-reason c =
     let site = site_is c.args.site.now in
     let row_of : StmtId → Trait → PlaceReason = λ here pair. row.Runs pair
     (answer_at OfRun site.principals site.labelled.program here pair) in

@@ -20,18 +20,18 @@ answer_at-requires-clause-held c =
     use_within (site_is c.args.site.now) c.count-count.ensures.declared c.args.statement.now.id
     (exprs_of (tree_before c.args.statement.now done)) c.in-Some.pair (sym (c.in_ok-used_by.ensures done) ∙ c.in-Some.is)
 
-pub returns-in_ok-cause-in-Some : goal.returns-in_ok-cause-in-Some
-returns-in_ok-cause-in-Some c =
+pub returns-in_ok-cause-in-Some-clause-reason : goal.returns-in_ok-cause-in-Some-clause-reason
+returns-in_ok-cause-in-Some-clause-reason c =
     let site = site_is c.args.site.now in
     let exprs = exprs_of (tree_before c.args.statement.now done) in
     let row_of : StmtId → Trait → PlaceReason = λ here pair. row.Uses pair
     (answer_at OfUse site.principals site.labelled.program here pair) in
-    ap (λ (cause : Option Cause). Some (row.Uses c.in-Some.pair cause)) c.in_ok-cause-in-Some.ensures
+    ap (λ (cause : Option Cause). Some (row.Uses c.in-Some.pair cause)) c.in_ok-cause-in-Some.ensures.answer
     ∙ ap (option_map (row_of c.args.statement.now.id)) (sym c.in-Some.is ∙ c.in_ok-used_by.ensures done)
     ∙ ap (λ here. option_map (row_of here) (used_by site here exprs)) (sym (id_is c.args.statement.now done))
 
-pub returns-in-None : goal.returns-in-None
-returns-in-None c =
+pub returns-in-None-clause-reason : goal.returns-in-None-clause-reason
+returns-in-None-clause-reason c =
     let site = site_is c.args.site.now in
     let exprs = exprs_of (tree_before c.args.statement.now done) in
     let row_of : StmtId → Trait → PlaceReason = λ here pair. row.Uses pair
