@@ -1,10 +1,14 @@
 -- A refusal has one explanation, and some explanation, with the status of the refusal.
 use Rattle.std.proofs.Common.{◌≡◌, ◌≢◌, ◌⊎◌, ℕ, List, Option, Some, None, refl, sym, ◌∙◌, ap, subst, inl, inr, ⊎_elim}
-use Rattle.js_base.specs.declared.status.Status.{Status}
-use Rattle.js_base.specs.declared.status.Status.TheVariants.{InputRefused, SourceRefused}
+use Rattle.std.proofs.Common.{[], length, codes, false, nat_lt, ◌≤◌}
+use Rattle.std.proofs.lemmas.Bool.{le-ltb}
+use Rattle.js_base.specs.declared.limits.TheConstants.{HOSTS_BYTES}
+use Rattle.js_base.specs.declared.status.Status.TheVariants.{SourceRefused}
 use Rattle.principals.specs.ActsFor.{IsDeclared}
 use Rattle.jif_lex.specs.declared.token.Token.{Token}
 use Rattle.jif_grammar.specs.DraftShapes.{DraftShape}
+use Rattle.jif_parse.specs.declared.parse_error.ParseError.{ParseError}
+use Rattle.jif_resolve.specs.declared.resolve_error.ResolveError.{ResolveError}
 use Rattle.jif_tree.specs.Trees.{ProgramTree}
 use Rattle.host_decl.specs.declared.error.HostsError.{HostsError}
 use Rattle.host_decl.specs.declared.error.HostsError.TheVariants as hosts_error
@@ -13,6 +17,7 @@ use Rattle.host_decl.specs.Reading.{RefusesHosts}
 use Rattle.host_decl.specs.Refusal.{HostsRefusal, not_toml, refusal_shape}
 use Rattle.label_check.specs.declared.check_error.CheckError.{CheckError}
 use Rattle.label_reasons.specs.Reasons as reasons
+use Rattle.explain_texts.specs.Heads.{parsed_told, resolved_told, told}
 use Rattle.explain_texts.specs.Sheets.{SheetShape}
 use Rattle.explain_texts.specs.Told.{ToldShape}
 use Rattle.host_reasons.specs.HostsTold.{HostsTold}
@@ -26,7 +31,8 @@ use Rattle.front_end.specs.Verdicts.{VerdictShape, Refuse, hosts_refused}
 use Rattle.front_end.proofs.Stages.{IsOne}
 use Rattle.jifexplain.specs.Explained.{DraftExplained, ExplainsVerdict, HostsExplained, LabelsExplained}
 use Rattle.jifexplain.specs.Explained.{PlacesExplained, TokensExplained, TreeExplained, UnheldTokens}
-use Rattle.jifexplain.specs.Explained.{labels_verdict, readable, sheet_of, told_hosts, told_of, unheld_told}
+use Rattle.jifexplain.specs.Explained.{ParseExplained, ResolveExplained, labels_verdict, readable, readable_hosts, sheet_of}
+use Rattle.jifexplain.specs.Explained.{told_hosts, told_of, unheld_told}
 use Rattle.jifexplain.specs.Statuses.{verdict_status}
 use Rattle.jifexplain.proofs.StoppedStages.{StopsAt, WasDrafted, WasRead, due_given, no_draft, no_hosts, no_labels}
 use Rattle.jifexplain.proofs.StoppedStages.{no_places, no_program, no_tokens, places_at}
@@ -48,6 +54,48 @@ OneTold = (h : List ℕ) (why : HostsRefusal) (first second : ToldShape) → why
 abbrev pub SomeTold : Type 0
 SomeTold = (h : List ℕ) (why : HostsError) → RefusesHosts h why → why ≢ hosts_error.OutOfMemory →
     (what : ToldShape) × HostsTold h (refusal_shape why) what
+
+-- ---- texts and names
+
+parse_is : OneOfEach → (name p : List ℕ) (why : ParseError) (list : List Token) (verdict : VerdictShape) →
+    Lexed p (given list) → ParseExplained name p why verdict →
+    verdict ≡ told_of name (readable p) (parsed_told (readable p) list why)
+parse_is one name p why list verdict lexed due =
+    due_given (Lexed p) (λ l v. v ≡ told_of name (readable p) (parsed_told (readable p) l why)) list verdict
+    (one.tokens p) lexed due
+
+resolve_is : OneOfEach → (name p : List ℕ) (why : ResolveError) (list : List Token) (verdict : VerdictShape) →
+    Lexed p (given list) → ResolveExplained name p why verdict →
+    verdict ≡ told_of name (readable p) (resolved_told list why)
+resolve_is one name p why list verdict lexed due =
+    due_given (Lexed p) (λ l v. v ≡ told_of name (readable p) (resolved_told l why)) list verdict (one.tokens p) lexed
+    due
+
+-- ---- host files
+
+-- what is read of a host file that is not too long is all of it
+read_whole : (h : List ℕ) → length h ≤ HOSTS_BYTES → readable_hosts h ≡ h
+read_whole h short = let no : nat_lt HOSTS_BYTES (length h) ≡ false = le-ltb _ _ short in rw no refl
+
+-- something is told of what is read
+some_read : SomeTold → (h : List ℕ) (why : HostsError) → RefusesHosts h why → why ≢ hosts_error.OutOfMemory →
+    (what : ToldShape) × HostsTold (readable_hosts h) (refusal_shape why) what
+some_read some h why refuses memory =
+    ⊎_elim
+    (λ long. (
+      told None (codes "the host file has more than 65536 bytes") [],
+      subst (λ (w : HostsError). HostsTold (readable_hosts h) (refusal_shape w)
+          (told None (codes "the host file has more than 65536 bytes") [])) (sym long.0) refl,
+    ))
+    (λ short. whole (⊎_elim (λ fails. fails.0) (λ document. document.1.few) short))
+    refuses
+  where
+    whole : length h ≤ HOSTS_BYTES → (what : ToldShape) × HostsTold (readable_hosts h) (refusal_shape why) what
+    whole short =
+        let what = some h why refuses memory in (
+          what.0,
+          subst (λ (bytes : List ℕ). HostsTold bytes (refusal_shape why) what.0) (sym (read_whole h short)) what.1,
+        )
 
 -- ---- labels
 
@@ -80,18 +128,16 @@ places_are one name p why list draft verdict was due =
 hosts_once : OneTold → (name h : List ℕ) (why : HostsRefusal) (first second : VerdictShape) → why ≢ not_toml →
     HostsExplained name h why first → HostsExplained name h why second → first ≡ second
 hosts_once told name h why first second is one two =
-    one.2 ∙ ap (told_hosts name h) (told h why one.0 two.0 is one.1 two.1) ∙ sym two.2
+    one.2 ∙ ap (told_hosts name h) (told (readable_hosts h) why one.0 two.0 is one.1 two.1) ∙ sym two.2
 
 once_at : OneOfEach → OneTold → (program hosts p h : List ℕ) (refused first second : VerdictShape) →
     StopsAt p h refused → refused ≢ hosts_refused not_toml → ExplainsVerdict program hosts p h refused first →
     ExplainsVerdict program hosts p h refused second → first ≡ second
 once_at one told program hosts p h _ first second (no_tokens why) is here there = here ∙ sym there
 once_at one told program hosts p h _ first second (no_draft list why lexed) is here there =
-    let this = λ (v : VerdictShape) due. due_given (Lexed p) _ list v (one.tokens p) lexed due in
-    this first here ∙ sym (this second there)
+    parse_is one program p why list first lexed here ∙ sym (parse_is one program p why list second lexed there)
 once_at one told program hosts p h _ first second (no_program list why lexed) is here there =
-    let this = λ (v : VerdictShape) due. due_given (Lexed p) _ list v (one.tokens p) lexed due in
-    this first here ∙ sym (this second there)
+    resolve_is one program p why list first lexed here ∙ sym (resolve_is one program p why list second lexed there)
 once_at one told program hosts p h _ first second (no_hosts why refuses memory) is here there =
     hosts_once told hosts h (refusal_shape why) first second (λ same. is (ap hosts_refused same)) here there
 once_at one told program hosts p h _ first second (no_labels list draft file tree why was) is here there =
@@ -116,7 +162,7 @@ some_at told program hosts p h _ (no_tokens why) = (_, refl)
 some_at told program hosts p h _ (no_draft list why lexed) = (_, inl (list, lexed, refl))
 some_at told program hosts p h _ (no_program list why lexed) = (_, inl (list, lexed, refl))
 some_at told program hosts p h _ (no_hosts why refuses memory) =
-    let what = told h why refuses memory in (_, what.0, what.1, refl)
+    let what = some_read told h why refuses memory in (_, (what.0, (what.1, refl)))
 some_at told program hosts p h _ (no_labels list draft file tree why was) =
     (_, inl (list, was.drafted.lexed, inl (draft, was.drafted.parsed, inl (file, was.hosts, inl (tree, was.resolved, refl)))))
 some_at told program hosts p h _ (no_places list draft source why was sourced none) =
@@ -141,9 +187,9 @@ status_at : OneOfEach → (program hosts p h : List ℕ) (refused verdict : Verd
     ExplainsVerdict program hosts p h refused verdict → verdict_status verdict ≡ verdict_status refused
 status_at one program hosts p h _ verdict (no_tokens why) due = ap verdict_status due
 status_at one program hosts p h _ verdict (no_draft list why lexed) due =
-    ap verdict_status (due_given (Lexed p) _ list verdict (one.tokens p) lexed due)
+    ap verdict_status (parse_is one program p why list verdict lexed due)
 status_at one program hosts p h _ verdict (no_program list why lexed) due =
-    ap verdict_status (due_given (Lexed p) _ list verdict (one.tokens p) lexed due)
+    ap verdict_status (resolve_is one program p why list verdict lexed due)
 status_at one program hosts p h _ verdict (no_hosts why refuses memory) due = ap verdict_status due.2
 status_at one program hosts p h _ verdict (no_labels list draft file tree why was) due =
     ap verdict_status (labels_are one program p h _ list draft file tree verdict was due)

@@ -2,7 +2,8 @@
 //! reasons, and what to try.
 //!
 //! **Promises.** Where `jifsplit check` refuses a program or a host file, what explains that refusal is put, and where
-//! it accepts nothing is. That the status is the same, and that one explanation alone is due, no law says yet.
+//! it accepts nothing is. For all words something is due, and one thing, with the status of `check`
+//! (`explanation_laws`).
 //!
 //! **Begin** with `src/top.rt`, then `specs/Due.antt`.
 //!
@@ -13,6 +14,7 @@
 //! - `shown`: what `explain_texts` tells of a refused program, as what is due; why a host file is refused
 //! - `explained`: what explains a refusal
 //! - `due`: what is due for two words
+//! - `laws`: a refusal has one explanation, with the status of `check`, and for all words something is due
 //! - `top`: the public call: puts out what is due
 #![tactic(auto)]
 

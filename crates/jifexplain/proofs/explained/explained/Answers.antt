@@ -10,6 +10,11 @@ returns-in-Lex c = λ p h loaded_p loaded_h.
     subst (λ (refusal : Refusal). EndsIn (Explains c.args.names.now.program.now c.args.names.now.hosts.now p h
     (refusal_shape refusal)) c.lexed_explained.result) (sym c.in-Lex.is) (c.lexed_explained.ensures p loaded_p)
 
+pub returns-in-Hosts : goal.returns-in-Hosts
+returns-in-Hosts c = λ p h loaded_p loaded_h.
+    subst (λ (refusal : Refusal). EndsIn (Explains c.args.names.now.program.now c.args.names.now.hosts.now p h
+    (refusal_shape refusal)) c.hosts_explained.result) (sym c.in-Hosts.is) (c.hosts_explained.ensures h loaded_h)
+
 pub returns-in-Parse : goal.returns-in-Parse
 returns-in-Parse c = λ p h loaded_p loaded_h.
     subst (λ (refusal : Refusal). EndsIn (Explains c.args.names.now.program.now c.args.names.now.hosts.now p h
