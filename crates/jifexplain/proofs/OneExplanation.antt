@@ -162,7 +162,7 @@ some_at told program hosts p h _ (no_tokens why) = (_, refl)
 some_at told program hosts p h _ (no_draft list why lexed) = (_, inl (list, lexed, refl))
 some_at told program hosts p h _ (no_program list why lexed) = (_, inl (list, lexed, refl))
 some_at told program hosts p h _ (no_hosts why refuses memory) =
-    let what = some_read told h why refuses memory in (_, (what.0, (what.1, refl)))
+    let what = some_read told h why refuses memory in (_, (what.0, what.1, refl))
 some_at told program hosts p h _ (no_labels list draft file tree why was) =
     (_, inl (list, was.drafted.lexed, inl (draft, was.drafted.parsed, inl (file, was.hosts, inl (tree, was.resolved, refl)))))
 some_at told program hosts p h _ (no_places list draft source why was sourced none) =
