@@ -63,7 +63,8 @@ IsToml bytes = IsUtf8 bytes × ((file : Members) × (parse_document bytes ≡ So
 
 -- the text of the label of a host, empty where there is none
 abbrev pub label_in : Members → ℕ → List ℕ
-label_in file number = or_empty (option_and_then (text_at (codes "label")) (slice_get (tables_of_kind Host file) number))
+label_in file number =
+    or_empty (option_and_then (text_at (codes "label")) (slice_get (tables_of_kind Host file) number))
 
 abbrev pub label_message : (name label : List ℕ) → List ℕ
 label_message name label =

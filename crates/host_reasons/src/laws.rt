@@ -11,7 +11,7 @@ ghost use Rattle.host_decl.specs.declared.error.HostsError.TheVariants.{BadKey, 
 ghost use Rattle.host_decl.specs.Reading.{RefusesHosts};
 ghost use Rattle.host_decl.specs.Refusal.{HostsRefusal, bad_key, not_toml, refusal_shape};
 ghost use Rattle.host_decl.specs.Schema.{IsFirstBadKey, file_tables};
-ghost use Rattle.host_decl.specs.declared.schema.Form.TheVariants.{Key, Pairs};
+ghost use Rattle.host_decl.specs.declared.schema.Form.TheVariants.{Key, Tables};
 ghost use Rattle.host_decl.specs.declared.schema.TableKind.TheVariants.{File, Host, Link};
 ghost use Rattle.host_reasons.specs.declared.bad_key.KeyFault.TheVariants.{Missing, Unknown, OtherForm};
 ghost use Rattle.host_reasons.specs.BadKeys.{BadKeyShape, IsBadKeyOf};
@@ -51,8 +51,8 @@ pub fn host_reason_examples()
         ≡ codes "[[host]] number " ++ (decimal 2 ++ codes ": key 'label' is missing") }
     ensures unknown { key_message (record { kind = File; number = 0; key = codes "hosts"; fault = Unknown })
         ≡ codes "the file: there is no key 'hosts'" }
-    ensures other_form { key_message (record { kind = File; number = 0; key = codes "acts_for"; fault = OtherForm Pairs })
-        ≡ codes "the file: key 'acts_for' has to be an array of pairs of texts" }
+    ensures other_form { key_message (record { kind = File; number = 0; key = codes "host"; fault = OtherForm Tables })
+        ≡ codes "the file: key 'host' has to be an array of tables" }
     ensures link { key_message (record { kind = Link; number = 0; key = codes "key"; fault = OtherForm Key })
         ≡ codes "[[link]] number " ++ (decimal 1
         ++ codes ": key 'key' has to be a text of 64 hexadecimal digits") }

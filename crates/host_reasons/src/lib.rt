@@ -1,8 +1,10 @@
-//! Why a host file is refused, told with the place: which table and which key, which label, where a TOML reader stopped.
+//! Why a host file is refused, told with the place: which table and which key, which label, where a reader of TOML
+//! stopped.
 //!
-//! **Promises.** What `hosts_told` tells is what `specs/HostsTold.antt` says of the bytes and the refusal, and a file has
-//! one bad key, which is the one that its refusal names (`host_reason_laws`). Of a text that is no TOML the place is
-//! that of the reader of TOML, of which no more is promised than that it lies in the text.
+//! **Promises.** What `hosts_told` tells is what `specs/HostsTold.antt` says of the bytes and the refusal
+//! (`host_told_laws`: one thing is told, and some thing is), and a file has one first bad key, which is the one that
+//! its refusal names (`host_reason_laws`). Of a text that is no TOML the place is that of the reader of TOML, of which
+//! no more is promised than that it lies in the text.
 //!
 //! **Begin** with `specs/BadKeys.antt`, then `specs/HostsTold.antt`.
 //!

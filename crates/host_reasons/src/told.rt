@@ -25,9 +25,9 @@ use std::alloc::Global;
 use std::fmt::Write;
 use toml::Table;
 
-/// What is told of the bytes of a host file that are refused for this cause, and what to try. Of a key the table is told
-/// and the way in which it is bad, of a label its text, and of a text that is no TOML the place at which the reader of
-/// TOML stopped. Where the bytes are not refused so it is the words of the cause alone.
+/// What is told of the bytes of a host file that are refused for this cause, and what to try. Of a key the table and
+/// the way in which it is bad are told, of a label its text, and of a text that is no TOML where the reader of TOML
+/// stopped. Where the bytes are not refused so it is the words of the cause alone.
 ///
 /// # Errors
 /// That memory ran out.

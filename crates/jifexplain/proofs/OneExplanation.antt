@@ -1,5 +1,5 @@
 -- A refusal has one explanation, and some explanation, with the status of the refusal.
-use Rattle.std.proofs.Common.{◌≡◌, ◌≢◌, ◌⊎◌, ℕ, List, Option, Some, None, refl, sym, ◌∙◌, ap, subst, inl, inr, ⊎_elim}
+use Rattle.std.proofs.Common.{◌≡◌, ◌≢◌, ℕ, List, Some, None, refl, sym, ◌∙◌, ap, subst, inl, ⊎_elim}
 use Rattle.std.proofs.Common.{[], length, codes, false, nat_lt, ◌≤◌}
 use Rattle.std.proofs.lemmas.Bool.{le-ltb}
 use Rattle.js_base.specs.declared.limits.TheConstants.{HOSTS_BYTES}
@@ -25,9 +25,9 @@ use Rattle.place_rules.specs.declared.place_error.PlaceError.{PlaceError}
 use Rattle.front_end.specs.PlacedSources.{PlacedSources}
 use Rattle.front_end.specs.Refusals.{RefusalShape}
 use Rattle.front_end.specs.Refusals as refusals
-use Rattle.front_end.specs.Sources.{HostsRead, Lexed, Parsed, Resolved, Source, Sources}
-use Rattle.front_end.specs.Stages.{Outcome, given, stopped}
-use Rattle.front_end.specs.Verdicts.{VerdictShape, Refuse, hosts_refused}
+use Rattle.front_end.specs.Sources.{HostsRead, Lexed, Parsed, Resolved, Sources}
+use Rattle.front_end.specs.Stages.{given, stopped}
+use Rattle.front_end.specs.Verdicts.{VerdictShape, hosts_refused}
 use Rattle.front_end.proofs.Stages.{IsOne}
 use Rattle.jifexplain.specs.Explained.{DraftExplained, ExplainsVerdict, HostsExplained, LabelsExplained}
 use Rattle.jifexplain.specs.Explained.{PlacesExplained, TokensExplained, TreeExplained, UnheldTokens}

@@ -1,5 +1,5 @@
 -- What is due behind a stage that is read once more.
-use Rattle.std.proofs.Common.{◌≡◌, ℕ, ◌+◌, ◌*◌, ◌<◌, ◌≤◌, ◌^◌, List, length, map, inl, arith, Result}
+use Rattle.std.proofs.Common.{◌+◌, ◌*◌, ◌<◌, ◌≤◌, ◌^◌, List, length, map, inl, arith, Result}
 use Rattle.std.proofs.lemmas.List.{length-map}
 use Rattle.js_base.specs.declared.limits.TheConstants.{METHODS, VARIABLES}
 use Rattle.jif_tree.specs.declared.program.Var.{Var}

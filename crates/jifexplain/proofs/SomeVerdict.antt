@@ -1,5 +1,5 @@
 -- For all words something is due, whatever the files hold and whether they tell or not.
-use Rattle.std.proofs.Common.{◌≡◌, ℕ, ◌+◌, List, [], ◌∷◌, Option, Some, None, refl, inl, inr, arith}
+use Rattle.std.proofs.Common.{◌≡◌, ℕ, List, [], ◌∷◌, Option, Some, None, refl, inl, inr, arith}
 use Rattle.front_end.specs.PlacedSources.{PlacedSource, PlacedSources}
 use Rattle.front_end.specs.Stages.{Outcome, given, stopped}
 use Rattle.front_end.specs.Verdicts.{VerdictShape, no_such_file}

@@ -1,5 +1,5 @@
 -- What the stages of a program and a host file gave before the one that stopped.
-use Rattle.std.proofs.Common.{◌≡◌, ◌≢◌, ◌⊎◌, ℕ, List, refl, sym, ap, subst, inl, inr, ⊎_elim}
+use Rattle.std.proofs.Common.{◌≡◌, ◌≢◌, ◌⊎◌, ℕ, List, sym, subst, inl, inr, ⊎_elim}
 use Rattle.jif_lex.specs.declared.token.Token.{Token}
 use Rattle.jif_lex.specs.declared.lexer.LexError.{LexError}
 use Rattle.jif_grammar.specs.DraftShapes.{DraftShape}

@@ -19,9 +19,10 @@ use host_reasons::host_told_laws;
 pub fn explanation_laws()
     // A refusal has one explanation. Of a host file that is no TOML the place is that of the reader of TOML, of which
     // no more is known than that it lies in the file.
-    ensures one_explanation { (program hosts p h : List ℕ) (refused first second : VerdictShape) → PlacedSources p h (stopped refused) →
-        refused ≢ hosts_refused not_toml → ExplainsVerdict program hosts p h refused first →
-        ExplainsVerdict program hosts p h refused second → first ≡ second }
+    ensures one_explanation { (program hosts p h : List ℕ) (refused first second : VerdictShape) →
+        PlacedSources p h (stopped refused) → refused ≢ hosts_refused not_toml →
+        ExplainsVerdict program hosts p h refused first → ExplainsVerdict program hosts p h refused second →
+        first ≡ second }
 
     // And it has some.
     ensures some_explanation { (program hosts p h : List ℕ) (refused : VerdictShape) →

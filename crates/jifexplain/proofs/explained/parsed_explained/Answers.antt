@@ -1,4 +1,4 @@
-use Rattle.std.proofs.Common.{◌≡◌, ◌∙◌, ℕ, List, ap, inl}
+use Rattle.std.proofs.Common.{◌≡◌, List}
 use Rattle.front_end.specs.Sources.{Lexed}
 use Rattle.front_end.specs.Verdicts.{VerdictShape}
 use Rattle.front_end.proofs.Stages.{due_handed_on, due_stops}
