@@ -35,8 +35,8 @@ pub fn source_laws()
     ensures one_draft { (program : List ℕ) (first second : Outcome DraftShape) →
         Drafted program first → Drafted program second → first ≡ second }
 
-    // So each stage alone gives one thing, or stops for one cause: the tokens of a program, their draft, and the program
-    // of a draft over declared principals.
+    // So each stage alone gives one thing, or stops for one cause: the tokens of a program, their draft, and the
+    // program of a draft over declared principals.
     ensures one_tokens { (program : List ℕ) (first second : Outcome (List Token)) →
         Lexed program first → Lexed program second → first ≡ second }
     ensures one_parse { (list : List Token) (first second : Outcome DraftShape) →

@@ -1,6 +1,6 @@
 -- What each row of a reason claims, by itself: for which label a pair or a principal stands against the host, and which
--- statement has to do with that label. And what is claimed of a cause: that the label at its source has the trait, and that
--- what it came through last is there.
+-- statement has to do with that label. And what is claimed of a cause: that the label at its source has the trait, and
+-- that what it came through last is there.
 --
 -- These are facts on the program and its labels. They say nothing of which row comes first, nor of how it is found.
 use Rattle.std.specs.Prelude.{◌≡◌, ◌<◌, length, ◌++◌, ◌∷◌, [], ⊤, List, map, Any, Contains, IsTrue}
