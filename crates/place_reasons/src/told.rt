@@ -105,7 +105,7 @@ fn or_index_told(
     requires { IsSite site.now }
     ensures { OnOk result ((wanted : FieldId) → wanted.0 < length found.old → told_for found.new wanted
         ≡ or_first (told_for found.old wanted)
-            (index_told (site_is site.now) wanted here field (expr_tree index.now))) }
+        (index_told (site_is site.now) wanted here field (expr_tree index.now))) }
 {
     if is_open(found, field) {
         found[field.0 as usize] = index_told(alloc, site, here, index)?;
