@@ -235,8 +235,8 @@ block_said naming words seen around (loop heading guard body rest) tail =
     block_said naming words behind_one (behind around) rest tail
     ∙ ap (λ (a : AroundShape). more ++ said_in a tail) (after_behind around rest) in
     opened_then around (after in_one body) text _ one left true texts regrouped
-    (both (both (literal (codes "while (") refl) (expr_printed naming words guard)) (literal (codes ")") refl)) refl refl
-    refl (after_within in_one body) (block_said naming words seen in_one body (125 ∷ 10 ∷ left))
+    (both (both (literal (codes "while (") refl) (expr_printed naming words guard)) (literal (codes ")") refl)) refl
+    refl refl (after_within in_one body) (block_said naming words seen in_one body (125 ∷ 10 ∷ left))
     ∙ ap (λ (m : List StatementTextShape). told around (opened text) true ∷ texts ++ m) behind_it
     ∙ ap (λ (m : List StatementTextShape). told around (opened text) true ∷ m)
     (sym (append_assoc texts more (said_in (behind around) tail)))
