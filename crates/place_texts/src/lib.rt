@@ -13,7 +13,7 @@
 //! - `meant_parts`: the parts that a word means, and the part that no host may hold
 //! - `why`: why a host may not hold a part
 //! - `lines`: the lines
-//! - `laws`: that the parts have the reasons of the program by their numbers, and worked lines
+//! - `laws`: that the parts have the reasons of the program by their numbers, which lines stand, and worked lines
 #![tactic(auto)]
 
 mod laws;
@@ -22,7 +22,7 @@ mod meant_parts;
 mod part;
 mod why;
 
-pub use laws::{line_examples, part_laws};
+pub use laws::{line_examples, line_laws, part_laws};
 pub use lines::{Holding, push_lines, told_hosts};
 pub use meant_parts::{meant, unheld_parts};
 pub use part::{Part, parts_of};
