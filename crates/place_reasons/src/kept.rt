@@ -1,10 +1,11 @@
 //! The answers to questions that were asked already, each found by one walk over the program.
 
-ghost use Rattle.std.specs.Prelude.{◌≡◌, ◌<◌, ◌^◌, [], IfOk, IfSome, IsTrue, OnOk, length, slice_get, unwrap_or, Some};
+ghost use Rattle.std.specs.Prelude.{◌≡◌, ◌<◌, ◌^◌, ◌↔◌, [], All, Any, IfNone, IfOk, IfSome, IsTrue, OnOk, length, slice_get};
+ghost use Rattle.std.specs.Prelude.{unwrap_or, Some};
 ghost use Rattle.jif_tree.specs.Trees.{program_tree};
 ghost use Rattle.label_reasons.specs.Traits.{IsTrait};
 ghost use Rattle.place_reasons.specs.Questions.{answer_at, program_answers};
-ghost use Rattle.place_reasons.specs.Kept.{AreAnswers, answer_in};
+ghost use Rattle.place_reasons.specs.Kept.{AreAnswers, IsAsked, answer_in};
 
 use crate::question::Question;
 use crate::walk::answer_program;
@@ -41,7 +42,7 @@ impl KeptAnswers {
 
 /// Whether they are the same.
 fn is_same_trait(one: Trait, other: Trait) -> bool
-    ensures { IsTrue result → one ≡ other }
+    ensures { IsTrue result ↔ (one ≡ other) }
 {
     match one {
         Trait::Keeps(owner, reader) => match other {
@@ -57,7 +58,7 @@ fn is_same_trait(one: Trait, other: Trait) -> bool
 
 /// Whether they are the same.
 fn is_same_question(one: Question, other: Question) -> bool
-    ensures { IsTrue result → one ≡ other }
+    ensures { IsTrue result ↔ (one ≡ other) }
 {
     match one {
         Question::OfRun => match other {
@@ -80,8 +81,7 @@ fn is_same_question(one: Question, other: Question) -> bool
 
 /// Whether this was asked.
 fn is_asked(kept: &Kept, question: Question, held: Trait) -> bool
-    ensures question { IsTrue result → kept.now.question ≡ question }
-    ensures held { IsTrue result → kept.now.held ≡ held }
+    ensures { IsTrue result ↔ IsAsked question held kept.now }
 {
     is_same_question(kept.question, question) && is_same_trait(kept.held, held)
 }
@@ -105,8 +105,9 @@ fn kept_answers<'a>(
     kept: &'a [Kept],
 ) -> Option<&'a [Option<Cause>]>
     requires { AreAnswers principals.now (program_tree program.now) kept.now }
-    ensures { IfSome result (λ answers.
+    ensures answers { IfSome result (λ answers.
         answers.now ≡ program_answers question held principals.now (program_tree program.now)) }
+    ensures unasked { IfNone result (All (λ one. ¬ IsAsked question held one) kept.now) }
 {
     for one in kept {
         if is_asked(one, question, held) {
@@ -136,6 +137,9 @@ pub fn answer_at(
     ensures answer { IfOk result (λ answer.
         answer ≡ answer_at question principals.now (program_tree program.now) statement held) }
     ensures kept { OnOk result (AreAnswers principals.now (program_tree program.now) answers.new.kept.items) }
+    // Nothing is walked for that was answered before.
+    ensures asked { Any (IsAsked question held) answers.old.kept.items →
+        answers.new.kept.items ≡ answers.old.kept.items }
 {
     if let Some(found) = kept_answers(principals, program, question, held, &answers.kept) {
         return Ok(answer_in(found, statement));
