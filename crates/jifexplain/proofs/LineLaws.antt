@@ -1,0 +1,115 @@
+-- A line is told exactly where there is a reason, and what it says is so.
+use Rattle.std.proofs.Common.{◌≡◌, ◌≢◌, ◌↔◌, ℕ, List, [], ◌∷◌, ◌++◌, map, codes, Option, Some, None, refl, sym, ap}
+use Rattle.std.proofs.Common.{◌∙◌, subst}
+use Rattle.std.specs.Prelude.{All}
+use Rattle.std.specs.List.{AllZip}
+use Rattle.js_base.proofs.Lists.{none_in_two}
+use Rattle.js_base.specs.declared.text.TheConstants.{LINE_FEED}
+use Rattle.principals.specs.ActsFor.{Declared, IsDeclared}
+use Rattle.label_lattice.specs.declared.label.Label.{Label}
+use Rattle.jif_grammar.specs.DraftShapes.{DraftShape}
+use Rattle.jif_tree.specs.LabelRules.{IsFirstFailure, Obligation, obligations}
+use Rattle.jif_tree.specs.Trees.{MethodTree, ProgramTree}
+use Rattle.jif_resolve.specs.Verdicts.{IsProgramOf}
+use Rattle.host_decl.specs.Hosts.{HostShape, HostsShape}
+use Rattle.label_reasons.specs.Asks.{Ask, obligation_of, program_asks}
+use Rattle.label_reasons.specs.Programs.{IsProgramOver}
+use Rattle.label_reasons.specs.Reasons.{IsLabelReason, explained, first_refused, label_reasons}
+use Rattle.need_labels.specs.Labelled.{Labelled}
+use Rattle.place_reasons.specs.Refuted.{IsCauseTrue, RefutesHead}
+use Rattle.place_reasons.specs.declared.reason.PlaceReason.{PlaceReason}
+use Rattle.place_reasons.specs.declared.reason.PlaceReason.TheVariants as row
+use Rattle.place_texts.specs.Lines.{line_at, line_for, own_of, part_words, place_line}
+use Rattle.place_texts.specs.Parts.{PartShape, reason_of}
+use Rattle.place_texts.specs.Why.{why_text}
+use Rattle.explain_texts.specs.Sheets.{SheetShape}
+use Rattle.front_end.specs.Sources.{HostsRead, Labelled as WasLabelled, Resolved, Source, Sources}
+use Rattle.front_end.specs.Stages.{given}
+use Rattle.jifexplain.proofs.StoppedStages.{WasAccepted, source_accepted, then_given}
+
+-- ---- lines
+
+-- a line is not empty
+some_line : (sheet : SheetShape) (part : PartShape) (host : List ℕ) (reason : PlaceReason) →
+    place_line sheet part host reason ≢ []
+some_line sheet part host reason = λ none.
+    let behind = none_in_two (part_words sheet part)
+    (codes " not at " ++ (host ++ (codes ": " ++ (why_text sheet host (own_of part) reason ++ LINE_FEED ∷ [])))) none in
+    absurd (let no = behind.1 in cc)
+
+line_iff : (sheet : SheetShape) (part : PartShape) (host : List ℕ) (reason : Option PlaceReason) →
+    (line_for sheet part host reason ≡ []) ↔ (reason ≡ None)
+line_iff sheet part host None = (λ none. refl, λ none. refl)
+line_iff sheet part host (Some reason) =
+    (λ none. absurd (some_line sheet part host reason none), λ none. absurd (let no = none in cc))
+
+-- of each part of a list, by what its reason says
+pub zip_lines : {One : Type 0} (sheet : SheetShape) (labelled : Labelled) (host : HostShape)
+    (May : One → Type 0) (parts : List PartShape) (ones : List One) →
+    AllZip (λ reason one. (reason ≡ None) ↔ May one)
+    (map (reason_of sheet.principals labelled host.label) parts) ones →
+    AllZip (λ part one. (line_at sheet labelled part host ≡ []) ↔ May one) parts ones
+zip_lines {One} sheet labelled host May [] [] are = tt
+zip_lines {One} sheet labelled host May [] (one ∷ ones) are = absurd are
+zip_lines {One} sheet labelled host May (part ∷ parts) [] are = absurd are
+zip_lines {One} sheet labelled host May (part ∷ parts) (one ∷ ones) are =
+    let line = line_iff sheet part host.name (reason_of sheet.principals labelled host.label part) in (
+      (λ none. are.0.0 (line.0 none), λ may. line.1 (are.0.1 may)),
+      zip_lines sheet labelled host May parts ones are.1,
+    )
+
+-- ---- heads
+
+-- a reason for a head names no cause
+pub head_caused : (program : ProgramTree) (host : Label) (method : MethodTree) (reason : PlaceReason) →
+    RefutesHead host method reason → IsCauseTrue program reason
+head_caused program host method (row.Own pair) refutes = absurd refutes
+head_caused program host method (row.Read pair statement cause) refutes = absurd refutes
+head_caused program host method (row.Index pair statement cause) refutes = absurd refutes
+head_caused program host method (row.Untrusted principal) refutes = absurd refutes
+head_caused program host method (row.Begins pair) refutes = tt
+head_caused program host method (row.Runs pair cause) refutes = absurd refutes
+head_caused program host method (row.Uses pair cause) refutes = absurd refutes
+head_caused program host method (row.CallBegins pair called) refutes = absurd refutes
+head_caused program host method (row.CallGives pair called) refutes = absurd refutes
+head_caused program host method (row.Needs principal what statement) refutes = tt
+head_caused program host method (row.Releases member principal statement) refutes = absurd refutes
+
+-- ---- programs
+
+-- the labels of an accepted program are over the declared principals
+abbrev pub GivesOver : Type 0
+GivesOver = (principals : Declared) (draft : DraftShape) (tree : ProgramTree) → IsDeclared principals →
+    IsProgramOf principals draft tree → IsProgramOver principals tree
+
+abbrev pub GivesDeclared : Type 0
+GivesDeclared = (h : List ℕ) (file : HostsShape) → HostsRead h (given file) → IsDeclared file.principals
+
+-- those of an accepted program of two files
+pub record IsAcceptedOver (source : Source) : Type 0 where
+  pub declared : IsDeclared source.file.principals
+  pub over : IsProgramOver source.file.principals source.tree
+
+pub accepted_over : GivesOver → GivesDeclared → (p h : List ℕ) (source : Source) → Sources p h (given source) →
+    IsAcceptedOver source
+accepted_over gives hosts p h source is =
+    let was = source_accepted p h source is in
+    let tree = then_given (Resolved was.2 was.1) (WasLabelled was.2) source was.3.accepted in
+    let same : source ≡ record { file = was.2; tree = tree.0 } = tree.2.1 in
+    subst IsAcceptedOver (sym same) (record {
+      declared = hosts h was.2 was.3.hosts;
+      over = gives was.2.principals was.1 tree.0 (hosts h was.2 was.3.hosts) tree.1;
+    })
+
+-- ---- labels
+
+-- what is explained is told of this obligation
+pub record IsTold (principals : Declared) (tree : ProgramTree) (failed : Obligation) (ask : Ask) : Type 0 where
+  pub found : first_refused principals (program_asks principals tree) ≡ Some ask
+  pub same : obligation_of ask ≡ failed
+  pub some : label_reasons principals ask ≢ []
+
+pub explained_is : (principals : Declared) (tree : ProgramTree) (failed : Obligation) (ask : Ask) →
+    IsTold principals tree failed ask →
+    explained principals tree ≡ Some (ask.statement, ask.wanted, label_reasons principals ask)
+explained_is principals tree failed ask told = rw told.found refl
