@@ -85,8 +85,15 @@ _jiffields() {
   esac
 }
 
+# The names of the fields and methods of a program, where each is declared at the beginning of a line.
+_jif_parts() {
+  sed -nE 's/^(void|int *\{[^}]*\}) *([A-Za-z_][A-Za-z0-9_]*).*/\2/p' "$1"
+}
+
 _jifexplain() {
+  local program=${COMP_WORDS[1]}
   _jif_in_order .jif .toml
+  [ "$COMP_CWORD" -ne 3 ] || [ ! -f "$program" ] || _jif_words "$(_jif_parts "$program")" "${COMP_WORDS[3]}"
 }
 
 _jifpicture() {

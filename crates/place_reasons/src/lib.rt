@@ -4,7 +4,7 @@
 //! first row that holds, by its first pair or principal. A host for which there is one may not hold the part, and one
 //! for which there is none may (`place_laws`). What each row claims is so by itself, whom it names is declared, and the
 //! source of a cause that it tells has the pair (`refuted_laws`). Over a whole program the parts without a reason are
-//! just those that the host may hold (`program_place_laws`). No program uses this crate yet.
+//! just those that the host may hold (`program_place_laws`).
 //!
 //! **Begin** with `specs/Reasons.antt`; `specs/Refuted.antt` says what rows claim, and `specs/ProgramReasons.antt` has
 //! the reasons of all parts of a program.

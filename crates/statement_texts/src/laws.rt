@@ -1,8 +1,24 @@
-//! Small cases of texts.
+//! That texts are those of the tree, and small cases.
 
-ghost use Rattle.std.specs.Prelude.{◌≡◌, ◌∷◌, [], codes, false, map, true};
+ghost use Rattle.std.specs.Prelude.{◌≡◌, ◌∷◌, [], codes, false, length, map, true};
+ghost use Rattle.principals.specs.ActsFor.{Declared, IsDeclared};
+ghost use Rattle.jif_tree.specs.Named.{AreNamed};
+ghost use Rattle.jif_tree.specs.Numbering.{statement_numbers};
+ghost use Rattle.jif_tree.specs.Trees.{ProgramTree};
 ghost use Rattle.statement_texts.specs.Short.{short};
-ghost use Rattle.statement_texts.specs.Texts.{outermost, sample_lines, texts_from};
+ghost use Rattle.statement_texts.specs.Statements.{program_texts};
+ghost use Rattle.statement_texts.specs.Texts.{outermost, sample_lines, statement_texts, texts_from};
+
+/// Laws of the texts of a program whose names may be written, as a parser and its host file give it. The call does
+/// nothing.
+pub fn text_laws()
+    // The texts are those of its statements, one by one, with the blocks and loops around each in the tree.
+    ensures by_tree { (principals : Declared) (program : ProgramTree) → IsDeclared principals → AreNamed program →
+        statement_texts principals program ≡ program_texts principals program }
+    // There is one for each number of a statement.
+    ensures as_many { (principals : Declared) (program : ProgramTree) → IsDeclared principals → AreNamed program →
+        length (statement_texts principals program) ≡ length (statement_numbers program) }
+{}
 
 /// Texts of statements, worked out. The call does nothing.
 pub fn text_examples()
