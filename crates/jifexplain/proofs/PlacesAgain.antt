@@ -1,6 +1,6 @@
 -- What is told of an accepted program that is read once more.
-use Rattle.std.proofs.Common.{◌≡◌, ◌≢◌, ◌≤◌, ◌<◌, ◌*◌, ◌+◌, ◌^◌, ℕ, List, [], ◌∷◌, map, length, Option, Some, None, refl, sym}
-use Rattle.std.proofs.Common.{ap, ◌∙◌, subst, All, Result, arith}
+use Rattle.std.proofs.Common.{◌≡◌, ◌≢◌, ◌≤◌, ◌<◌, ◌*◌, ◌+◌, ◌^◌, ℕ, List, [], ◌∷◌, length, Option, Some, None, refl, sym}
+use Rattle.std.proofs.Common.{ap, ◌∙◌, subst, Result, arith}
 use Rattle.std.specs.Prelude.{IfOk}
 use Rattle.std.proofs.lemmas.Result.{IfOk-weaker}
 use Rattle.std.proofs.lemmas.List.{length-map}
@@ -12,7 +12,6 @@ use Rattle.jif_grammar.specs.DraftShapes.{DraftShape}
 use Rattle.jif_resolve.specs.Sizes.{KeepsLimits}
 use Rattle.jif_tree.specs.Trees.{ProgramTree, method_tree, program_tree}
 use Rattle.host_decl.specs.Hosts.{HostShape, HostsShape}
-use Rattle.label_check.specs.Checking.{AreAuthorities}
 use Rattle.need_labels.specs.Labelled.{Labelled}
 use Rattle.explain_texts.specs.DraftPlaces.{PlacesShape, draft_places}
 use Rattle.explain_texts.specs.Sheets.{SheetShape}
@@ -31,7 +30,7 @@ use Rattle.front_end.specs.Verdicts.{VerdictShape, verdict_shape}
 use Rattle.front_end.proofs.ListLimits.{short_variables}
 use Rattle.jifexplain.specs.Places.{head_told, lines_told, lines_verdict, parts_verdict, places_verdict, source_verdict}
 use Rattle.jifexplain.specs.Places.{whole_parts}
-use Rattle.jifexplain.specs.Texts.{readable, sheet_of}
+use Rattle.jifexplain.specs.Texts.{readable}
 use Rattle.jifexplain.proofs.Rereading.{few_variables}
 use Rattle.jifexplain.proofs.StoppedStages.{then_given}
 

@@ -9,7 +9,6 @@ use Rattle.jif_lex.specs.declared.lexer.LexError.{LexError}
 use Rattle.jif_grammar.specs.DraftShapes.{DraftShape}
 use Rattle.jif_parse.specs.declared.parse_error.ParseError.{ParseError}
 use Rattle.jif_resolve.specs.declared.resolve_error.ResolveError.{ResolveError}
-use Rattle.jif_tree.specs.Trees.{ProgramTree}
 use Rattle.host_decl.specs.Hosts.{HostsShape}
 use Rattle.host_decl.specs.Refusal.{HostsRefusal}
 use Rattle.label_reasons.specs.Reasons.{Explained, explained}

@@ -1,9 +1,7 @@
-use Rattle.std.proofs.Common.{◌≡◌, ◌↔◌, List, map, Some, None, subst, sym, Option}
+use Rattle.std.proofs.Common.{◌≡◌, ◌↔◌, List, Some, None, subst, sym, Option}
 use Rattle.principals.specs.ActsFor.{IsDeclared}
 use Rattle.std.specs.List.{AllZip}
-use Rattle.host_decl.specs.Hosts.{HostShape}
 use Rattle.label_lattice.specs.declared.label.Label.{Label}
-use Rattle.need_labels.specs.Needs.{NeedsShape}
 use Rattle.place_reasons.specs.declared.reason.PlaceReason.{PlaceReason}
 use Rattle.place_reasons.specs.Refuted.{IsCauseTrue}
 use Rattle.place_rules.specs.PlaceRules.{MayHoldField, MayHoldStatement, needed_statements, told_fields}

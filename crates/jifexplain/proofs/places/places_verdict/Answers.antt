@@ -1,10 +1,10 @@
-use Rattle.std.proofs.Common.{List, subst, sym, map, ap, ◌∙◌}
+use Rattle.std.proofs.Common.{subst, sym, map, ap, ◌∙◌}
 use Rattle.std.specs.Option.{option_map}
 use Rattle.jif_tree.specs.Trees.{program_tree}
 use Rattle.explain_texts.specs.Told.{told_shape}
 use Rattle.need_labels.specs.Labelled.{labelled_of}
 use Rattle.place_texts.specs.Holding.{ArePartsOf, sheet_of}
-use Rattle.place_texts.specs.Parts.{PartShape, part_shape}
+use Rattle.place_texts.specs.Parts.{part_shape}
 use Rattle.jifexplain.specs.Questions.{asked_shape}
 use Rattle.jifexplain.proofs.PlacesAgain.{whole_due, whole_within}
 use Rattle.jifexplain.proofs.places.places_verdict.Goals as goal
