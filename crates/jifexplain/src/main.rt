@@ -3,8 +3,8 @@
 //!
 //! **Promises.** Where `jifsplit check` refuses a program or a host file, what explains that refusal is put. Where it
 //! accepts them, there is a line for each part and each host that may not hold it. For all words something is due, and
-//! one thing, with the status of `check` (`explanation_laws`). What each line says is so, and a line is told wherever one
-//! is due (`line_laws`).
+//! one thing, with the status of `check` (`explanation_laws`). What each line says is so, and a line is told wherever
+//! one is due (`line_laws`).
 //!
 //! **Begin** with `src/top.rt`, then `specs/Due.antt`.
 //!
