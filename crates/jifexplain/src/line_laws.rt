@@ -1,6 +1,6 @@
 //! Laws of the lines that are told: what each says of a program is so, and one is told wherever one is due.
 
-ghost use Rattle.std.specs.Prelude.{◌≡◌, ◌≢◌, ◌↔◌, ℕ, List, [], All, Some};
+ghost use Rattle.std.specs.Prelude.{◌≡◌, ◌≢◌, ◌↔◌, ℕ, List, [], All, Some, map};
 ghost use Rattle.std.specs.List.{AllZip};
 ghost use Rattle.label_lattice.specs.declared.label.Label.{Label};
 ghost use Rattle.jif_lex.specs.declared.token.Token.{Token};
@@ -66,9 +66,13 @@ pub fn line_laws()
         × (label_reasons file.principals ask ≢ [])
         × All (IsLabelReason file.principals ask) (label_reasons file.principals ask) }
 
-    // The methods of a program, and so its statements, are those of the draft by which they are named, in order, on the
-    // lines of the tokens that it names.
-    ensures written { (h : List ℕ) (file : HostsShape) (list : List Token) (draft : DraftShape) (tree : ProgramTree) →
+    // The fields of a program are those of the draft by which they are named, in order.
+    ensures fields_written { (h : List ℕ) (file : HostsShape) (draft : DraftShape) (tree : ProgramTree) →
+        HostsRead h (given file) → Resolved file draft (given tree) →
+        map (λ field. field.name) tree.fields ≡ map (λ field. field.name.text) draft.fields }
+
+    // So are its methods, and their statements, on the lines of the tokens that the draft names.
+    ensures statements_written { (h : List ℕ) (file : HostsShape) (list : List Token) (draft : DraftShape) (tree : ProgramTree) →
         HostsRead h (given file) → Parsed list (given draft) → Resolved file draft (given tree) →
         AllZip (IsWrittenAs list) draft.methods tree.methods }
 {

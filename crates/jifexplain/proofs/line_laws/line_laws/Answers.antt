@@ -74,6 +74,10 @@ returns-clause-label_lines c = λ h file draft tree failed hosts resolved first.
       c.reason_laws.ensures.reason_true file.principals told.0 declared,
     )
 
-pub returns-clause-written : goal.returns-clause-written
-returns-clause-written c = λ h file list draft tree hosts parsed resolved.
+pub returns-clause-fields_written : goal.returns-clause-fields_written
+returns-clause-fields_written c = λ h file draft tree hosts resolved.
+    c.resolved_program_laws.ensures.fields file.principals draft tree resolved
+
+pub returns-clause-statements_written : goal.returns-clause-statements_written
+returns-clause-statements_written c = λ h file list draft tree hosts parsed resolved.
     c.resolved_program_laws.ensures.methods file.principals list draft tree parsed resolved
