@@ -1,4 +1,4 @@
--- A line is told exactly where there is a reason, and what it says is so.
+-- What lines say of an accepted program is so.
 use Rattle.std.proofs.Common.{◌≡◌, ◌≢◌, ◌↔◌, ℕ, List, [], ◌∷◌, ◌++◌, map, codes, Option, Some, None, refl, sym}
 use Rattle.std.proofs.Common.{subst}
 use Rattle.std.specs.List.{AllZip}
@@ -24,38 +24,18 @@ use Rattle.place_texts.specs.Why.{why_text}
 use Rattle.explain_texts.specs.Sheets.{SheetShape}
 use Rattle.front_end.specs.Sources.{HostsRead, Labelled as WasLabelled, Resolved, Source, Sources}
 use Rattle.front_end.specs.Stages.{given}
+use Rattle.jifexplain.specs.Places.{lines_or}
 use Rattle.jifexplain.proofs.StoppedStages.{source_accepted, then_given}
 
 -- ---- lines
 
--- a line is not empty
-some_line : (sheet : SheetShape) (part : PartShape) (host : List ℕ) (reason : PlaceReason) →
-    place_line sheet part host reason ≢ []
-some_line sheet part host reason = λ none.
-    let behind = none_in_two (part_words sheet part)
-    (codes " not at " ++ (host ++ (codes ": " ++ (why_text sheet host (own_of part) reason ++ LINE_FEED ∷ [])))) none in
-    absurd (let no = behind.1 in cc)
+-- no lines stand for none
+pub held_when_none : (other lines : List ℕ) → lines ≡ [] → lines_or other lines ≡ other
+held_when_none other lines none = rw none refl
 
-line_iff : (sheet : SheetShape) (part : PartShape) (host : List ℕ) (reason : Option PlaceReason) →
-    (line_for sheet part host reason ≡ []) ↔ (reason ≡ None)
-line_iff sheet part host None = (λ none. refl, λ none. refl)
-line_iff sheet part host (Some reason) =
-    (λ none. absurd (some_line sheet part host reason none), λ none. absurd (let no = none in cc))
-
--- of each part of a list, by what its reason says
-pub zip_lines : {One : Type 0} (sheet : SheetShape) (labelled : Labelled) (host : HostShape)
-    (May : One → Type 0) (parts : List PartShape) (ones : List One) →
-    AllZip (λ reason one. (reason ≡ None) ↔ May one)
-    (map (reason_of sheet.principals labelled host.label) parts) ones →
-    AllZip (λ part one. (line_at sheet labelled part host ≡ []) ↔ May one) parts ones
-zip_lines {One} sheet labelled host May [] [] are = tt
-zip_lines {One} sheet labelled host May [] (one ∷ ones) are = absurd are
-zip_lines {One} sheet labelled host May (part ∷ parts) [] are = absurd are
-zip_lines {One} sheet labelled host May (part ∷ parts) (one ∷ ones) are =
-    let line = line_iff sheet part host.name (reason_of sheet.principals labelled host.label part) in (
-      (λ none. are.0.0 (line.0 none), λ may. line.1 (are.0.1 may)),
-      zip_lines sheet labelled host May parts ones are.1,
-    )
+pub lines_when_some : (other lines : List ℕ) → lines ≢ [] → lines_or other lines ≡ lines
+lines_when_some other [] some = absurd (some refl)
+lines_when_some other (byte ∷ bytes) some = refl
 
 -- ---- heads
 

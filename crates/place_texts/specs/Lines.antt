@@ -1,6 +1,6 @@
 -- The lines that say which hosts may not hold parts of a program: one for each part and each such host, parts in order
 -- and for each the hosts in the order of the file.
-use Rattle.std.specs.Prelude.{ℕ, List, [], ◌∷◌, ◌++◌, codes, Option, Some, None, slice_get}
+use Rattle.std.specs.Prelude.{◌≡◌, ℕ, List, [], ◌∷◌, ◌++◌, codes, Option, Some, None, slice_get}
 use Rattle.std.specs.Fmt.{decimal}
 use Rattle.std.specs.List.{flat_map}
 use Rattle.js_base.specs.declared.text.TheConstants.{LINE_FEED}
@@ -9,7 +9,9 @@ use Rattle.host_decl.specs.Hosts.{HostShape}
 use Rattle.explain_texts.specs.Causes.{on_line}
 use Rattle.explain_texts.specs.Names.{field_name, kind_of_field}
 use Rattle.explain_texts.specs.Sheets.{SheetShape}
+use Rattle.jif_tree.specs.Trees.{ProgramTree}
 use Rattle.need_labels.specs.Labelled.{Labelled}
+use Rattle.place_reasons.specs.Programs.{labelled_by}
 use Rattle.place_reasons.specs.declared.reason.PlaceReason.{PlaceReason}
 use Rattle.place_texts.specs.Parts.{PartShape, field, head, statement, line_of, number_of, reason_of}
 use Rattle.place_texts.specs.Why.{why_text}
@@ -48,3 +50,7 @@ part_lines sheet labelled hosts part = flat_map (line_at sheet labelled part) ho
 
 abbrev pub parts_lines : SheetShape → Labelled → List HostShape → List PartShape → List ℕ
 parts_lines sheet labelled hosts parts = flat_map (part_lines sheet labelled hosts) parts
+
+-- no line for the part and the host, with the labels that the label check finds
+abbrev pub HasNoLine : SheetShape → ProgramTree → HostShape → PartShape → Type 0
+HasNoLine sheet program host part = line_at sheet (labelled_by sheet.principals program) part host ≡ []

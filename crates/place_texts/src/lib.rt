@@ -6,14 +6,14 @@
 //!
 //! **Begin** with `specs/Parts.antt` and `specs/Lines.antt`.
 //!
-//! **Stays.** The line of a statement is that of the tree where it is numbered, and that
-//! of its first token elsewhere; both are the same in a program that was read.
+//! **Stays.** The line of a statement is that of the tree where it is numbered, and that of its first token elsewhere.
+//! Both are the same in a program that was read, as `resolved_laws` says.
 //!
 //! - `part`: the parts of a program
 //! - `meant_parts`: the parts that a word means, and the part that no host may hold
 //! - `why`: why a host may not hold a part
 //! - `lines`: the lines
-//! - `laws`: that the parts have the reasons of the program by their numbers, and worked lines
+//! - `laws`: that the parts have the reasons of the program by their numbers, which lines stand, and worked lines
 #![tactic(auto)]
 
 mod laws;
@@ -22,7 +22,7 @@ mod meant_parts;
 mod part;
 mod why;
 
-pub use laws::{line_examples, part_laws};
+pub use laws::{line_examples, line_laws, part_laws};
 pub use lines::{Holding, HostTold, push_lines, told_hosts};
 pub use meant_parts::{meant, unheld_parts};
 pub use part::{Part, parts_of};

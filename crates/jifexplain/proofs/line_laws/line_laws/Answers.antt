@@ -9,8 +9,11 @@ use Rattle.place_texts.specs.Parts.{PartShape, field, head, statement, fields_of
 use Rattle.front_end.specs.PlacedSources.{labelled_source}
 use Rattle.front_end.specs.Sources.{Source}
 use Rattle.jifexplain.specs.Claims.{RefutesPart}
+use Rattle.jifexplain.specs.Places.{held_line}
 use Rattle.jifexplain.specs.Texts.{sheet_of}
-use Rattle.jifexplain.proofs.LineLaws.{GivesDeclared, accepted_over, explained_is, head_caused, zip_lines}
+use Rattle.place_texts.specs.Lines.{parts_lines}
+use Rattle.jifexplain.proofs.LineLaws.{GivesDeclared, accepted_over, explained_is, head_caused, held_when_none}
+use Rattle.jifexplain.proofs.LineLaws.{lines_when_some}
 use Rattle.jifexplain.proofs.line_laws.line_laws.Goals as goal
 
 gives_declared : (c : goal.After-resolved_program_laws) → GivesDeclared
@@ -43,24 +46,24 @@ returns-clause-place_true c = λ p h source host part reason sources is.
 pub returns-clause-field_lines : goal.returns-clause-field_lines
 returns-clause-field_lines c = λ p h source needs host list draft sources needs_are.
     let over = accepted_over c.resolved_program_laws.ensures.labels_over (gives_declared c) p h source sources in
-    let labelled = labelled_source source in
-    zip_lines (sheet_of list draft source.file source.tree) labelled host (λ one. MayHoldField one host)
-    (fields_of source.tree) (told_fields labelled needs)
-    (subst (λ (reasons : List (Option PlaceReason)).
-    AllZip (λ reason one. (reason ≡ None) ↔ MayHoldField one host) reasons (told_fields labelled needs))
-    (sym (c.part_laws.ensures.fields source.file.principals labelled host.label))
-    (c.program_place_laws.ensures.fields source.file.principals source.tree needs host over.over needs_are))
+    c.line_laws.ensures.fields (sheet_of list draft source.file source.tree) source.tree needs host over.over
+    needs_are
 
 pub returns-clause-statement_lines : goal.returns-clause-statement_lines
 returns-clause-statement_lines c = λ p h source needs host list draft sources needs_are.
     let over = accepted_over c.resolved_program_laws.ensures.labels_over (gives_declared c) p h source sources in
-    let labelled = labelled_source source in
-    zip_lines (sheet_of list draft source.file source.tree) labelled host (λ one. MayHoldStatement one host)
-    (statements_of source.tree) (needed_statements needs)
-    (subst (λ (reasons : List (Option PlaceReason)).
-    AllZip (λ reason one. (reason ≡ None) ↔ MayHoldStatement one host) reasons (needed_statements needs))
-    (sym (c.part_laws.ensures.statements source.file.principals labelled host.label))
-    (c.program_place_laws.ensures.statements source.file.principals source.tree needs host over.over needs_are))
+    c.line_laws.ensures.statements (sheet_of list draft source.file source.tree) source.tree needs host over.over
+    needs_are
+
+pub returns-clause-held_told : goal.returns-clause-held_told
+returns-clause-held_told c = λ sheet labelled hosts asked parts none.
+    held_when_none (held_line asked) (parts_lines sheet labelled hosts parts)
+    ((c.line_laws.ensures.no_lines sheet labelled hosts parts).1 none)
+
+pub returns-clause-lines_kept : goal.returns-clause-lines_kept
+returns-clause-lines_kept c = λ sheet labelled hosts asked parts some.
+    lines_when_some (held_line asked) (parts_lines sheet labelled hosts parts)
+    (λ none. some ((c.line_laws.ensures.no_lines sheet labelled hosts parts).0 none))
 
 pub returns-clause-label_lines : goal.returns-clause-label_lines
 returns-clause-label_lines c = λ h file draft tree failed hosts resolved first.
