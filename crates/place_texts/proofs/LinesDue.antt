@@ -1,15 +1,13 @@
 -- A part has a line for a host exactly where the host may not hold it.
-use Rattle.std.proofs.Common.{◌≡◌, ◌≢◌, ℕ, List, [], ◌∷◌, ◌++◌, map, codes, refl, subst, sym, ap, Option, Some, None}
+use Rattle.std.proofs.Common.{◌≡◌, ◌≢◌, ℕ, List, [], ◌∷◌, ◌++◌, map, refl, subst, sym, Option, Some, None}
 use Rattle.std.specs.Prelude.{◌↔◌, All}
 use Rattle.std.specs.List.{AllZip, flat_map}
 use Rattle.std.proofs.lemmas.List.Elements.{All-cons, All-head, All-nil, All-tail}
-use Rattle.principals.specs.ActsFor.{Declared}
-use Rattle.label_lattice.specs.declared.label.Label.{Label}
 use Rattle.host_decl.specs.Hosts.{HostShape}
 use Rattle.explain_texts.specs.Sheets.{SheetShape}
 use Rattle.need_labels.specs.Labelled.{Labelled}
 use Rattle.place_reasons.specs.declared.reason.PlaceReason.{PlaceReason}
-use Rattle.place_texts.specs.Lines.{line_at, line_for, part_lines, part_words, parts_lines, place_line}
+use Rattle.place_texts.specs.Lines.{line_at, line_for, part_lines, part_words, parts_lines}
 use Rattle.place_texts.specs.Parts.{PartShape, reason_of}
 
 -- ---- one line
