@@ -1,27 +1,19 @@
 -- What lines say of an accepted program is so.
-use Rattle.std.proofs.Common.{◌≡◌, ◌≢◌, ◌↔◌, ℕ, List, [], ◌∷◌, ◌++◌, map, codes, Option, Some, None, refl, sym}
+use Rattle.std.proofs.Common.{◌≡◌, ◌≢◌, ℕ, List, [], ◌∷◌, Some, refl, sym}
 use Rattle.std.proofs.Common.{subst}
-use Rattle.std.specs.List.{AllZip}
-use Rattle.js_base.proofs.Lists.{none_in_two}
-use Rattle.js_base.specs.declared.text.TheConstants.{LINE_FEED}
 use Rattle.principals.specs.ActsFor.{Declared, IsDeclared}
 use Rattle.label_lattice.specs.declared.label.Label.{Label}
 use Rattle.jif_grammar.specs.DraftShapes.{DraftShape}
 use Rattle.jif_tree.specs.LabelRules.{Obligation}
 use Rattle.jif_tree.specs.Trees.{MethodTree, ProgramTree}
 use Rattle.jif_resolve.specs.Verdicts.{IsProgramOf}
-use Rattle.host_decl.specs.Hosts.{HostShape, HostsShape}
+use Rattle.host_decl.specs.Hosts.{HostsShape}
 use Rattle.label_reasons.specs.Asks.{Ask, obligation_of, program_asks}
 use Rattle.label_reasons.specs.Programs.{IsProgramOver}
 use Rattle.label_reasons.specs.Reasons.{explained, first_refused, label_reasons}
-use Rattle.need_labels.specs.Labelled.{Labelled}
 use Rattle.place_reasons.specs.Refuted.{IsCauseTrue, RefutesHead}
 use Rattle.place_reasons.specs.declared.reason.PlaceReason.{PlaceReason}
 use Rattle.place_reasons.specs.declared.reason.PlaceReason.TheVariants as row
-use Rattle.place_texts.specs.Lines.{line_at, line_for, own_of, part_words, place_line}
-use Rattle.place_texts.specs.Parts.{PartShape, reason_of}
-use Rattle.place_texts.specs.Why.{why_text}
-use Rattle.explain_texts.specs.Sheets.{SheetShape}
 use Rattle.front_end.specs.Sources.{HostsRead, Labelled as WasLabelled, Resolved, Source, Sources}
 use Rattle.front_end.specs.Stages.{given}
 use Rattle.jifexplain.specs.Places.{lines_or}

@@ -1,11 +1,9 @@
-use Rattle.std.proofs.Common.{◌≡◌, ◌↔◌, List, Some, None, subst, sym, Option}
+use Rattle.std.proofs.Common.{◌≡◌, Some}
 use Rattle.principals.specs.ActsFor.{IsDeclared}
-use Rattle.std.specs.List.{AllZip}
 use Rattle.label_lattice.specs.declared.label.Label.{Label}
 use Rattle.place_reasons.specs.declared.reason.PlaceReason.{PlaceReason}
 use Rattle.place_reasons.specs.Refuted.{IsCauseTrue}
-use Rattle.place_rules.specs.PlaceRules.{MayHoldField, MayHoldStatement, needed_statements, told_fields}
-use Rattle.place_texts.specs.Parts.{PartShape, field, head, statement, fields_of, reason_of, statements_of}
+use Rattle.place_texts.specs.Parts.{PartShape, field, head, statement, reason_of}
 use Rattle.front_end.specs.PlacedSources.{labelled_source}
 use Rattle.front_end.specs.Sources.{Source}
 use Rattle.jifexplain.specs.Claims.{RefutesPart}
