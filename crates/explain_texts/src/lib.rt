@@ -6,7 +6,7 @@
 //! `specs/Labels.antt` (labels).
 //!
 //! **Stays.** The words of docs/FORMATS.md. That a part of the tree is written where the draft has the part of the same
-//! number is not proved; names are resolved in the order of the draft.
+//! number is a law of `resolved_laws`.
 //!
 //! - `told`: what is told as a value (a place, a message, lines), and how it is laid out
 //! - `token_texts`: how tokens are spelled, and where they stand

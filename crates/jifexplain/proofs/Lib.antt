@@ -4,3 +4,5 @@ pub mod StoppedStages
 pub mod OneExplanation
 pub mod OneVerdict
 pub mod SomeVerdict
+pub mod LineLaws
+pub mod PlacesAgain

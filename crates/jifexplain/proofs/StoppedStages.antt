@@ -14,7 +14,7 @@ use Rattle.host_decl.specs.Reading.{RefusesHosts}
 use Rattle.host_decl.specs.Refusal.{refusal_shape}
 use Rattle.label_check.specs.declared.check_error.CheckError.{CheckError}
 use Rattle.place_rules.specs.declared.place_error.PlaceError.{PlaceError}
-use Rattle.front_end.specs.PlacedSources.{HasNoPlace, OnHosts, PlacedSource, PlacedSources}
+use Rattle.front_end.specs.PlacedSources.{AreChosen, HasNoPlace, OnHosts, PlacedSource, PlacedSources}
 use Rattle.front_end.specs.Sources.{Accepted, AcceptedWith, Drafted, HostsRead, Labelled, Lexed, Parsed, Resolved}
 use Rattle.front_end.specs.Sources.{Source, Sources}
 use Rattle.front_end.specs.Stages.{Outcome, given, stopped, DueThen, Then}
@@ -25,7 +25,7 @@ use Rattle.front_end.proofs.Stages.{IsOne, give, stop_with}
 -- ---- two stages in a row
 
 -- the first gave what the second went on with
-then_given : {X Y : Type 0} (First : Outcome X → Type 0) (Next : X → Outcome Y → Type 0) (y : Y) →
+pub then_given : {X Y : Type 0} (First : Outcome X → Type 0) (Next : X → Outcome Y → Type 0) (y : Y) →
     Then First Next (given y) → (x : X) × First (given x) × Next x (given y)
 then_given {X} {Y} First Next y is =
     ⊎_elim (λ left. left) (λ right. absurd (let no : give y ≡ stop_with right.0 = right.2 in cc)) is
@@ -76,6 +76,40 @@ pub data StopsAt (p h : List ℕ) : VerdictShape → Type 0 where
   no_places : (list : List Token) (draft : DraftShape) (source : Source) (why : PlaceError) → WasDrafted p list draft →
       Sources p h (given source) → HasNoPlace source why → StopsAt p h (places_refused source.tree why)
 
+-- with its hosts, where it is accepted
+pub record WasAccepted (p h : List ℕ) (list : List Token) (draft : DraftShape) (file : HostsShape) (source : Source) :
+    Type 0 where
+  pub drafted : WasDrafted p list draft
+  pub hosts : HostsRead h (given file)
+  pub accepted : Accepted file draft (given source)
+
+pub source_accepted : (p h : List ℕ) (source : Source) → Sources p h (given source) →
+    (list : List Token) × (draft : DraftShape) × (file : HostsShape) × WasAccepted p h list draft file source
+source_accepted p h source is =
+    let behind = then_given (Drafted p) (AcceptedWith h) source is in
+    let before = then_given (Lexed p) Parsed behind.0 behind.1 in
+    let hosts = then_given (HostsRead h) (λ file. Accepted file behind.0) source behind.2 in (
+      before.0,
+      behind.0,
+      hosts.0,
+      record {
+        drafted = record { lexed = before.1; parsed = before.2 };
+        hosts = hosts.1;
+        accepted = hosts.2;
+      },
+    )
+
+-- a program that has its places is accepted
+pub placed_source : (p h : List ℕ) (placed : PlacedSource) → PlacedSources p h (given placed) →
+    (source : Source) × Sources p h (given source) × AreChosen source placed
+placed_source p h placed is = then_given (Sources p h) OnHosts placed is
+
+-- what was given by an accepted program's stages is a source of the files
+pub accepted_is : (p h : List ℕ) (list : List Token) (draft : DraftShape) (file : HostsShape) (end : Outcome Source) →
+    WasDrafted p list draft → HostsRead h (given file) → Accepted file draft end → Sources p h end
+accepted_is p h list draft file end drafted hosts is =
+    inl (draft, inl (list, drafted.lexed, drafted.parsed), inl (file, hosts, is))
+
 -- the tokens and the draft of an accepted program
 pub source_drafted : (p h : List ℕ) (source : Source) → Sources p h (given source) →
     (list : List Token) × (draft : DraftShape) × WasDrafted p list draft
@@ -83,11 +117,6 @@ source_drafted p h source is =
     let behind = then_given (Drafted p) (AcceptedWith h) source is in
     let before = then_given (Lexed p) Parsed behind.0 behind.1 in
     (before.0, behind.0, record { lexed = before.1; parsed = before.2 })
-
-pub placed_drafted : (p h : List ℕ) (placed : PlacedSource) → PlacedSources p h (given placed) →
-    (list : List Token) × (draft : DraftShape) × WasDrafted p list draft
-placed_drafted p h placed is =
-    let behind = then_given (Sources p h) OnHosts placed is in source_drafted p h behind.0 behind.1
 
 lexed_at : (p h : List ℕ) (verdict : VerdictShape) → Lexed p (stopped verdict) → StopsAt p h verdict
 lexed_at p h verdict is = subst (StopsAt p h) (sym is.3) (no_tokens is.0)

@@ -3,39 +3,27 @@
 --
 -- What is refused is read once more, up to the stage before the one that refused it. So nothing has to be kept for what
 -- is accepted.
-use Rattle.std.specs.Prelude.{◌≡◌, ℕ, nat_lt, if◌then◌else◌, List, [], length, Some, None}
-use Rattle.js_base.specs.declared.limits.TheConstants.{HOSTS_BYTES, PROGRAM_BYTES}
+use Rattle.std.specs.Prelude.{◌≡◌, ℕ, List, Option, Some, None}
 use Rattle.jif_lex.specs.declared.token.Token.{Token}
 use Rattle.jif_lex.specs.declared.lexer.LexError.{LexError}
 use Rattle.jif_grammar.specs.DraftShapes.{DraftShape}
 use Rattle.jif_parse.specs.declared.parse_error.ParseError.{ParseError}
 use Rattle.jif_resolve.specs.declared.resolve_error.ResolveError.{ResolveError}
-use Rattle.jif_tree.specs.Trees.{ProgramTree}
 use Rattle.host_decl.specs.Hosts.{HostsShape}
 use Rattle.host_decl.specs.Refusal.{HostsRefusal}
-use Rattle.place_rules.specs.declared.place_error.PlaceError.{PlaceError}
-use Rattle.place_rules.specs.declared.place_error.PlaceError.TheVariants as place
 use Rattle.label_reasons.specs.Reasons.{Explained, explained}
-use Rattle.explain_texts.specs.DraftPlaces.{draft_places}
-use Rattle.explain_texts.specs.Heads.{lexed_told, no_memory, parsed_told, resolved_told}
+use Rattle.explain_texts.specs.Heads.{lexed_told, parsed_told, resolved_told}
 use Rattle.explain_texts.specs.Labels.{labels_told}
 use Rattle.explain_texts.specs.Sheets.{SheetShape}
-use Rattle.explain_texts.specs.Told.{ToldShape, told_text}
-use Rattle.explain_texts.specs.Unheld.{field_told, statement_told}
+use Rattle.explain_texts.specs.Told.{ToldShape}
 use Rattle.host_reasons.specs.HostsTold.{HostsTold}
 use Rattle.front_end.specs.Refusals as refusals
 use Rattle.front_end.specs.Refusals.{RefusalShape}
 use Rattle.front_end.specs.Sources.{HostsRead, Lexed, Parsed, Resolved}
 use Rattle.front_end.specs.Stages.{DueThen}
 use Rattle.front_end.specs.Verdicts.{VerdictShape, Refuse}
-
--- what is read of a program: nothing of one that is too long
-abbrev pub readable : List ℕ → List ℕ
-readable p = if nat_lt PROGRAM_BYTES (length p) then [] else p
-
--- a program of this name and text is refused, and this is told of it
-abbrev pub told_of : (name text : List ℕ) → ToldShape → VerdictShape
-told_of name text told = Refuse (refusals.SourceExplained (told_text name text told))
+use Rattle.jifexplain.specs.Places.{PlacesTold}
+use Rattle.jifexplain.specs.Texts.{readable, readable_hosts, sheet_of, told_hosts, told_of}
 
 -- ---- texts and names
 
@@ -53,27 +41,11 @@ ResolveExplained name p why =
 
 -- ---- host files
 
--- what is read of a host file: nothing of one that is too long
-abbrev pub readable_hosts : List ℕ → List ℕ
-readable_hosts h = if nat_lt HOSTS_BYTES (length h) then [] else h
-
--- a host file of this name and these bytes is refused, and this is told of it
-abbrev pub told_hosts : (name h : List ℕ) → ToldShape → VerdictShape
-told_hosts name h told = Refuse (refusals.InputExplained (told_text name (readable_hosts h) told))
-
 abbrev pub HostsExplained : (name h : List ℕ) → HostsRefusal → VerdictShape → Type 0
 HostsExplained name h why verdict =
     (told : ToldShape) × HostsTold (readable_hosts h) why told × (verdict ≡ told_hosts name h told)
 
 -- ---- labels
-
-abbrev pub sheet_of : List Token → DraftShape → HostsShape → ProgramTree → SheetShape
-sheet_of list draft file tree = record {
-  tokens = list;
-  places = draft_places draft;
-  principals = file.principals;
-  tree = tree;
-}
 
 -- Labels that are refused have an explanation. Where none is found, the refusal stays as it was.
 abbrev pub labels_verdict : (name text : List ℕ) → RefusalShape → SheetShape → Explained → VerdictShape
@@ -98,34 +70,21 @@ TokensExplained name p h refusal list = DueThen (Parsed list) (DraftExplained na
 abbrev pub LabelsExplained : (name p h : List ℕ) → RefusalShape → VerdictShape → Type 0
 LabelsExplained name p h refusal = DueThen (Lexed p) (TokensExplained name p h refusal)
 
--- ---- places
-
-abbrev pub unheld_told : List Token → DraftShape → PlaceError → ToldShape
-unheld_told list draft place.OutOfMemory = no_memory
-unheld_told list draft (place.NoHostForField field) = field_told list draft field
-unheld_told list draft (place.NoHostForStatement statement) = statement_told list draft statement
-
-abbrev pub UnheldTokens : (name p : List ℕ) → PlaceError → List Token → VerdictShape → Type 0
-UnheldTokens name p why list =
-    DueThen (Parsed list) (λ draft verdict. verdict ≡ told_of name (readable p) (unheld_told list draft why))
-
-abbrev pub PlacesExplained : (name p : List ℕ) → PlaceError → VerdictShape → Type 0
-PlacesExplained name p why = DueThen (Lexed p) (UnheldTokens name p why)
-
 -- ---- all causes
 
--- what explains a refusal of a program and a host file of these names and bytes
-abbrev pub Explains : (program hosts p h : List ℕ) → RefusalShape → VerdictShape → Type 0
-Explains program hosts p h (refusals.Lex why) = LexExplained program p why
-Explains program hosts p h (refusals.Parse why) = ParseExplained program p why
-Explains program hosts p h (refusals.Resolve why) = ResolveExplained program p why
-Explains program hosts p h (refusals.Labels why line words) =
+-- what explains a refusal of a program and a host file of these names and bytes, where it is asked about these parts
+abbrev pub Explains : (program hosts p h : List ℕ) (asked : Option (List ℕ)) → RefusalShape → VerdictShape → Type 0
+Explains program hosts p h asked (refusals.Lex why) = LexExplained program p why
+Explains program hosts p h asked (refusals.Parse why) = ParseExplained program p why
+Explains program hosts p h asked (refusals.Resolve why) = ResolveExplained program p why
+Explains program hosts p h asked (refusals.Labels why line words) =
     LabelsExplained program p h (refusals.Labels why line words)
-Explains program hosts p h (refusals.Hosts why) = HostsExplained hosts h why
-Explains program hosts p h (refusals.Places why words) = PlacesExplained program p why
-Explains program hosts p h other = λ verdict. verdict ≡ Refuse other
+Explains program hosts p h asked (refusals.Hosts why) = HostsExplained hosts h why
+Explains program hosts p h asked (refusals.Places why words) = PlacesTold program p h asked (Some why)
+Explains program hosts p h asked other = λ verdict. verdict ≡ Refuse other
 
 -- the same of what is due
-abbrev pub ExplainsVerdict : (program hosts p h : List ℕ) → VerdictShape → VerdictShape → Type 0
-ExplainsVerdict program hosts p h (Refuse refusal) = Explains program hosts p h refusal
-ExplainsVerdict program hosts p h other = λ verdict. verdict ≡ other
+abbrev pub ExplainsVerdict : (program hosts p h : List ℕ) (asked : Option (List ℕ)) → VerdictShape → VerdictShape →
+    Type 0
+ExplainsVerdict program hosts p h asked (Refuse refusal) = Explains program hosts p h asked refusal
+ExplainsVerdict program hosts p h asked other = λ verdict. verdict ≡ other

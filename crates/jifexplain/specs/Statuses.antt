@@ -1,6 +1,6 @@
 -- With which status a verdict ends, and with which `jifsplit check` ends for a program and a host file; and files that
 -- hold a host file that is TOML.
-use Rattle.std.specs.Prelude.{◌≡◌, ℕ, List, [], ◌∷◌, Option, Some}
+use Rattle.std.specs.Prelude.{◌≡◌, ℕ, List, Option, Some}
 use Rattle.host_decl.specs.Refusal.{not_toml}
 use Rattle.front_end.specs.PlacedSources.{PlacedSource}
 use Rattle.front_end.specs.Refusals.{refusal_status}
@@ -9,6 +9,7 @@ use Rattle.front_end.specs.Stages.{Outcome, given, stopped}
 use Rattle.front_end.specs.Verdicts.{VerdictShape, Refuse, Print, hosts_refused}
 use Rattle.js_base.specs.declared.status.Status.{Status}
 use Rattle.js_base.specs.declared.status.Status.TheVariants.{Done}
+use Rattle.jifexplain.specs.Due.{AskFor}
 
 abbrev pub verdict_status : VerdictShape → Status
 verdict_status (Refuse refusal) = refusal_status refusal
@@ -23,5 +24,5 @@ checked_status (stopped refused) = verdict_status refused
 -- of TOML stopped, and of that place no more is known than that it lies in the file.
 abbrev pub HoldsToml : List (List ℕ) → (List ℕ → Option (List ℕ)) → Type 0
 HoldsToml words holds =
-    (program hosts h : List ℕ) → words ≡ program ∷ hosts ∷ [] → holds hosts ≡ Some h →
+    (program hosts h : List ℕ) (asked : Option (List ℕ)) → AskFor words program hosts asked → holds hosts ≡ Some h →
     ¬ HostsRead h (stopped (hosts_refused not_toml))

@@ -15,12 +15,15 @@ ghost use Rattle.label_check.specs.Checking.{AreAuthorities};
 ghost use Rattle.label_reasons.specs.Reasons as reasons;
 ghost use Rattle.jifexplain.specs.Explained as explained;
 ghost use Rattle.jifexplain.specs.Explained.{DraftExplained, ExplainsVerdict, Explains, HostsExplained};
-ghost use Rattle.jifexplain.specs.Explained.{LabelsExplained, LexExplained, ParseExplained, PlacesExplained, ResolveExplained, TokensExplained};
-ghost use Rattle.jifexplain.specs.Explained.{TreeExplained, UnheldTokens, readable};
+ghost use Rattle.jifexplain.specs.Explained.{LabelsExplained, LexExplained, ParseExplained, ResolveExplained};
+ghost use Rattle.jifexplain.specs.Explained.{TokensExplained, TreeExplained};
+ghost use Rattle.jifexplain.specs.Questions.{asked_shape};
+ghost use Rattle.jifexplain.specs.Texts.{readable};
 
+use crate::places::{Asked, places_told};
 use crate::shown::{
     Shown, hosts_shown, lexed_shown, parsed_shown, readable, readable_hosts, resolved_shown,
-    told_of, unheld_shown,
+    told_of,
 };
 use explain_texts::{Sheet, draft_places, labels_told};
 use front_end::{Loaded, Refusal, Stop, Verdict, hosts_read, lexed, parsed, resolved};
@@ -31,14 +34,14 @@ use jif_resolve::{ResolveError, limit_laws};
 use jif_tree::Draft;
 use js_base::OutOfMemory;
 use label_reasons::label_refusal;
-use place_rules::PlaceError;
 use std::alloc::Global;
 
-/// The names of a program and a host file.
+/// The names of a program and a host file, and which parts are asked about.
 #[derive(Clone, Copy)]
 pub struct Names<'a> {
     pub program: &'a str,
     pub hosts: &'a str,
+    pub asked: Asked<'a>,
 }
 
 /// What explains what is due for a program and a host file.
@@ -50,7 +53,8 @@ pub fn explained_verdict(
     refused: Verdict,
 ) -> Result<Verdict, Stop>
     ensures { (p h : List ℕ) → IsLoaded PROGRAM_BYTES p program.now → IsLoaded HOSTS_BYTES h hosts.now →
-        EndsIn (ExplainsVerdict names.now.program.now names.now.hosts.now p h (verdict_shape refused)) result }
+        EndsIn (ExplainsVerdict names.now.program.now names.now.hosts.now p h (asked_shape names.now.asked)
+        (verdict_shape refused)) result }
 {
     match refused {
         Verdict::Refuse(refusal) => explained(alloc, names, program, hosts, refusal),
@@ -67,7 +71,8 @@ fn explained(
     refusal: Refusal,
 ) -> Result<Verdict, Stop>
     ensures { (p h : List ℕ) → IsLoaded PROGRAM_BYTES p program.now → IsLoaded HOSTS_BYTES h hosts.now →
-        EndsIn (Explains names.now.program.now names.now.hosts.now p h (refusal_shape refusal)) result }
+        EndsIn (Explains names.now.program.now names.now.hosts.now p h (asked_shape names.now.asked)
+        (refusal_shape refusal)) result }
 {
     let name = names.program;
     match refusal {
@@ -79,7 +84,9 @@ fn explained(
             labels_explained(alloc, name, program, hosts, refusal)
         }
         Refusal::Hosts(why) => hosts_explained(alloc, names.hosts, hosts, &why),
-        Refusal::Places { why, words: _ } => places_explained(alloc, name, program, why),
+        Refusal::Places { why, words: _ } => {
+            places_told(alloc, name, names.asked, Some(why), program, hosts)
+        }
         other => Ok(Verdict::Refuse(other)),
     }
 }
@@ -141,37 +148,6 @@ fn resolved_explained(
     let text = readable(program);
     let shown = Shown { name, text };
     Ok(resolved_shown(alloc, &shown, &tokens, why)?)
-}
-
-/// What explains that no host may hold some part of it.
-fn places_explained(
-    alloc: Global,
-    name: &str,
-    program: &Loaded,
-    why: PlaceError,
-) -> Result<Verdict, Stop>
-    ensures { (p : List ℕ) → IsLoaded PROGRAM_BYTES p program.now → EndsIn (PlacesExplained name.now p why) result }
-{
-    let tokens = lexed(alloc, program)?;
-    let text = readable(program);
-    let shown = Shown { name, text };
-    unheld_tokens(alloc, &shown, &tokens, why)
-}
-
-/// The same, with the tokens.
-fn unheld_tokens(
-    alloc: Global,
-    shown: &Shown<'_>,
-    tokens: &[Token],
-    why: PlaceError,
-) -> Result<Verdict, Stop>
-    requires short { length shown.now.text.now ≤ PROGRAM_BYTES }
-    requires tokens { AreTokens tokens.now }
-    ensures { (p : List ℕ) → shown.now.text.now ≡ readable p →
-        EndsIn (UnheldTokens shown.now.name.now p why tokens.now) result }
-{
-    let draft = parsed(alloc, tokens)?;
-    Ok(unheld_shown(alloc, shown, tokens, &draft, why)?)
 }
 
 /// What explains that its labels are refused.

@@ -1,14 +1,15 @@
 //! The laws of explanations, and of what is due.
 
-ghost use Rattle.std.specs.Prelude.{◌≡◌, ◌≢◌, ◌<◌, ℕ, List, [], ◌∷◌, Option, Some, None, codes};
+ghost use Rattle.std.specs.Prelude.{◌≡◌, ◌≢◌, ◌<◌, ◌⊎◌, ℕ, List, [], ◌∷◌, Option, Some, None, codes};
 ghost use Rattle.js_base.specs.Counts.{last_count};
 ghost use Rattle.host_decl.specs.Refusal.{not_toml};
 ghost use Rattle.front_end.specs.Loads.{FilesChange};
 ghost use Rattle.front_end.specs.PlacedSources.{PlacedSource, PlacedSources};
-ghost use Rattle.front_end.specs.Stages.{Outcome, stopped};
+ghost use Rattle.front_end.specs.Stages.{Outcome, given, stopped};
 ghost use Rattle.front_end.specs.Verdicts.{VerdictShape, hosts_refused, no_such_file};
 ghost use Rattle.jifexplain.specs.Due.{DueForBytes, Due, IsDue, usage};
 ghost use Rattle.jifexplain.specs.Explained.{ExplainsVerdict};
+ghost use Rattle.jifexplain.specs.Places.{PlacesTold, no_part};
 ghost use Rattle.jifexplain.specs.Statuses.{HoldsToml, checked_status, verdict_status};
 
 use front_end::source_laws;
@@ -19,21 +20,30 @@ use host_reasons::host_told_laws;
 pub fn explanation_laws()
     // A refusal has one explanation. Of a host file that is no TOML the place is that of the reader of TOML, of which
     // no more is known than that it lies in the file.
-    ensures one_explanation { (program hosts p h : List ℕ) (refused first second : VerdictShape) →
-        PlacedSources p h (stopped refused) → refused ≢ hosts_refused not_toml →
-        ExplainsVerdict program hosts p h refused first → ExplainsVerdict program hosts p h refused second →
-        first ≡ second }
+    ensures one_explanation { (program hosts p h : List ℕ) (asked : Option (List ℕ))
+        (refused first second : VerdictShape) → PlacedSources p h (stopped refused) →
+        refused ≢ hosts_refused not_toml → ExplainsVerdict program hosts p h asked refused first →
+        ExplainsVerdict program hosts p h asked refused second → first ≡ second }
 
     // And it has some.
-    ensures some_explanation { (program hosts p h : List ℕ) (refused : VerdictShape) →
+    ensures some_explanation { (program hosts p h : List ℕ) (asked : Option (List ℕ)) (refused : VerdictShape) →
         PlacedSources p h (stopped refused) →
-        (verdict : VerdictShape) × ExplainsVerdict program hosts p h refused verdict }
+        (verdict : VerdictShape) × ExplainsVerdict program hosts p h asked refused verdict }
+
+    // So it is with what is told of the places of an accepted program.
+    ensures one_telling { (program p h : List ℕ) (asked : Option (List ℕ)) (placed : PlacedSource)
+        (first second : VerdictShape) → PlacedSources p h (given placed) → PlacesTold program p h asked None first →
+        PlacesTold program p h asked None second → first ≡ second }
 
     // For a program and a host file alone the status is that of `jifsplit check`.
     ensures same_status { (program hosts p h : List ℕ) (end : Outcome PlacedSource) (verdict : VerdictShape) →
-        PlacedSources p h end →
-        DueForBytes program hosts p h verdict →
+        PlacedSources p h end → DueForBytes program hosts None p h verdict →
         verdict_status verdict ≡ checked_status end }
+
+    // So it is where a word asks about some parts, but for a word that means none.
+    ensures word_status { (program hosts word p h : List ℕ) (end : Outcome PlacedSource) (verdict : VerdictShape) →
+        PlacedSources p h end → DueForBytes program hosts (Some word) p h verdict →
+        (verdict_status verdict ≡ checked_status end) ⊎ (verdict ≡ no_part program word) }
 
     // For words and files that tell what they hold, the host file TOML, one verdict is due, after one number of loads.
     ensures one_verdict { (words : List (List ℕ)) (holds : List ℕ → Option (List ℕ))

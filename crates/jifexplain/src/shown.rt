@@ -9,8 +9,9 @@ ghost use Rattle.front_end.specs.Loading.{IsLoaded};
 ghost use Rattle.front_end.specs.Verdicts.{verdict_shape};
 ghost use Rattle.host_decl.specs.Refusal as hosts;
 ghost use Rattle.jif_grammar.specs.DraftShapes.{draft_shape};
-ghost use Rattle.jifexplain.specs.Explained as explained;
-ghost use Rattle.jifexplain.specs.Explained.{HostsExplained, readable, told_of, unheld_told};
+ghost use Rattle.jifexplain.specs.Explained.{HostsExplained};
+ghost use Rattle.jifexplain.specs.Texts as texts;
+ghost use Rattle.jifexplain.specs.Texts.{readable, told_of, unheld_told};
 
 use explain_texts::{
     Told, field_told, lexed_told, parsed_told, resolved_told, statement_told, told_text,
@@ -107,24 +108,8 @@ pub fn resolved_shown(
     told_of(alloc, shown, &told)
 }
 
-/// No host may hold some part of it.
-pub fn unheld_shown(
-    alloc: Global,
-    shown: &Shown<'_>,
-    tokens: &[Token],
-    draft: &Draft,
-    why: PlaceError,
-) -> Result<Verdict, OutOfMemory>
-    requires { length shown.now.text.now ≤ PROGRAM_BYTES }
-    ensures { IfOk result (λ verdict. verdict_shape verdict
-        ≡ told_of shown.now.name.now shown.now.text.now (unheld_told tokens.now (draft_shape draft.now) why)) }
-{
-    let told = unheld_told(alloc, tokens, draft, why)?;
-    told_of(alloc, shown, &told)
-}
-
 /// What is told of a part that no host may hold.
-fn unheld_told(
+pub fn unheld_told(
     alloc: Global,
     tokens: &[Token],
     draft: &Draft,
@@ -143,7 +128,7 @@ fn unheld_told(
 
 /// What is read of a host file: nothing of one that is too long.
 pub fn readable_hosts(hosts: &Loaded) -> &[u8]
-    ensures text { (h : List ℕ) → IsLoaded HOSTS_BYTES h hosts.now → result.now ≡ explained.readable_hosts h }
+    ensures text { (h : List ℕ) → IsLoaded HOSTS_BYTES h hosts.now → result.now ≡ texts.readable_hosts h }
     ensures short { length result.now ≤ HOSTS_BYTES }
 {
     match hosts {
@@ -154,7 +139,7 @@ pub fn readable_hosts(hosts: &Loaded) -> &[u8]
 
 /// A host file, or nothing of one that is too long.
 fn short_hosts(bytes: &[u8]) -> &[u8]
-    ensures text { result.now ≡ explained.readable_hosts bytes.now }
+    ensures text { result.now ≡ texts.readable_hosts bytes.now }
     ensures short { length result.now ≤ HOSTS_BYTES }
 {
     if HOSTS_BYTES < bytes.len() {
@@ -171,7 +156,7 @@ pub fn hosts_shown(
     why: &HostsError,
 ) -> Result<Verdict, OutOfMemory>
     requires { length shown.now.text.now ≤ HOSTS_BYTES }
-    ensures { (h : List ℕ) → shown.now.text.now ≡ explained.readable_hosts h → IfOk result (λ verdict.
+    ensures { (h : List ℕ) → shown.now.text.now ≡ texts.readable_hosts h → IfOk result (λ verdict.
         HostsExplained shown.now.name.now h (hosts.refusal_shape why.now) (verdict_shape verdict)) }
 {
     let told = hosts_told(alloc, shown.text, why)?;

@@ -7,6 +7,7 @@ ghost use Rattle.jifexplain.specs.Answers.{AnswersTo};
 
 use crate::due::due;
 use crate::laws::explanation_laws;
+use crate::line_laws::line_laws;
 use front_end::answer;
 use js_base::{Files, Sink, Status};
 use std::alloc::Global;
@@ -17,14 +18,16 @@ const PROGRAM: &str = "jifexplain";
 /// The line that says that memory ran out.
 const NO_MEMORY: &str = "jifexplain: no memory\n";
 
-/// Runs `jifexplain` on the words after its name, which are the names of a program and a host file.
+/// Runs `jifexplain` on the words after its name, which are the names of a program and a host file, and a word that
+/// means some parts of the program where only those are asked about.
 ///
-/// It answers what `jifsplit check` of the same files answers, and says why on `err`:
+/// It answers what `jifsplit check` of the same files answers. On `out` it says which hosts may not hold which parts of
+/// an accepted program and why, and on `err` why a program is refused:
 /// - `Done`: the program is accepted, and each part of it has a host.
-/// - `Usage`: the words are not two.
+/// - `Usage`: the words are neither two nor three.
 /// - `SourceRefused`: the program is refused for its text, its names or its labels; or no host may hold some part of
 ///   it.
-/// - `InputRefused`: a file is absent, or the host file is refused.
+/// - `InputRefused`: a file is absent, or the host file is refused; or the third word means no part.
 /// - `FileFault`: a file could not be read.
 /// - `OutFault`: what was due could not all be put out.
 /// - `NoMemory`: memory ran out.
@@ -50,6 +53,7 @@ pub fn jifexplain<F: Files, S: Sink, E: Sink>(
     ensures kept { AreKept (files_change F.Files files.old files.new) }
 {
     explanation_laws();
+    line_laws();
     let found = due(alloc, words, files);
     answer(alloc, PROGRAM, NO_MEMORY, found, out, err)
 }

@@ -2,12 +2,12 @@
 //!
 //! **Promises.** Each line is that of a definition: one for each part and each host that may not hold it, with the
 //! reason of `place_reasons`. The parts of a program are its fields, heads and statements by their numbers, and a word
-//! means some of them. No program prints them yet.
+//! means some of them.
 //!
 //! **Begin** with `specs/Parts.antt` and `specs/Lines.antt`.
 //!
-//! **Stays.** The line of a statement is that of the tree where it is numbered, and that
-//! of its first token elsewhere; both are the same in a program that was read.
+//! **Stays.** The line of a statement is that of the tree where it is numbered, and that of its first token elsewhere.
+//! Both are the same in a program that was read, as `resolved_laws` says.
 //!
 //! - `part`: the parts of a program
 //! - `meant_parts`: the parts that a word means, and the part that no host may hold
@@ -23,6 +23,6 @@ mod part;
 mod why;
 
 pub use laws::{line_examples, line_laws, part_laws};
-pub use lines::{Holding, push_lines, told_hosts};
+pub use lines::{Holding, HostTold, push_lines, told_hosts};
 pub use meant_parts::{meant, unheld_parts};
 pub use part::{Part, parts_of};

@@ -4,7 +4,8 @@ use Rattle.front_end.specs.Verdicts.{VerdictShape}
 use Rattle.front_end.proofs.Stages.{due_handed_on, due_stops}
 use Rattle.jif_lex.specs.declared.token.Token.{Token}
 use Rattle.explain_texts.specs.Heads.{resolved_told}
-use Rattle.jifexplain.specs.Explained.{ResolveExplained, readable, told_of}
+use Rattle.jifexplain.specs.Explained.{ResolveExplained}
+use Rattle.jifexplain.specs.Texts.{readable, told_of}
 use Rattle.jifexplain.proofs.explained.resolved_explained.Goals as goal
 
 pub returns-in_err-tokens : goal.returns-in_err-tokens

@@ -1,0 +1,2 @@
+pub mod LabelsOver
+pub mod DraftLines
