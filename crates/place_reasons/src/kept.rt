@@ -1,7 +1,7 @@
 //! The answers to questions that were asked already, each found by one walk over the program.
 
-ghost use Rattle.std.specs.Prelude.{◌≡◌, ◌<◌, ◌^◌, ◌↔◌, [], All, Any, IfNone, IfOk, IfSome, IsTrue, OnOk, length, slice_get};
-ghost use Rattle.std.specs.Prelude.{unwrap_or, Some};
+ghost use Rattle.std.specs.Prelude.{◌≡◌, ◌<◌, ◌^◌, ◌↔◌, [], All, Any, IfNone, IfOk, IfSome, IsTrue, OnOk, length};
+ghost use Rattle.std.specs.Prelude.{slice_get, unwrap_or, Some};
 ghost use Rattle.jif_tree.specs.Trees.{program_tree};
 ghost use Rattle.label_reasons.specs.Traits.{IsTrait};
 ghost use Rattle.place_reasons.specs.Questions.{answer_at, program_answers};
