@@ -17,10 +17,10 @@ block_lasts first done = []
 block_lasts first (set_local heading variable value rest) = first ∷ block_lasts (first + 1) rest
 block_lasts first (set_field heading field value rest) = first ∷ block_lasts (first + 1) rest
 block_lasts first (set_element heading field index value rest) = first ∷ block_lasts (first + 1) rest
-block_lasts first (branch heading guard yes no rest) =
-    (first + (size_of yes + size_of no))
-    ∷ (block_lasts (first + 1) yes ++ block_lasts (first + 1 + size_of yes) no)
-    ++ block_lasts (first + 1 + (size_of yes + size_of no)) rest
+block_lasts first (branch heading guard one other rest) =
+    (first + (size_of one + size_of other))
+    ∷ (block_lasts (first + 1) one ++ block_lasts (first + 1 + size_of one) other)
+    ++ block_lasts (first + 1 + (size_of one + size_of other)) rest
 block_lasts first (loop heading guard body rest) =
     (first + size_of body) ∷ block_lasts (first + 1) body ++ block_lasts (first + 1 + size_of body) rest
 block_lasts first (call heading site method args into rest) = first ∷ block_lasts (first + 1) rest
@@ -46,7 +46,7 @@ last_in lasts statement = slice_index_or lasts statement.0 statement.0
 
 -- of the statements in the blocks of a statement, of which the first has this number
 abbrev pub kind_lasts : ℕ → StmtKind → List ℕ
-kind_lasts first (kind.If' guard m yes n no) =
-    block_lasts first (row_tree yes) ++ block_lasts (first + size_of (row_tree yes)) (row_tree no)
+kind_lasts first (kind.If' guard m one n other) =
+    block_lasts first (row_tree one) ++ block_lasts (first + size_of (row_tree one)) (row_tree other)
 kind_lasts first (kind.While' guard m body) = block_lasts first (row_tree body)
-kind_lasts first other = []
+kind_lasts first what = []

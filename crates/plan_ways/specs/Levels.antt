@@ -13,6 +13,7 @@ use Rattle.host_code.specs.declared.instruction.Instr.{Instr}
 use Rattle.host_code.specs.declared.instruction.Op.{Op}
 use Rattle.host_code.specs.declared.instruction.Op.TheVariants as op
 use Rattle.plan_ways.specs.Stands.{head_at}
+use Rattle.plan_ways.specs.Tables.{noted}
 use Rattle.plan_ways.specs.declared.levels.Level.{Level}
 use Rattle.plan_ways.specs.declared.levels.Level.TheVariants.{Body, Under}
 use Rattle.plan_ways.specs.declared.levels.Naming.{Naming}
@@ -28,11 +29,11 @@ named_by (op.Go entry on) = Some entry
 named_by (op.GoWith entry on riders) = Some entry
 named_by other = None
 
--- Where several name an entry, the last counts.
+-- Where several name an entry, the first counts.
 abbrev pub note_named : List (Option Naming) → Stand → StmtId → Option EntryId → List (Option Naming)
 note_named table stand statement None = table
 note_named table stand statement (Some entry) =
-    slice_set table entry.0 (Some (record { statement = statement; stand = stand }))
+    noted table entry.0 (record { statement = statement; stand = stand })
 
 abbrev pub naming_noted : List (Option Naming) → Stand → Option Instr → List (Option Naming)
 naming_noted table stand None = table

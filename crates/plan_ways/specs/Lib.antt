@@ -4,6 +4,7 @@ pub mod Levels
 pub mod Readers
 pub mod Relays
 pub mod Stands
+pub mod Tables
 pub mod Tips
 pub mod Ways
 pub mod Whole

@@ -1,6 +1,5 @@
 -- Which statement of a host reads a variable first: one whose instructions there have it in an expression.
-use Rattle.std.specs.Prelude.{ℕ, List, [], ◌∷◌, length, map, Option, Some, None, replicate, slice_get, slice_set}
-use Rattle.std.specs.Prelude.{slice_index_or}
+use Rattle.std.specs.Prelude.{ℕ, List, [], ◌∷◌, length, map, Option, Some, None, replicate, slice_get}
 use Rattle.std.specs.List.{range_with_len}
 use Rattle.js_base.specs.declared.ids.HostId.{HostId}
 use Rattle.js_base.specs.declared.ids.StmtId.{StmtId}
@@ -11,17 +10,13 @@ use Rattle.host_code.specs.declared.code_expr.Node.TheVariants as node
 use Rattle.host_code.specs.declared.instruction.Instr.{Instr}
 use Rattle.host_code.specs.declared.instruction.Op.{Op}
 use Rattle.host_code.specs.declared.instruction.Op.TheVariants as op
+use Rattle.plan_ways.specs.Tables.{noted}
 use Rattle.plan_ways.specs.declared.ends.WayEnd.{WayEnd}
 use Rattle.plan_ways.specs.declared.ends.WayEnd.TheVariants as end
 
-abbrev pub read_at : List (Option StmtId) → StmtId → ℕ → Option (Option StmtId) → List (Option StmtId)
-read_at table statement place (Some None) = slice_set table place (Some statement)
-read_at table statement place (Some (Some earlier)) = table
-read_at table statement place None = table
-
 -- the first statement that reads a variable stays
 abbrev pub with_node : List (Option StmtId) → StmtId → Node → List (Option StmtId)
-with_node table statement (node.Var variable) = read_at table statement variable.0 (slice_get table variable.0)
+with_node table statement (node.Var variable) = noted table variable.0 statement
 with_node table statement other = table
 
 abbrev pub with_nodes : List (Option StmtId) → StmtId → List Node → List (Option StmtId)

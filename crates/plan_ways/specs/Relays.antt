@@ -16,6 +16,7 @@ use Rattle.host_code.specs.declared.instruction.Op.TheVariants as op
 use Rattle.plan_ways.specs.Lasts.{last_in}
 use Rattle.plan_ways.specs.Levels.{level_at}
 use Rattle.plan_ways.specs.Stands.{door_of}
+use Rattle.plan_ways.specs.Tables.{noted}
 use Rattle.plan_ways.specs.declared.ends.Way.{Way}
 use Rattle.plan_ways.specs.declared.ends.WayEnd.{WayEnd}
 use Rattle.plan_ways.specs.declared.ends.WayEnd.TheVariants as end
@@ -109,7 +110,7 @@ spots_of code doors lasts namings levels places =
 -- ---- tokens that are given back at once
 
 abbrev pub handed_from : List (Option EntryId) → Option EntryId → WayEnd → List (Option EntryId)
-handed_from handed (Some entry) (end.Relay relay) = slice_set handed relay.0 (Some entry)
+handed_from handed (Some entry) (end.Relay relay) = noted handed relay.0 entry
 handed_from handed given other = handed
 
 abbrev pub with_handed : CodeShape → List (Option Level) → List (Option EntryId) → Place → List (Option EntryId)

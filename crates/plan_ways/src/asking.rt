@@ -1,7 +1,7 @@
 //! The ways of an instruction: what it asks of another host, and whom it gives a result or the token back.
 
 ghost use Rattle.std.specs.Prelude.{◌≡◌, ◌++◌, IfOk, OnOk, map, vec_items};
-ghost use Rattle.plan_ways.specs.Ways as ways;
+ghost use Rattle.plan_ways.specs.Ways as rules;
 ghost use Rattle.plan_ways.specs.Ways.{sheet_shape};
 
 use crate::ends::{Way, WayEnd, WayKind, WayText, push_kept};
@@ -27,7 +27,7 @@ pub struct Sheet<'a> {
 
 /// The ways of the instructions at these places, but those whose ends are one row.
 pub fn ways_at(alloc: Global, sheet: &Sheet<'_>, places: &[Place]) -> Result<Vec<Way>, OutOfMemory>
-    ensures { IfOk result (λ found. found.items ≡ ways.ways_at (sheet_shape sheet.now) places.now) }
+    ensures { IfOk result (λ found. found.items ≡ rules.ways_at (sheet_shape sheet.now) places.now) }
 {
     let mut found = Vec::new(alloc);
     for place in places {
@@ -38,7 +38,7 @@ pub fn ways_at(alloc: Global, sheet: &Sheet<'_>, places: &[Place]) -> Result<Vec
 
 /// Adds the ways of the instruction at a place.
 fn push_place(ways: &mut Vec<Way>, sheet: &Sheet<'_>, place: Place) -> Result<(), OutOfMemory>
-    ensures { OnOk result (ways.new.items ≡ ways.old.items ++ ways.place_ways (sheet_shape sheet.now) place) }
+    ensures { OnOk result (ways.new.items ≡ ways.old.items ++ rules.place_ways (sheet_shape sheet.now) place) }
 {
     let Some(instruction) = sheet.code.part(place.host).get(place.at) else {
         return Ok(());
@@ -49,7 +49,7 @@ fn push_place(ways: &mut Vec<Way>, sheet: &Sheet<'_>, place: Place) -> Result<()
 
 /// What an instruction asks of another host, or of the host of the method that it calls.
 fn asked_by(sheet: &Sheet<'_>, place: Place, instruction: &Instr) -> Option<Way>
-    ensures { result ≡ ways.asked_by (sheet_shape sheet.now) place instruction.now }
+    ensures { result ≡ rules.asked_by (sheet_shape sheet.now) place instruction.now }
 {
     let statement = instruction.statement;
     match &instruction.op {
@@ -70,7 +70,7 @@ fn asked_by(sheet: &Sheet<'_>, place: Place, instruction: &Instr) -> Option<Way>
 
 /// A way that begins or ends on another host than that of the place.
 fn elsewhere(place: Place, way: Way) -> Option<Way>
-    ensures { result ≡ ways.elsewhere place way }
+    ensures { result ≡ rules.elsewhere place way }
 {
     if way.from.0 == way.to.0 {
         None
@@ -81,7 +81,7 @@ fn elsewhere(place: Place, way: Way) -> Option<Way>
 
 /// The value of a field goes to the place.
 fn got(sheet: &Sheet<'_>, place: Place, statement: StmtId, field: FieldId) -> Way
-    ensures { result ≡ ways.got (sheet_shape sheet.now) place statement field }
+    ensures { result ≡ rules.got (sheet_shape sheet.now) place statement field }
 {
     Way {
         kind: WayKind::Get,
@@ -99,7 +99,7 @@ fn got(sheet: &Sheet<'_>, place: Place, statement: StmtId, field: FieldId) -> Wa
 
 /// A value goes to a field.
 fn set(sheet: &Sheet<'_>, place: Place, statement: StmtId, field: FieldId) -> Way
-    ensures { result ≡ ways.set (sheet_shape sheet.now) place statement field }
+    ensures { result ≡ rules.set (sheet_shape sheet.now) place statement field }
 {
     let to = sheet.plan.host_of_field(field);
     let (end, what) = (WayEnd::Field(field), WayText::Field(field));
@@ -114,7 +114,7 @@ fn sent(
     variable: VarId,
     to: HostId,
 ) -> Way
-    ensures { result ≡ ways.sent (sheet_shape sheet.now) place statement variable to }
+    ensures { result ≡ rules.sent (sheet_shape sheet.now) place statement variable to }
 {
     let end = reader_on(sheet.readers, to, variable);
     let what = WayText::Variable(variable);
@@ -123,7 +123,7 @@ fn sent(
 
 /// An entry is pushed on another host.
 fn asked(sheet: &Sheet<'_>, place: Place, statement: StmtId, entry: EntryId, on: HostId) -> Way
-    ensures { result ≡ ways.asked (sheet_shape sheet.now) place statement entry on }
+    ensures { result ≡ rules.asked (sheet_shape sheet.now) place statement entry on }
 {
     let end = door_of(sheet.doors, entry, on);
     going(WayKind::Sync, place, statement, on, end, WayText::Entry(entry))
@@ -138,7 +138,7 @@ fn gone(
     on: HostId,
     rides: bool,
 ) -> Way
-    ensures { result ≡ ways.gone (sheet_shape sheet.now) place statement entry on rides }
+    ensures { result ≡ rules.gone (sheet_shape sheet.now) place statement entry on rides }
 {
     let end = door_of(sheet.doors, entry, on);
     let way = going(WayKind::Go, place, statement, on, end, WayText::Entry(entry));
@@ -154,7 +154,7 @@ fn called(
     on: HostId,
     rides: bool,
 ) -> Way
-    ensures { result ≡ ways.called (sheet_shape sheet.now) place statement entry on rides }
+    ensures { result ≡ rules.called (sheet_shape sheet.now) place statement entry on rides }
 {
     let end = door_of(sheet.doors, entry, on);
     let way = going(WayKind::Go, place, statement, on, end, WayText::Method(entry));
@@ -170,7 +170,7 @@ fn going(
     end: WayEnd,
     what: WayText,
 ) -> Way
-    ensures { result ≡ ways.going kind place statement to end what }
+    ensures { result ≡ rules.going kind place statement to end what }
 {
     Way {
         kind,
@@ -188,7 +188,7 @@ fn going(
 
 /// The same way, with values that ride or without.
 fn riding(way: Way, rides: bool) -> Way
-    ensures { result ≡ ways.riding way rides }
+    ensures { result ≡ rules.riding way rides }
 {
     let mut with = way;
     with.rides = rides;
@@ -203,7 +203,7 @@ fn push_given(
     instruction: &Instr,
 ) -> Result<(), OutOfMemory>
     ensures { OnOk result (ways.new.items
-        ≡ ways.old.items ++ ways.given_by (sheet_shape sheet.now) place instruction.now) }
+        ≡ ways.old.items ++ rules.given_by (sheet_shape sheet.now) place instruction.now) }
 {
     let statement = instruction.statement;
     match &instruction.op {
@@ -222,8 +222,8 @@ fn push_results(
     variable: VarId,
 ) -> Result<(), OutOfMemory>
     ensures { OnOk result (ways.new.items
-        ≡ ways.old.items ++ ways.result_ways (sheet_shape sheet.now) place statement variable
-        (ways.level_of (sheet_shape sheet.now) place)) }
+        ≡ ways.old.items ++ rules.result_ways (sheet_shape sheet.now) place statement variable
+        (rules.level_of (sheet_shape sheet.now) place)) }
 {
     let Some(Level::Body(method)) = level_at(sheet.levels, place.stand) else {
         return Ok(());
@@ -242,7 +242,7 @@ fn result_to(
     variable: VarId,
     entry: EntryId,
 ) -> Option<Way>
-    ensures { result ≡ ways.result_to (sheet_shape sheet.now) place statement variable entry }
+    ensures { result ≡ rules.result_to (sheet_shape sheet.now) place statement variable entry }
 {
     let there = sheet.code.entry(entry)?;
     let end = door_of(sheet.doors, entry, there.host);
@@ -258,8 +258,8 @@ fn push_backs(
     statement: StmtId,
 ) -> Result<(), OutOfMemory>
     ensures { OnOk result (ways.new.items
-        ≡ ways.old.items ++ ways.back_ways (sheet_shape sheet.now) place statement
-        (ways.level_of (sheet_shape sheet.now) place)) }
+        ≡ ways.old.items ++ rules.back_ways (sheet_shape sheet.now) place statement
+        (rules.level_of (sheet_shape sheet.now) place)) }
 {
     match level_at(sheet.levels, place.stand) {
         None => Ok(()),
@@ -279,7 +279,7 @@ fn push_returns(
     method: EntryId,
 ) -> Result<(), OutOfMemory>
     ensures { OnOk result (ways.new.items
-        ≡ ways.old.items ++ ways.return_ways (sheet_shape sheet.now) place statement method) }
+        ≡ ways.old.items ++ rules.return_ways (sheet_shape sheet.now) place statement method) }
 {
     push_kept(ways, end_of_main(sheet, place, statement, method))?;
     for entry in entries_behind(sheet.behind, method) {
@@ -295,7 +295,7 @@ fn end_of_main(
     statement: StmtId,
     method: EntryId,
 ) -> Option<Way>
-    ensures { result ≡ ways.end_of_main (sheet_shape sheet.now) place statement method }
+    ensures { result ≡ rules.end_of_main (sheet_shape sheet.now) place statement method }
 {
     if method.0 == sheet.code.main().0 {
         back_elsewhere(sheet, place, statement, EntryId(0))
@@ -311,14 +311,14 @@ fn back_elsewhere(
     statement: StmtId,
     entry: EntryId,
 ) -> Option<Way>
-    ensures { result ≡ ways.back_elsewhere (sheet_shape sheet.now) place statement entry }
+    ensures { result ≡ rules.back_elsewhere (sheet_shape sheet.now) place statement entry }
 {
     elsewhere(place, back_to(sheet, place, statement, entry)?)
 }
 
 /// The way of the token back to an entry, where there is one.
 fn back_to(sheet: &Sheet<'_>, place: Place, statement: StmtId, entry: EntryId) -> Option<Way>
-    ensures { result ≡ ways.back_to (sheet_shape sheet.now) place statement entry }
+    ensures { result ≡ rules.back_to (sheet_shape sheet.now) place statement entry }
 {
     let there = sheet.code.entry(entry)?;
     let end = door_of(sheet.doors, entry, there.host);
@@ -328,7 +328,7 @@ fn back_to(sheet: &Sheet<'_>, place: Place, statement: StmtId, entry: EntryId) -
 
 /// The entries behind the calls of the method that begins at an entry.
 fn entries_behind(behind: &[Vec<EntryId>], method: EntryId) -> &[EntryId]
-    ensures { result.now ≡ ways.entries_behind (map vec_items behind.now) method }
+    ensures { result.now ≡ rules.entries_behind (map vec_items behind.now) method }
 {
     match behind.get(method.0 as usize) {
         Some(entries) => entries,

@@ -2,7 +2,7 @@
 
 ghost use Rattle.std.specs.Prelude.{◌≡◌, ◌++◌, IfOk, OnOk, length, map};
 ghost use Rattle.jif_tree.specs.Trees.{block_tree, program_tree};
-ghost use Rattle.plan_ways.specs.Lasts as lasts;
+ghost use Rattle.plan_ways.specs.Lasts as inside;
 
 use jif_tree::{Program, Stmt, StmtKind};
 use js_base::{OutOfMemory, StmtId};
@@ -11,7 +11,7 @@ use std::alloc::Global;
 /// For each statement of a program the number of the last one in it, its own where it has no block. The head of a
 /// method is a statement, and its body is inside it. Statements are numbered in the order of the text.
 pub fn lasts_of(alloc: Global, program: &Program) -> Result<Vec<usize>, OutOfMemory>
-    ensures { IfOk result (λ lasts. lasts.items ≡ lasts.lasts_of (program_tree program.now)) }
+    ensures { IfOk result (λ lasts. lasts.items ≡ inside.lasts_of (program_tree program.now)) }
 {
     let mut lasts = Vec::new(alloc);
     for method in &program.methods {
@@ -27,7 +27,7 @@ pub fn lasts_of(alloc: Global, program: &Program) -> Result<Vec<usize>, OutOfMem
 #[cycle(lasts)]
 fn push_block(lasts: &mut Vec<usize>, block: &[Stmt]) -> Result<(), OutOfMemory>
     ensures { OnOk result (lasts.new.items
-        ≡ lasts.old.items ++ lasts.block_lasts (length lasts.old.items) (block_tree block.now)) }
+        ≡ lasts.old.items ++ inside.block_lasts (length lasts.old.items) (block_tree block.now)) }
 {
     for statement in block {
         let own = lasts.len();
@@ -42,7 +42,7 @@ fn push_block(lasts: &mut Vec<usize>, block: &[Stmt]) -> Result<(), OutOfMemory>
 #[cycle(lasts)]
 fn push_nested(lasts: &mut Vec<usize>, what: &StmtKind) -> Result<(), OutOfMemory>
     ensures { OnOk result (lasts.new.items
-        ≡ lasts.old.items ++ lasts.kind_lasts (length lasts.old.items) what.now) }
+        ≡ lasts.old.items ++ inside.kind_lasts (length lasts.old.items) what.now) }
 {
     match what {
         StmtKind::If { guard: _, yes, no } => {
@@ -57,7 +57,7 @@ fn push_nested(lasts: &mut Vec<usize>, what: &StmtKind) -> Result<(), OutOfMemor
 
 /// The heads of the methods.
 pub fn heads_of(alloc: Global, program: &Program) -> Result<Vec<StmtId>, OutOfMemory>
-    ensures { IfOk result (λ heads. heads.items ≡ lasts.heads_of (program_tree program.now)) }
+    ensures { IfOk result (λ heads. heads.items ≡ inside.heads_of (program_tree program.now)) }
 {
     let mut heads = Vec::new(alloc);
     for method in &program.methods {
@@ -68,7 +68,7 @@ pub fn heads_of(alloc: Global, program: &Program) -> Result<Vec<StmtId>, OutOfMe
 
 /// The number of the last statement inside a statement, its own where the table has none.
 pub fn last_in(lasts: &[usize], statement: StmtId) -> usize
-    ensures { result ≡ lasts.last_in lasts.now statement }
+    ensures { result ≡ inside.last_in lasts.now statement }
 {
     match lasts.get(statement.0 as usize) {
         Some(last) => *last,

@@ -1,10 +1,11 @@
 //! Whose token is held at a place, and which entries stand behind the calls of a method.
 
-ghost use Rattle.std.specs.Prelude.{◌≡◌, ◌++◌, ◌∷◌, [], IfOk, OnOk, length, map, replicate, vec_items};
-ghost use Rattle.plan_ways.specs.Levels as levels;
+ghost use Rattle.std.specs.Prelude.{◌≡◌, ◌≤◌, ◌++◌, ◌∷◌, [], IfOk, OnOk, length, map, replicate, vec_items};
+ghost use Rattle.host_code.specs.declared.code.TheConstants.{MOST_ITEMS};
+ghost use Rattle.plan_ways.specs.Levels as holding;
 
 use crate::stands::{Place, Stand, head_at};
-use crate::tables::write;
+use crate::tables::note;
 use host_code::{Code, Instr, Op};
 use js_base::{EntryId, OutOfMemory, StmtId};
 use std::alloc::Global;
@@ -31,7 +32,7 @@ pub fn namings_of(
     code: &Code,
     places: &[Place],
 ) -> Result<Vec<Option<Naming>>, OutOfMemory>
-    ensures { IfOk result (λ table. table.items ≡ levels.namings_of code.now places.now) }
+    ensures { IfOk result (λ table. table.items ≡ holding.namings_of code.now places.now) }
 {
     let mut table = vec![in alloc; None; code.entries().len()]?;
     for place in places {
@@ -42,7 +43,7 @@ pub fn namings_of(
 
 /// Notes which entry the instruction at a place names.
 fn note_naming(table: &mut [Option<Naming>], code: &Code, place: Place)
-    ensures { table.new ≡ levels.with_naming code.now table.old place }
+    ensures { table.new ≡ holding.with_naming code.now table.old place }
 {
     let Some(instruction) = code.part(place.host).get(place.at) else {
         return;
@@ -54,12 +55,12 @@ fn note_naming(table: &mut [Option<Naming>], code: &Code, place: Place)
         statement: instruction.statement,
         stand: place.stand,
     };
-    write(table, entry.0 as usize, Some(naming));
+    note(table, entry.0 as usize, naming);
 }
 
 /// The entry that an instruction pushes or hands control on to.
 fn named_by(op: &Op) -> Option<EntryId>
-    ensures { result ≡ levels.named_by op.now }
+    ensures { result ≡ holding.named_by op.now }
 {
     match op {
         Op::Push(entry) => Some(*entry),
@@ -77,7 +78,7 @@ pub fn levels_of(
     namings: &[Option<Naming>],
 ) -> Result<Vec<Option<Level>>, OutOfMemory>
     requires { length namings.now ≤ MOST_ITEMS }
-    ensures { IfOk result (λ known. known.items ≡ levels.levels_of heads.now namings.now) }
+    ensures { IfOk result (λ known. known.items ≡ holding.levels_of heads.now namings.now) }
 {
     let mut known = Vec::new(alloc);
     for (number, naming) in namings.iter().enumerate() {
@@ -94,7 +95,7 @@ fn entry_level(
     entry: EntryId,
     naming: Option<Naming>,
 ) -> Option<Level>
-    ensures { result ≡ levels.entry_level known.now heads.now entry.0 naming }
+    ensures { result ≡ holding.entry_level known.now heads.now entry.0 naming }
 {
     match head_at(heads, entry) {
         Some(_) => Some(Level::Body(entry)),
@@ -104,7 +105,7 @@ fn entry_level(
 
 /// Whose token is held where control stands, where this is known of the entries.
 pub fn level_at(known: &[Option<Level>], stand: Stand) -> Option<Level>
-    ensures { result ≡ levels.level_at known.now stand }
+    ensures { result ≡ holding.level_at known.now stand }
 {
     match stand.pushed {
         Some(entry) => Some(Level::Under(entry)),
@@ -118,7 +119,7 @@ pub fn behind_calls(
     code: &Code,
     places: &[Place],
 ) -> Result<Vec<Vec<EntryId>>, OutOfMemory>
-    ensures { IfOk result (λ behind. map vec_items behind.items ≡ levels.behind_calls code.now places.now) }
+    ensures { IfOk result (λ behind. map vec_items behind.items ≡ holding.behind_calls code.now places.now) }
 {
     let mut behind = empty_lists(alloc, code.entries().len())?;
     for place in places {
@@ -141,7 +142,7 @@ fn empty_lists(alloc: Global, count: usize) -> Result<Vec<Vec<EntryId>>, OutOfMe
 /// Notes the entry behind the call at a place.
 fn note_call(behind: &mut Vec<Vec<EntryId>>, code: &Code, place: Place) -> Result<(), OutOfMemory>
     ensures { OnOk result (map vec_items behind.new.items
-        ≡ levels.with_call code.now (map vec_items behind.old.items) place) }
+        ≡ holding.with_call code.now (map vec_items behind.old.items) place) }
 {
     let Some(instruction) = code.part(place.host).get(place.at) else {
         return Ok(());
@@ -162,7 +163,7 @@ fn push_behind(
     entry: EntryId,
 ) -> Result<(), OutOfMemory>
     ensures { OnOk result (map vec_items behind.new.items
-        ≡ levels.pushed_behind (map vec_items behind.old.items) method entry) }
+        ≡ holding.pushed_behind (map vec_items behind.old.items) method entry) }
 {
     let place = method.0 as usize;
     if place < behind.len() {
@@ -181,7 +182,7 @@ fn push_to(list: &mut Vec<EntryId>, entry: EntryId) -> Result<(), OutOfMemory>
 
 /// The entry of the method that an instruction calls.
 fn called_by(op: &Op) -> Option<EntryId>
-    ensures { result ≡ levels.called_by op.now }
+    ensures { result ≡ holding.called_by op.now }
 {
     match op {
         Op::Call(method, _) => Some(*method),

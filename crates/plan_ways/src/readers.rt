@@ -1,9 +1,10 @@
 //! Which statement of a host reads a variable first.
 
 ghost use Rattle.std.specs.Prelude.{◌≡◌, IfOk, map, vec_items};
-ghost use Rattle.plan_ways.specs.Readers as readers;
+ghost use Rattle.plan_ways.specs.Readers as reading;
 
 use crate::ends::WayEnd;
+use crate::tables::note;
 use host_code::{Code, Instr, Node, Op};
 use js_base::limits::HOSTS;
 use js_base::{HostId, OutOfMemory, StmtId, VarId};
@@ -11,7 +12,7 @@ use std::alloc::Global;
 
 /// For each host and each variable the statement whose instructions there read it first.
 pub fn readers_of(alloc: Global, code: &Code) -> Result<Vec<Vec<Option<StmtId>>>, OutOfMemory>
-    ensures { IfOk result (λ readers. map vec_items readers.items ≡ readers.readers_of code.now) }
+    ensures { IfOk result (λ readers. map vec_items readers.items ≡ reading.readers_of code.now) }
 {
     let mut readers = Vec::new(alloc);
     let count = code.hosts().len();
@@ -24,7 +25,7 @@ pub fn readers_of(alloc: Global, code: &Code) -> Result<Vec<Vec<Option<StmtId>>>
 
 /// The same of one host.
 fn readers_on(alloc: Global, code: &Code, host: HostId) -> Result<Vec<Option<StmtId>>, OutOfMemory>
-    ensures { IfOk result (λ table. table.items ≡ readers.readers_on code.now host) }
+    ensures { IfOk result (λ table. table.items ≡ reading.readers_on code.now host) }
 {
     let mut table = vec![in alloc; None; code.vars().len()]?;
     for instruction in code.part(host) {
@@ -35,7 +36,7 @@ fn readers_on(alloc: Global, code: &Code, host: HostId) -> Result<Vec<Option<Stm
 
 /// Notes what the expressions of an instruction read.
 fn note_instruction(table: &mut [Option<StmtId>], instruction: &Instr)
-    ensures { table.new ≡ readers.with_instruction table.old instruction.now }
+    ensures { table.new ≡ reading.with_instruction table.old instruction.now }
 {
     let statement = instruction.statement;
     match &instruction.op {
@@ -54,7 +55,7 @@ fn note_instruction(table: &mut [Option<StmtId>], instruction: &Instr)
 
 /// Notes what these nodes of an expression of a statement read.
 fn note_nodes(table: &mut [Option<StmtId>], statement: StmtId, nodes: &[Node])
-    ensures { table.new ≡ readers.with_nodes table.old statement nodes.now }
+    ensures { table.new ≡ reading.with_nodes table.old statement nodes.now }
 {
     for node in nodes {
         note_node(table, statement, *node);
@@ -63,20 +64,17 @@ fn note_nodes(table: &mut [Option<StmtId>], statement: StmtId, nodes: &[Node])
 
 /// Notes the variable that a node reads, where none before did.
 fn note_node(table: &mut [Option<StmtId>], statement: StmtId, node: Node)
-    ensures { table.new ≡ readers.with_node table.old statement node }
+    ensures { table.new ≡ reading.with_node table.old statement node }
 {
     let Node::Var(variable) = node else {
         return;
     };
-    let place = variable.0 as usize;
-    if let Some(None) = table.get(place) {
-        table[place] = Some(statement);
-    }
+    note(table, variable.0 as usize, statement);
 }
 
 /// Where a host takes a variable: at the statement that reads it first, at the host's name where none does.
 pub fn reader_on(readers: &[Vec<Option<StmtId>>], host: HostId, variable: VarId) -> WayEnd
-    ensures { result ≡ readers.reader_on (map vec_items readers.now) host variable }
+    ensures { result ≡ reading.reader_on (map vec_items readers.now) host variable }
 {
     match readers.get(host.0 as usize) {
         Some(table) => reader_in(table, host, variable),
@@ -86,7 +84,7 @@ pub fn reader_on(readers: &[Vec<Option<StmtId>>], host: HostId, variable: VarId)
 
 /// The same, by the table of the host.
 fn reader_in(table: &[Option<StmtId>], host: HostId, variable: VarId) -> WayEnd
-    ensures { result ≡ readers.reader_in table.now host variable }
+    ensures { result ≡ reading.reader_in table.now host variable }
 {
     match table.get(variable.0 as usize) {
         Some(Some(statement)) => WayEnd::Statement(*statement),

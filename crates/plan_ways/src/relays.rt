@@ -1,14 +1,14 @@
 //! Relays: the entries at which control only passes, and where their rows stand.
 
 ghost use Rattle.std.specs.Prelude.{◌≡◌, ◌++◌, IfOk, OnOk, length};
-ghost use Rattle.plan_ways.specs.Relays as relays;
+ghost use Rattle.plan_ways.specs.Relays as rows;
 ghost use Rattle.plan_ways.specs.Relays.{row_shape};
 
 use crate::ends::{Way, WayEnd};
 use crate::lasts::last_in;
 use crate::levels::{Level, Naming, level_at};
 use crate::stands::{Place, door_of};
-use crate::tables::write;
+use crate::tables::{note, write};
 use host_code::{Code, Entry, Op};
 use js_base::{EntryId, HostId, OutOfMemory, StmtId};
 use std::alloc::Global;
@@ -53,7 +53,7 @@ pub fn relays_of(
     spots: &mut [usize],
 ) -> Result<Vec<Relay>, OutOfMemory>
     ensures { IfOk result (λ found. found.items
-        ≡ relays.relays_below (row_shape sheet.now) (length sheet.now.code.now.entries) spots.old) }
+        ≡ rows.relays_below (row_shape sheet.now) (length sheet.now.code.now.entries) spots.old) }
 {
     let mut found = Vec::new(alloc);
     let count = sheet.code.entries().len();
@@ -73,7 +73,7 @@ fn push_relay(
     entry: EntryId,
 ) -> Result<(), OutOfMemory>
     ensures { OnOk result (found.new.items
-        ≡ found.old.items ++ relays.relay_at (row_shape sheet.now) spots.now entry) }
+        ≡ found.old.items ++ rows.relay_at (row_shape sheet.now) spots.now entry) }
 {
     if !is_marked(sheet.marks, entry) {
         return Ok(());
@@ -87,7 +87,7 @@ fn push_relay(
 
 /// Whether a way begins or ends at an entry.
 fn is_marked(marks: &[bool], entry: EntryId) -> bool
-    ensures { result ≡ relays.is_marked marks.now entry }
+    ensures { result ≡ rows.is_marked marks.now entry }
 {
     match marks.get(entry.0 as usize) {
         Some(mark) => *mark,
@@ -97,7 +97,7 @@ fn is_marked(marks: &[bool], entry: EntryId) -> bool
 
 /// The relay of an entry.
 fn relay_of(sheet: &RelaySheet<'_>, spots: &[usize], entry: EntryId, there: Entry) -> Relay
-    ensures { result ≡ relays.relay_of (row_shape sheet.now) spots.now entry there }
+    ensures { result ≡ rows.relay_of (row_shape sheet.now) spots.now entry there }
 {
     Relay {
         entry,
@@ -110,7 +110,7 @@ fn relay_of(sheet: &RelaySheet<'_>, spots: &[usize], entry: EntryId, there: Entr
 
 /// The statement of the instruction that names an entry.
 fn naming_statement(namings: &[Option<Naming>], entry: EntryId) -> StmtId
-    ensures { result ≡ relays.naming_statement namings.now entry }
+    ensures { result ≡ rows.naming_statement namings.now entry }
 {
     match namings.get(entry.0 as usize) {
         Some(Some(naming)) => naming.statement,
@@ -120,7 +120,7 @@ fn naming_statement(namings: &[Option<Naming>], entry: EntryId) -> StmtId
 
 /// What a host does at an entry.
 fn role_of(code: &Code, entry: EntryId, there: Entry) -> RelayRole
-    ensures { result ≡ relays.role_of code.now entry there }
+    ensures { result ≡ rows.role_of code.now entry there }
 {
     if entry.0 == 0 {
         return RelayRole::End;
@@ -133,7 +133,7 @@ fn role_of(code: &Code, entry: EntryId, there: Entry) -> RelayRole
 
 /// What a host does at an entry with this instruction.
 fn role_by(op: &Op) -> RelayRole
-    ensures { result ≡ relays.role_by op.now }
+    ensures { result ≡ rows.role_by op.now }
 {
     match op {
         Op::Back => RelayRole::GivesBack,
@@ -143,7 +143,7 @@ fn role_by(op: &Op) -> RelayRole
 
 /// Where the row of an entry stands, as far as it is known.
 fn spot_at(spots: &[usize], entry: EntryId) -> usize
-    ensures { result ≡ relays.spot_at spots.now entry }
+    ensures { result ≡ rows.spot_at spots.now entry }
 {
     match spots.get(entry.0 as usize) {
         Some(spot) => *spot,
@@ -153,7 +153,7 @@ fn spot_at(spots: &[usize], entry: EntryId) -> usize
 
 /// The row of an entry stands behind this statement, or behind a greater one.
 fn raise(spots: &mut [usize], entry: EntryId, statement: usize)
-    ensures { spots.new ≡ relays.raised spots.old entry statement }
+    ensures { spots.new ≡ rows.raised spots.old entry statement }
 {
     if spot_at(spots, entry) < statement {
         write(spots, entry.0 as usize, statement);
@@ -162,7 +162,7 @@ fn raise(spots: &mut [usize], entry: EntryId, statement: usize)
 
 /// An entry that gives the token of another back at once stands no further down than that one.
 fn hand_down(handed: &[Option<EntryId>], spots: &mut [usize], entry: EntryId)
-    ensures { spots.new ≡ relays.handed_down handed.now spots.old entry }
+    ensures { spots.new ≡ rows.handed_down handed.now spots.old entry }
 {
     if let Some(Some(to)) = handed.get(entry.0 as usize) {
         let spot = spot_at(spots, entry);
@@ -182,7 +182,7 @@ pub fn spots_of(
     places: &[Place],
 ) -> Result<Vec<usize>, OutOfMemory>
     ensures { IfOk result (λ spots. spots.items
-        ≡ relays.spots_of code.now doors.now lasts.now namings.now levels.now places.now) }
+        ≡ rows.spots_of code.now doors.now lasts.now namings.now levels.now places.now) }
 {
     let mut spots = naming_spots(alloc, namings)?;
     write(&mut spots, 0, end_spot(code, doors, lasts));
@@ -194,7 +194,7 @@ pub fn spots_of(
 
 /// The statements of the instructions that name entries.
 fn naming_spots(alloc: Global, namings: &[Option<Naming>]) -> Result<Vec<usize>, OutOfMemory>
-    ensures { IfOk result (λ spots. spots.items ≡ relays.naming_spots namings.now) }
+    ensures { IfOk result (λ spots. spots.items ≡ rows.naming_spots namings.now) }
 {
     let mut spots = Vec::new(alloc);
     for naming in namings {
@@ -205,7 +205,7 @@ fn naming_spots(alloc: Global, namings: &[Option<Naming>]) -> Result<Vec<usize>,
 
 /// The statement of an instruction that names an entry.
 fn naming_spot(naming: Option<Naming>) -> usize
-    ensures { result ≡ relays.naming_spot naming }
+    ensures { result ≡ rows.naming_spot naming }
 {
     match naming {
         Some(naming) => naming.statement.0 as usize,
@@ -215,7 +215,7 @@ fn naming_spot(naming: Option<Naming>) -> usize
 
 /// The last statement of `main`.
 fn end_spot(code: &Code, doors: &[WayEnd], lasts: &[usize]) -> usize
-    ensures { result ≡ relays.end_spot code.now doors.now lasts.now }
+    ensures { result ≡ rows.end_spot code.now doors.now lasts.now }
 {
     match door_of(doors, code.main(), code.root()) {
         WayEnd::Statement(head) => last_in(lasts, head),
@@ -231,7 +231,7 @@ fn note_back(
     levels: &[Option<Level>],
     place: Place,
 )
-    ensures { spots.new ≡ relays.with_back code.now lasts.now levels.now spots.old place }
+    ensures { spots.new ≡ rows.with_back code.now lasts.now levels.now spots.old place }
 {
     let Some(entry) = given_back(code, levels, place) else {
         return;
@@ -243,7 +243,7 @@ fn note_back(
 
 /// The entry whose token is given back at a place.
 fn given_back(code: &Code, levels: &[Option<Level>], place: Place) -> Option<EntryId>
-    ensures { result ≡ relays.given_back code.now levels.now place }
+    ensures { result ≡ rows.given_back code.now levels.now place }
 {
     let instruction = code.part(place.host).get(place.at)?;
     given_by(&instruction.op, level_at(levels, place.stand))
@@ -251,7 +251,7 @@ fn given_back(code: &Code, levels: &[Option<Level>], place: Place) -> Option<Ent
 
 /// The entry whose token an instruction gives back, where this token is held.
 fn given_by(op: &Op, level: Option<Level>) -> Option<EntryId>
-    ensures { result ≡ relays.given_by op.now level }
+    ensures { result ≡ rows.given_by op.now level }
 {
     match op {
         Op::Back => under(level),
@@ -261,7 +261,7 @@ fn given_by(op: &Op, level: Option<Level>) -> Option<EntryId>
 
 /// The entry whose token is held, where it is that of an entry.
 fn under(level: Option<Level>) -> Option<EntryId>
-    ensures { result ≡ relays.under level }
+    ensures { result ≡ rows.under level }
 {
     match level {
         Some(Level::Under(entry)) => Some(entry),
@@ -276,7 +276,7 @@ pub fn handed_of(
     levels: &[Option<Level>],
     places: &[Place],
 ) -> Result<Vec<Option<EntryId>>, OutOfMemory>
-    ensures { IfOk result (λ handed. handed.items ≡ relays.handed_of code.now levels.now places.now) }
+    ensures { IfOk result (λ handed. handed.items ≡ rows.handed_of code.now levels.now places.now) }
 {
     let mut handed = vec![in alloc; None; code.entries().len()]?;
     for place in places {
@@ -292,19 +292,19 @@ fn note_handed(
     levels: &[Option<Level>],
     place: Place,
 )
-    ensures { handed.new ≡ relays.with_handed code.now levels.now handed.old place }
+    ensures { handed.new ≡ rows.with_handed code.now levels.now handed.old place }
 {
     let Some(entry) = given_back(code, levels, place) else {
         return;
     };
     if let WayEnd::Relay(relay) = place.stand.station {
-        write(handed, relay.0 as usize, Some(entry));
+        note(handed, relay.0 as usize, entry);
     }
 }
 
 /// At which of so many entries a way begins or ends.
 pub fn marks_of(alloc: Global, count: usize, ways: &[Way]) -> Result<Vec<bool>, OutOfMemory>
-    ensures { IfOk result (λ marks. marks.items ≡ relays.marks_of count ways.now) }
+    ensures { IfOk result (λ marks. marks.items ≡ rows.marks_of count ways.now) }
 {
     let mut marks = vec![in alloc; false; count]?;
     for way in ways {
@@ -316,7 +316,7 @@ pub fn marks_of(alloc: Global, count: usize, ways: &[Way]) -> Result<Vec<bool>, 
 
 /// Marks the entry at which a way begins or ends.
 fn mark(marks: &mut [bool], end: WayEnd)
-    ensures { marks.new ≡ relays.with_end marks.old end }
+    ensures { marks.new ≡ rows.with_end marks.old end }
 {
     if let WayEnd::Relay(entry) = end {
         write(marks, entry.0 as usize, true);

@@ -1,10 +1,10 @@
 //! Where control stands at each place of the code, and which entry was pushed last on the way there.
 
-ghost use Rattle.std.specs.Prelude.{◌≡◌, ◌++◌, IfOk, OnOk, Some};
+ghost use Rattle.std.specs.Prelude.{◌≡◌, ◌++◌, IfOk, OnOk, None, option_copied};
 ghost use Rattle.plan_ways.specs.Stands as stands;
 
 use crate::ends::WayEnd;
-use crate::tables::write;
+use crate::tables::{note, write};
 use host_code::{Code, Entry, Instr, Op};
 use js_base::limits::HOSTS;
 use js_base::{EntryId, HostId, OutOfMemory, StmtId};
@@ -64,11 +64,11 @@ fn push_part(
     part: &[Instr],
 ) -> Result<(), OutOfMemory>
     ensures { OnOk result (places.new.items ≡ places.old.items
-        ++ stands.places_from host 0 arrivals.old (stands.first_stand host) part.now) }
+        ++ stands.places_from host 0 arrivals.old None part.now) }
 {
-    let mut before = first_stand(host);
+    let mut before = None;
     for (at, instruction) in part.iter().enumerate() {
-        let stand = stood(arrived(arrivals, at, before), instruction);
+        let stand = stood(arrived(arrivals, host, at, before), instruction);
         places.push(Place { host, at, stand })?;
         land(arrivals, stand, &instruction.op);
         before = passed(stand, &instruction.op);
@@ -76,7 +76,7 @@ fn push_part(
     Ok(())
 }
 
-/// Before the first instruction of a host.
+/// Where nothing is known of the way to a place of a host.
 fn first_stand(host: HostId) -> Stand
     ensures { result ≡ stands.first_stand host }
 {
@@ -87,13 +87,24 @@ fn first_stand(host: HostId) -> Stand
     }
 }
 
-/// What is known of the way to a place: that of its arrival, or of the place before it.
-fn arrived(arrivals: &[Option<Stand>], at: usize, before: Stand) -> Stand
-    ensures { result ≡ stands.arrived arrivals.now at before }
+/// How control comes to a place of a host: from the place before it, where that leads on, and otherwise through an
+/// entry or a branch.
+fn arrived(arrivals: &[Option<Stand>], host: HostId, at: usize, before: Option<Stand>) -> Stand
+    ensures { result ≡ stands.arrived arrivals.now host at before }
+{
+    match before {
+        Some(stand) => stand,
+        None => entered_at(arrivals, host, at),
+    }
+}
+
+/// How control comes to a place of a host to which the one before it does not lead.
+fn entered_at(arrivals: &[Option<Stand>], host: HostId, at: usize) -> Stand
+    ensures { result ≡ stands.entered_at arrivals.now host at }
 {
     match arrivals.get(at) {
         Some(Some(stand)) => *stand,
-        _ => before,
+        _ => first_stand(host),
     }
 }
 
@@ -131,14 +142,19 @@ fn is_moving(op: &Op) -> bool
     }
 }
 
-/// Behind an instruction.
-fn passed(here: Stand, op: &Op) -> Stand
+/// Behind an instruction, where that leads on to the next place.
+fn passed(here: Stand, op: &Op) -> Option<Stand>
     ensures { result ≡ stands.passed here op.now }
 {
     match op {
-        Op::Push(entry) => with_pushed(here, *entry),
-        Op::Ask(entry, _) => with_pushed(here, *entry),
-        _ => here,
+        Op::Push(entry) => Some(with_pushed(here, *entry)),
+        Op::Ask(entry, _) => Some(with_pushed(here, *entry)),
+        Op::Go(_, _) => None,
+        Op::GoWith(_, _, _) => None,
+        Op::Call(_, _) => None,
+        Op::CallWith(_, _, _) => None,
+        Op::Back => None,
+        _ => Some(here),
     }
 }
 
@@ -179,7 +195,7 @@ fn arrivals_of(
     Ok(table)
 }
 
-/// Notes an entry at its place, where it is one of the host and does not end the program.
+/// Notes an entry at its place, where it is one of the host, does not end the program, and none before it is there.
 fn enter(
     table: &mut [Option<Stand>],
     doors: &[WayEnd],
@@ -200,7 +216,7 @@ fn enter(
         entrance: entry,
         pushed: None,
     };
-    write(table, there.at as usize, Some(stand));
+    note(table, there.at as usize, stand);
 }
 
 /// Where control stands at an entry of a host, at the host's name where there is no such entry.
@@ -235,9 +251,29 @@ fn door_at(code: &Code, heads: &[StmtId], entry: EntryId, there: Entry) -> WayEn
     if let Some(head) = head_at(heads, entry) {
         return WayEnd::Statement(head);
     }
-    match code.instruction(there.host, there.at) {
+    match first_done(code.part(there.host), there.at as usize) {
         Some(instruction) => station_at(passing, instruction),
         None => passing,
+    }
+}
+
+/// The first instruction from a place on that is no push.
+fn first_done(part: &[Instr], at: usize) -> Option<&Instr>
+    ensures { option_copied result ≡ stands.first_done part.now at }
+{
+    if part.len() < at {
+        return None;
+    }
+    part[at..].iter().find(|instruction| is_done(&instruction.op))
+}
+
+/// Whether an instruction does more than to push an entry on its own host.
+fn is_done(op: &Op) -> bool
+    ensures { result ≡ stands.is_done op.now }
+{
+    match op {
+        Op::Push(_) => false,
+        _ => true,
     }
 }
 
