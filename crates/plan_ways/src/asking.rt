@@ -228,7 +228,8 @@ fn push_results(
     let Some(Level::Body(method)) = level_at(sheet.levels, place.stand) else {
         return Ok(());
     };
-    for entry in entries_behind(sheet.behind, method) {
+    let entries = entries_behind(sheet.behind, method);
+    for entry in entries {
         push_kept(ways, result_to(sheet, place, statement, variable, *entry))?;
     }
     Ok(())
@@ -282,7 +283,8 @@ fn push_returns(
         ≡ ways.old.items ++ rules.return_ways (sheet_shape sheet.now) place statement method) }
 {
     push_kept(ways, end_of_main(sheet, place, statement, method))?;
-    for entry in entries_behind(sheet.behind, method) {
+    let entries = entries_behind(sheet.behind, method);
+    for entry in entries {
         push_kept(ways, back_to(sheet, place, statement, *entry))?;
     }
     Ok(())

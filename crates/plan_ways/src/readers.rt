@@ -28,7 +28,8 @@ fn readers_on(alloc: Global, code: &Code, host: HostId) -> Result<Vec<Option<Stm
     ensures { IfOk result (λ table. table.items ≡ reading.readers_on code.now host) }
 {
     let mut table = vec![in alloc; None; code.vars().len()]?;
-    for instruction in code.part(host) {
+    let part = code.part(host);
+    for instruction in part {
         note_instruction(&mut table, instruction);
     }
     Ok(table)

@@ -189,7 +189,8 @@ fn arrivals_of(
     ensures { IfOk result (λ table. table.items ≡ stands.arrivals_of code.now doors.now host) }
 {
     let mut table = vec![in alloc; None; code.part(host).len()]?;
-    for (number, there) in code.entries().iter().enumerate() {
+    let entries = code.entries();
+    for (number, there) in entries.iter().enumerate() {
         enter(&mut table, doors, host, EntryId(number as u32), *there);
     }
     Ok(table)
@@ -234,7 +235,8 @@ pub fn doors_of(alloc: Global, code: &Code, heads: &[StmtId]) -> Result<Vec<WayE
     ensures { IfOk result (λ doors. doors.items ≡ stands.doors_of code.now heads.now) }
 {
     let mut doors = Vec::new(alloc);
-    for (number, there) in code.entries().iter().enumerate() {
+    let entries = code.entries();
+    for (number, there) in entries.iter().enumerate() {
         doors.push(door_at(code, heads, EntryId(number as u32), *there))?;
     }
     Ok(doors)

@@ -177,7 +177,8 @@ fn push_variables(text: &mut String, code: &Code, riders: &RiderVars) -> Result<
     ensures { OnOk result (string_bytes text.new ≡ string_bytes text.old ++ tips.with_text code.now riders.now) }
 {
     text.push_str(" with")?;
-    for variable in riders.vars() {
+    let riders = riders.vars();
+    for variable in riders {
         text.push_str(" ")?;
         text.push_str(var_name(code, *variable))?;
     }
