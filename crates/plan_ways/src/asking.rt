@@ -7,7 +7,7 @@ ghost use Rattle.plan_ways.specs.Ways.{sheet_shape};
 use crate::ends::{Way, WayEnd, WayKind, WayText, push_kept};
 use crate::levels::{Level, level_at};
 use crate::readers::reader_on;
-use crate::stands::{Place, door_of};
+use crate::stands::{Place, door_of, instruction_there};
 use host_code::{Code, Entry, Instr, Op};
 use js_base::{EntryId, FieldId, HostId, OutOfMemory, StmtId, VarId};
 use need_labels::Plan;
@@ -40,11 +40,12 @@ pub fn ways_at(alloc: Global, sheet: &Sheet<'_>, places: &[Place]) -> Result<Vec
 fn push_place(ways: &mut Vec<Way>, sheet: &Sheet<'_>, place: Place) -> Result<(), OutOfMemory>
     ensures { OnOk result (ways.new.items ≡ ways.old.items ++ rules.place_ways (sheet_shape sheet.now) place) }
 {
-    let Some(instruction) = sheet.code.part(place.host).get(place.at) else {
+    let Some(instruction) = instruction_there(sheet.code, place) else {
         return Ok(());
     };
     push_kept(ways, asked_by(sheet, place, instruction))?;
-    push_given(ways, sheet, place, instruction)
+    push_given(ways, sheet, place, instruction)?;
+    Ok(())
 }
 
 /// What an instruction asks of another host, or of the host of the method that it calls.

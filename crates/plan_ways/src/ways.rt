@@ -94,7 +94,8 @@ fn ways_by(
         behind: &behind,
         readers: &readers,
     };
-    ways_at(alloc, &sheet, &known.places)
+    let found = ways_at(alloc, &sheet, &known.places)?;
+    Ok(found)
 }
 
 /// The relays, by what is known and by the ways.
@@ -125,5 +126,6 @@ fn relays_by(
         &known.levels,
         &known.places,
     )?;
-    relays_of(alloc, &sheet, &mut spots)
+    let found = relays_of(alloc, &sheet, &mut spots)?;
+    Ok(found)
 }
