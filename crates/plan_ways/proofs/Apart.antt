@@ -1,10 +1,9 @@
 -- No way begins and ends in one row.
-use Rattle.std.proofs.Common.{◌≡◌, ◌≢◌, List, [], ◌∷◌, ◌++◌, Option, Some, None, All, Bool, refl, sym, ◌∙◌, ap, eq-eqb}
+use Rattle.std.proofs.Common.{◌≡◌, ◌≢◌, List, [], ◌∷◌, Option, Some, None, All, Bool, refl, sym, ◌∙◌, ap, eq-eqb}
 use Rattle.std.specs.Prelude.{if◌then◌else◌, true, false}
 use Rattle.std.specs.List.{flat_map}
 use Rattle.std.proofs.lemmas.Bool.{false≢true}
 use Rattle.std.proofs.lemmas.List.Elements.{All-nil, All-cons, All-append}
-use Rattle.js_base.specs.declared.ids.EntryId.{EntryId}
 use Rattle.js_base.specs.declared.ids.StmtId.{StmtId}
 use Rattle.js_base.specs.declared.ids.VarId.{VarId}
 use Rattle.host_code.specs.Code.{instruction_at}
@@ -14,7 +13,7 @@ use Rattle.host_code.specs.declared.instruction.Op.TheVariants as op
 use Rattle.plan_ways.specs.Ends.{is_same_end, kept}
 use Rattle.plan_ways.specs.Ways.{SheetShape, asked_by, back_elsewhere, back_to, back_ways, end_of_main}
 use Rattle.plan_ways.specs.Ways.{entries_behind, given_by, given_of, instruction_ways, level_of, place_ways}
-use Rattle.plan_ways.specs.Ways.{result_to, result_ways, return_ways, ways_at}
+use Rattle.plan_ways.specs.Ways.{result_to, result_ways, ways_at}
 use Rattle.plan_ways.specs.declared.ends.Way.{Way}
 use Rattle.plan_ways.specs.declared.ends.WayEnd.{WayEnd}
 use Rattle.plan_ways.specs.declared.ends.WayEnd.TheVariants as end

@@ -11,20 +11,19 @@ use Rattle.js_base.specs.declared.ids.EntryId.{EntryId}
 use Rattle.js_base.specs.declared.ids.HostId.{HostId}
 use Rattle.js_base.specs.declared.ids.StmtId.{StmtId}
 use Rattle.js_base.specs.declared.ids.VarId.{VarId}
-use Rattle.host_code.specs.Code.{CodeShape, entry_at, halt, instruction_at, part_of}
+use Rattle.host_code.specs.Code.{entry_at, halt, instruction_at, part_of}
 use Rattle.host_code.specs.declared.code.Entry.{Entry}
 use Rattle.host_code.specs.declared.instruction.Instr.{Instr}
 use Rattle.host_code.specs.declared.instruction.Op.{Op}
 use Rattle.host_code.specs.declared.instruction.Op.TheVariants as op
-use Rattle.need_labels.specs.Plan.{PlanShape}
 use Rattle.plan_ways.specs.Asks.{Request, apart, asked_at, asked_there, asked_ways, code_requests, is_asked, listed}
 use Rattle.plan_ways.specs.Asks.{request_of, requests_from, requests_of, requests_on}
 use Rattle.plan_ways.specs.Ends.{is_same_end, kept}
 use Rattle.plan_ways.specs.Stands.{arrivals_of, code_places, landed, passed, places_from, places_on, standing}
 use Rattle.plan_ways.specs.Ways.{SheetShape, asked, asked_by, asked_of, back_at, back_elsewhere, back_if_elsewhere}
-use Rattle.plan_ways.specs.Ways.{back_to, back_ways, called, elsewhere, end_of_main, entries_behind, given_by, given_of}
-use Rattle.plan_ways.specs.Ways.{going, gone, got, instruction_ways, level_of, place_ways, result_at, result_to}
-use Rattle.plan_ways.specs.Ways.{result_ways, return_ways, sent, set, ways_at}
+use Rattle.plan_ways.specs.Ways.{back_to, back_ways, elsewhere, end_of_main, entries_behind, given_by, given_of}
+use Rattle.plan_ways.specs.Ways.{gone, got, instruction_ways, level_of, place_ways, result_at, result_to}
+use Rattle.plan_ways.specs.Ways.{result_ways, sent, set, ways_at}
 use Rattle.plan_ways.specs.declared.ends.Way.{Way}
 use Rattle.plan_ways.specs.declared.ends.WayEnd.{WayEnd}
 use Rattle.plan_ways.specs.declared.levels.Level.{Level}

@@ -8,7 +8,6 @@ use Rattle.js_base.specs.declared.ids.StmtId.{StmtId}
 use Rattle.jif_tree.proofs.Rows.{if_tree, while_tree}
 use Rattle.jif_tree.specs.Trees.{BlockTree, Heading, done, set_local, set_field, set_element, branch, loop, call}
 use Rattle.jif_tree.specs.Trees.{give_back, MethodTree, block_tree, head_of, method_tree, row_tree, statement_tree}
-use Rattle.jif_tree.specs.Trees.{tree_before}
 use Rattle.jif_tree.specs.declared.program.Expr.{Expr}
 use Rattle.jif_tree.specs.declared.program.Method.{Method}
 use Rattle.jif_tree.specs.declared.program.Stmt.{Stmt}
@@ -61,8 +60,13 @@ first_lasts n k (kind.If' guard m first l second) heading rest is =
     let one = block_lasts (n + 1) (row_tree first) in
     let two = block_lasts (n + 1 + size_of (row_tree first)) (row_tree second) in
     let same : size_of (row_tree first) + size_of (row_tree second) ≡ k =
-    omega (arith, is, length-append one two, length_lasts (n + 1) (row_tree first),
-    length_lasts (n + 1 + size_of (row_tree first)) (row_tree second)) in
+    omega (
+      arith,
+      is,
+      length-append one two,
+      length_lasts (n + 1) (row_tree first),
+      length_lasts (n + 1 + size_of (row_tree first)) (row_tree second),
+    ) in
     ap (λ (s : ℕ). (n + s) ∷ ((one ++ two) ++ block_lasts (n + 1 + s) rest)) same
 first_lasts n k (kind.While' guard m body) heading rest is =
     let same : size_of (row_tree body) ≡ k = omega (arith, is, length_lasts (n + 1) (row_tree body)) in

@@ -1,5 +1,5 @@
 -- The ways at one more place.
-use Rattle.std.proofs.Common.{◌≡◌, List, [], ◌++◌, Option, Some, None, ap, sym, ◌∙◌}
+use Rattle.std.proofs.Common.{◌≡◌, List, ◌++◌, Option, Some, None, ap, sym, ◌∙◌}
 use Rattle.std.proofs.lemmas.List.{append-nil}
 use Rattle.host_code.specs.declared.instruction.Instr.{Instr}
 use Rattle.plan_ways.specs.Ends.{kept}

@@ -1,8 +1,8 @@
 -- Each entry at which a way begins or ends has one relay.
-use Rattle.std.proofs.Common.{◌≡◌, ◌≢◌, ℕ, zero, suc, ◌+◌, ◌<◌, ◌≤◌, List, [], ◌∷◌, ◌++◌, Option, Some, None, Bool, refl}
+use Rattle.std.proofs.Common.{◌≡◌, ◌≢◌, ℕ, zero, suc, ◌+◌, ◌<◌, ◌≤◌, List, [], ◌∷◌, Option, Some, Bool, refl}
 use Rattle.std.proofs.Common.{sym, ◌∙◌, ap, arith, get_or, length, replicate}
 use Rattle.std.specs.Prelude.{◌==◌, ◌||◌, ◌&&◌, false, if◌then◌else◌, nat_lt, slice_set, true}
-use Rattle.std.specs.List.{count_by, sum_by}
+use Rattle.std.specs.List.{count_by}
 use Rattle.std.proofs.lemmas.Bool.{eqb-false, eqb-true, ltb-true}
 use Rattle.std.proofs.lemmas.Bool.Decides.{nat_tests}
 use Rattle.std.proofs.lemmas.List.{get_or-replicate, get_or-set_other, get_or-set_same, length-replicate, length-set}
@@ -12,8 +12,8 @@ use Rattle.std.proofs.Math.Path.{ap₂}
 use Rattle.js_base.specs.declared.ids.EntryId.{EntryId}
 use Rattle.host_code.specs.Code.{entry_at}
 use Rattle.host_code.specs.declared.code.Entry.{Entry}
-use Rattle.plan_ways.specs.Marked.{is_at, is_of, is_touched, touches}
-use Rattle.plan_ways.specs.Relays.{RowShape, handed_down, is_marked, marks_of, relay_at, relay_of, relay_there}
+use Rattle.plan_ways.specs.Marked.{is_at, is_of, is_touched}
+use Rattle.plan_ways.specs.Relays.{RowShape, handed_down, is_marked, marks_of, relay_at, relay_there}
 use Rattle.plan_ways.specs.Relays.{relays_below, with_end, with_ends}
 use Rattle.plan_ways.specs.declared.ends.Way.{Way}
 use Rattle.plan_ways.specs.declared.ends.WayEnd.{WayEnd}

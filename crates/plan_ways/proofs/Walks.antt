@@ -1,6 +1,6 @@
 -- Loops that follow a recursion on a list: what was made, and what the rest makes of it, is the whole.
 use Rattle.std.proofs.Common.{◌≡◌, ℕ, zero, suc, ◌+◌, ◌<◌, ◌≤◌, List, [], ◌∷◌, ◌++◌, length, get_or, drop, map, ap}
-use Rattle.std.proofs.Common.{Global, Vec, take, vec_items}
+use Rattle.std.proofs.Common.{Global, Vec, vec_items}
 use Rattle.std.proofs.Common.{sym, ◌∙◌, add-one, arith}
 use Rattle.std.specs.List.{flat_map, range_with_len}
 use Rattle.std.proofs.Math.Seq.{drop-cons}

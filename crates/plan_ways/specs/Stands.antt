@@ -3,7 +3,7 @@
 -- Both are found along the list of each host. Control comes to a place from the one before it, where the instruction
 -- there leads on. Otherwise it comes through a branch before it in the list, or through an entry, the one of the
 -- smallest number where there are several. (Where control comes in several ways, the same token is held in each.)
-use Rattle.std.specs.Prelude.{ℕ, ◌+◌, ◌==◌, suc, zero, Bool, false, true, drop, List, [], ◌∷◌, ◌++◌, length}
+use Rattle.std.specs.Prelude.{ℕ, ◌+◌, ◌==◌, suc, zero, Bool, false, true, drop, List, [], ◌∷◌, length}
 use Rattle.std.specs.Prelude.{Option, Some, None, if◌then◌else◌, replicate, slice_get, slice_set, unwrap_or}
 use Rattle.std.specs.List.{flat_map, range_with_len}
 use Rattle.js_base.specs.declared.ids.EntryId.{EntryId}

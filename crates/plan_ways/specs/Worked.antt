@@ -9,7 +9,7 @@ use Rattle.host_code.specs.declared.code.Entry.{Entry}
 use Rattle.host_code.specs.declared.instruction.Instr.{Instr}
 use Rattle.host_code.specs.declared.instruction.Op.{Op}
 use Rattle.host_code.specs.declared.instruction.Op.TheVariants as op
-use Rattle.jif_tree.specs.Trees.{BlockTree, MethodTree, ProgramTree, call, done, number, set_field, set_local}
+use Rattle.jif_tree.specs.Trees.{BlockTree, MethodTree, ProgramTree, call, done, number, set_local}
 use Rattle.need_labels.specs.Plan.{PlanShape}
 use Rattle.plan_ways.specs.declared.ends.Way.{Way}
 use Rattle.plan_ways.specs.declared.ends.WayEnd.{WayEnd}

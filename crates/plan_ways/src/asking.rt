@@ -108,13 +108,7 @@ fn set(sheet: &Sheet<'_>, place: Place, statement: StmtId, field: FieldId) -> Wa
 }
 
 /// A variable is sent.
-fn sent(
-    sheet: &Sheet<'_>,
-    place: Place,
-    statement: StmtId,
-    variable: VarId,
-    to: HostId,
-) -> Way
+fn sent(sheet: &Sheet<'_>, place: Place, statement: StmtId, variable: VarId, to: HostId) -> Way
     ensures { result ≡ rules.sent (sheet_shape sheet.now) place statement variable to }
 {
     let end = reader_on(sheet.readers, to, variable);
@@ -127,7 +121,14 @@ fn asked(sheet: &Sheet<'_>, place: Place, statement: StmtId, entry: EntryId, on:
     ensures { result ≡ rules.asked (sheet_shape sheet.now) place statement entry on }
 {
     let end = door_of(sheet.doors, entry, on);
-    going(WayKind::Sync, place, statement, on, end, WayText::Entry(entry))
+    going(
+        WayKind::Sync,
+        place,
+        statement,
+        on,
+        end,
+        WayText::Entry(entry),
+    )
 }
 
 /// Control goes on at an entry.
@@ -142,7 +143,14 @@ fn gone(
     ensures { result ≡ rules.gone (sheet_shape sheet.now) place statement entry on rides }
 {
     let end = door_of(sheet.doors, entry, on);
-    let way = going(WayKind::Go, place, statement, on, end, WayText::Entry(entry));
+    let way = going(
+        WayKind::Go,
+        place,
+        statement,
+        on,
+        end,
+        WayText::Entry(entry),
+    );
     riding(way, rides)
 }
 
@@ -158,7 +166,14 @@ fn called(
     ensures { result ≡ rules.called (sheet_shape sheet.now) place statement entry on rides }
 {
     let end = door_of(sheet.doors, entry, on);
-    let way = going(WayKind::Go, place, statement, on, end, WayText::Method(entry));
+    let way = going(
+        WayKind::Go,
+        place,
+        statement,
+        on,
+        end,
+        WayText::Method(entry),
+    );
     riding(way, rides)
 }
 
@@ -249,7 +264,10 @@ fn result_to(
     let there = sheet.code.entry(entry)?;
     let end = door_of(sheet.doors, entry, there.host);
     let what = WayText::Result(variable);
-    elsewhere(place, going(WayKind::Forward, place, statement, there.host, end, what))
+    elsewhere(
+        place,
+        going(WayKind::Forward, place, statement, there.host, end, what),
+    )
 }
 
 /// Adds the ways of the token that is given back at a place.
@@ -292,12 +310,7 @@ fn push_returns(
 }
 
 /// The way to the end of the program, where `main` ends on another host than the root.
-fn end_of_main(
-    sheet: &Sheet<'_>,
-    place: Place,
-    statement: StmtId,
-    method: EntryId,
-) -> Option<Way>
+fn end_of_main(sheet: &Sheet<'_>, place: Place, statement: StmtId, method: EntryId) -> Option<Way>
     ensures { result ≡ rules.end_of_main (sheet_shape sheet.now) place statement method }
 {
     if method.0 == sheet.code.main().0 {
@@ -308,12 +321,7 @@ fn end_of_main(
 }
 
 /// The way of the token back to an entry, where that stands on another host.
-fn back_elsewhere(
-    sheet: &Sheet<'_>,
-    place: Place,
-    statement: StmtId,
-    entry: EntryId,
-) -> Option<Way>
+fn back_elsewhere(sheet: &Sheet<'_>, place: Place, statement: StmtId, entry: EntryId) -> Option<Way>
     ensures { result ≡ rules.back_elsewhere (sheet_shape sheet.now) place statement entry }
 {
     elsewhere(place, back_to(sheet, place, statement, entry)?)

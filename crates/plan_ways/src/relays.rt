@@ -286,12 +286,7 @@ pub fn handed_of(
 }
 
 /// Notes an entry from which the token of another is given back at once.
-fn note_handed(
-    handed: &mut [Option<EntryId>],
-    code: &Code,
-    levels: &[Option<Level>],
-    place: Place,
-)
+fn note_handed(handed: &mut [Option<EntryId>], code: &Code, levels: &[Option<Level>], place: Place)
     ensures { handed.new ≡ rows.with_handed code.now levels.now handed.old place }
 {
     let Some(entry) = given_back(code, levels, place) else {

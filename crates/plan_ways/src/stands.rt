@@ -170,7 +170,11 @@ fn passed(here: Stand, op: &Op) -> Option<Stand>
 fn with_pushed(here: Stand, entry: EntryId) -> Stand
     ensures { result ≡ stands.with_pushed here entry }
 {
-    let Stand { station, entrance, .. } = here;
+    let Stand {
+        station,
+        entrance,
+        ..
+    } = here;
     Stand {
         station,
         entrance,
@@ -205,13 +209,7 @@ fn arrivals_of(
 }
 
 /// Notes an entry at its place, where it is one of the host, does not end the program, and none before it is there.
-fn enter(
-    table: &mut [Option<Stand>],
-    doors: &[WayEnd],
-    host: HostId,
-    entry: EntryId,
-    there: Entry,
-)
+fn enter(table: &mut [Option<Stand>], doors: &[WayEnd], host: HostId, entry: EntryId, there: Entry)
     ensures { table.new ≡ stands.entered doors.now host table.old entry.0 there }
 {
     if entry.0 == 0 {

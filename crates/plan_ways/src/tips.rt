@@ -73,13 +73,7 @@ fn link_of(kind: WayKind, what: WayText) -> &'static str
         WayKind::Set => " of ",
         WayKind::Forward => " to ",
         WayKind::Sync => " on ",
-        WayKind::Go => {
-            if is_call(what) {
-                " on "
-            } else {
-                " of "
-            }
-        }
+        WayKind::Go => { if is_call(what) { " on " } else { " of " } }
         WayKind::Back => " back to ",
     }
 }

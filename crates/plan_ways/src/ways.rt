@@ -75,12 +75,7 @@ fn known_of(alloc: Global, code: &Code, program: &Program) -> Result<Known, OutO
 }
 
 /// The ways, by what is known.
-fn ways_by(
-    alloc: Global,
-    code: &Code,
-    plan: &Plan,
-    known: &Known,
-) -> Result<Vec<Way>, OutOfMemory>
+fn ways_by(alloc: Global, code: &Code, plan: &Plan, known: &Known) -> Result<Vec<Way>, OutOfMemory>
     ensures { IfOk result (λ found. found.items
         ≡ whole.ways_by code.now plan.now (whole.known_shape known.now)) }
 {

@@ -1,4 +1,4 @@
-use Rattle.std.proofs.Common.{List, ◌++◌, Option, ap, ◌∙◌}
+use Rattle.std.proofs.Common.{◌++◌, Option, ap, ◌∙◌}
 use Rattle.plan_ways.specs.Ends.{kept}
 use Rattle.plan_ways.specs.Ways.{back_to, sheet_shape}
 use Rattle.plan_ways.specs.declared.ends.Way.{Way}

@@ -1,7 +1,3 @@
-use Rattle.std.proofs.Common.{ap, ◌∙◌, map, take}
-use Rattle.jif_tree.specs.Trees.{method_tree}
-use Rattle.jif_tree.specs.declared.program.Method.{Method}
-use Rattle.plan_ways.specs.Lasts.{heads_of}
 use Rattle.plan_ways.proofs.LastWalks.{all_heads}
 use Rattle.plan_ways.proofs.lasts.heads_of.Goals as goal
 

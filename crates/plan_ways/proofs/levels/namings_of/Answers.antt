@@ -1,5 +1,5 @@
-use Rattle.std.proofs.Common.{◌≡◌, None, ap, arith, length, refl, replicate}
-use Rattle.plan_ways.specs.Levels.{namings_of, with_naming, with_namings}
+use Rattle.std.proofs.Common.{◌≡◌, ap, arith, length, refl}
+use Rattle.plan_ways.specs.Levels.{namings_of, with_namings}
 use Rattle.plan_ways.proofs.NamingCounts.{namings_count}
 use Rattle.plan_ways.proofs.Walks.{folded_all}
 use Rattle.plan_ways.proofs.levels.namings_of.Goals as goal
