@@ -1,0 +1,5 @@
+mod CheckParts
+mod DecidedParts
+mod FirstFalse
+mod RidingParts
+mod SeenIgnored
