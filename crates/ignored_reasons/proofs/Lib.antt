@@ -1,3 +1,4 @@
+mod AskedParts
 mod CheckParts
 mod DecidedParts
 mod FirstFalse

@@ -13,6 +13,8 @@ use Rattle.host_code.specs.Riders.{names_of}
 use Rattle.host_code.specs.Code.{CodeShape}
 use Rattle.host_code.specs.Sound.{IsEntryOn}
 use Rattle.host_core.specs.Host.{HostShape}
+use Rattle.ignored_reasons.specs.declared.asked.Asked.{Asked}
+use Rattle.ignored_reasons.specs.declared.asked.Asked.TheVariants as asked
 use Rattle.ignored_reasons.specs.declared.why.Why.{Why}
 use Rattle.ignored_reasons.specs.declared.why.Why.TheVariants as why
 use Rattle.ignored_reasons.specs.Parts.{IsFieldOn, SeesField, SetsField, SetsVariable, IsTrustedAt, KnowsOf}
@@ -38,18 +40,32 @@ parts_at entry = why.NoEntry entry ∷ why.MayNotEnter entry ∷ why.MayNotKnow 
 abbrev pub parts_riding : List VarId → List Why
 parts_riding variables = map (λ variable. why.MayNotForward variable) variables
 
+-- what a message asks, as far as its check looks at it in the code
+abbrev pub asked_of : Message → Asked
+asked_of (message.Get request field index) = asked.Get field
+asked_of (message.Set request field index value) = asked.Set field
+asked_of (message.Forward request frame variable value) = asked.Forward variable
+asked_of (message.Sync request frame entry token) = asked.Enter entry
+asked_of (message.Rgoto frame entry token) = asked.Enter entry
+asked_of (message.RgotoWith frame entry token riders) = asked.EnterWith entry riders
+asked_of (message.Lgoto token) = asked.GiveBack
+asked_of (message.Value request value) = asked.Answer
+asked_of (message.Ack request) = asked.Answer
+asked_of (message.Token request token) = asked.Answer
+
+-- the parts of a check
+abbrev pub parts_asked : Asked → List Why
+parts_asked (asked.Get field) = why.FieldElsewhere field ∷ why.MayNotSee field ∷ []
+parts_asked (asked.Set field) = why.FieldElsewhere field ∷ why.MayNotSet field ∷ []
+parts_asked (asked.Forward variable) = why.MayNotForward variable ∷ []
+parts_asked (asked.Enter entry) = parts_at entry
+parts_asked (asked.EnterWith entry riders) = parts_at entry ++ parts_riding (names_of riders)
+parts_asked asked.GiveBack = why.NotOnTop ∷ []
+parts_asked asked.Answer = why.NoneWaits ∷ []
+
 -- the parts of a message's check
 abbrev pub parts_of : Message → List Why
-parts_of (message.Get request field index) = why.FieldElsewhere field ∷ why.MayNotSee field ∷ []
-parts_of (message.Set request field index value) = why.FieldElsewhere field ∷ why.MayNotSet field ∷ []
-parts_of (message.Forward request frame variable value) = why.MayNotForward variable ∷ []
-parts_of (message.Sync request frame entry token) = parts_at entry
-parts_of (message.Rgoto frame entry token) = parts_at entry
-parts_of (message.RgotoWith frame entry token riders) = parts_at entry ++ parts_riding (names_of riders)
-parts_of (message.Lgoto token) = why.NotOnTop ∷ []
-parts_of (message.Value request value) = why.NoneWaits ∷ []
-parts_of (message.Ack request) = why.NoneWaits ∷ []
-parts_of (message.Token request token) = why.NoneWaits ∷ []
+parts_of taken = parts_asked (asked_of taken)
 
 -- the first of these that is false, none where all hold
 abbrev pub IsFirstFalse : (Why → Type 0) → List Why → Option Why → Type 0

@@ -5,17 +5,18 @@ ghost use Rattle.host_code.specs.Riders.{names_of};
 ghost use Rattle.host_code.specs.declared.message.Message.{Message};
 ghost use Rattle.host_core.specs.Host.{HostShape};
 ghost use Rattle.host_core.specs.Taking.{Passes};
-ghost use Rattle.ignored_reasons.specs.Reasons.{Holds, IsFirstFalse, IsWhy, parts_at, parts_riding};
+ghost use Rattle.ignored_reasons.specs.Reasons.{Holds, IsFirstFalse, IsWhy, asked_of, parts_at, parts_riding};
 ghost use Rattle.ignored_reasons.specs.declared.why.Why.TheVariants as reason;
 
+use crate::asked::Asked;
 use crate::parts::{
     is_entry_on, is_field_on, is_trusted_at, knows_of, sees_field, sets_field, sets_variable,
 };
 use crate::why::Why;
-use host_code::{Code, Message};
+use host_code::Code;
 use js_base::{EntryId, FieldId, HostId, VarId};
 
-/// Why host `me` ignores a message of a sender, none where the message passes its check.
+/// Why host `me` ignores a message of a sender that asks this, none where the message passes its check.
 ///
 /// `passes` says whether it did. The code tells all else, but whether a token is that of the top entry and whether a
 /// thread waits for an answer, and each of these is the whole check of its message.
@@ -23,27 +24,22 @@ pub fn why_ignored(
     code: &Code,
     me: HostId,
     from: HostId,
-    message: &Message,
+    asked: &Asked,
     passes: bool,
 ) -> Option<Why>
-    ensures { (host : HostShape) → host.me ≡ me → (IsTrue passes ↔ Passes code.now host from message.now) →
-        IsWhy code.now host from message.now result }
+    ensures { (host : HostShape) (taken : Message) → host.me ≡ me → asked_of taken ≡ asked.now →
+        (IsTrue passes ↔ Passes code.now host from taken) → IsWhy code.now host from taken result }
 {
-    match *message {
-        Message::Get { field, .. } => why_not_get(code, me, from, field),
-        Message::Set { field, .. } => why_not_set(code, me, from, field),
-        Message::Forward { var, .. } => why_not_forward(code, from, var),
-        Message::Sync { entry, .. } => why_not_enter(code, me, from, entry),
-        Message::Rgoto { entry, .. } => why_not_enter(code, me, from, entry),
-        Message::RgotoWith {
-            entry,
-            ref pairs,
-            ..
-        } => { why_not_enter_with(code, me, from, entry, pairs.pairs()) }
-        Message::Lgoto { .. } => unless(passes, Why::NotOnTop),
-        Message::Value { .. } | Message::Ack { .. } | Message::Token { .. } => {
-            unless(passes, Why::NoneWaits)
+    match asked {
+        Asked::Get(field) => why_not_get(code, me, from, *field),
+        Asked::Set(field) => why_not_set(code, me, from, *field),
+        Asked::Forward(var) => why_not_forward(code, from, *var),
+        Asked::Enter(entry) => why_not_enter(code, me, from, *entry),
+        Asked::EnterWith(entry, riders) => {
+            why_not_enter_with(code, me, from, *entry, riders.pairs())
         }
+        Asked::GiveBack => unless(passes, Why::NotOnTop),
+        Asked::Answer => unless(passes, Why::NoneWaits),
     }
 }
 
