@@ -1,0 +1,7 @@
+mod AskedIn
+mod Ignoring
+mod PicturedMore
+mod SeenAfter
+mod StatesOf
+mod Tellings
+mod TurnTraces

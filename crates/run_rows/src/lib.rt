@@ -1,0 +1,22 @@
+//! The record of each event of a run, for whoever draws or lists what happened.
+//!
+//! **Promises.** Events that happen one after the other have a row each, in order, with its line. A row tells what the
+//! event was, why it was ignored (`ignored_reasons`), and what it sent to a misbehaving host.
+//!
+//! **Begin** with `specs/Rows.antt` (`IsRow`, `IsPictured`); `rows_of` is the call.
+//!
+//! **Stays.** No copy of a world is made: a row is told from what is seen before its event and after it.
+//!
+//! - `row`: a row, and what its event was
+//! - `seen`: what a world shows of an event's host before the event and after it
+//! - `asking`: what a misbehaving host asks, whatever token it presents
+//! - `rows`: the rows of events
+#![tactic(auto)]
+
+mod asking;
+mod row;
+mod rows;
+mod seen;
+
+pub use row::{Row, What};
+pub use rows::rows_of;

@@ -1,0 +1,99 @@
+//! The rows of events that happen one after the other.
+
+ghost use Rattle.std.specs.Prelude.{◌≡◌, ◌↔◌, All, IfOk, IfErr, IsTrue, Some, None, if◌then◌else◌, nat_lt};
+ghost use Rattle.net_world.specs.Fits.{WorldFits, ShapeFits, HasOwnToken, world_of};
+ghost use Rattle.net_world.specs.Replay.{IsReplayError};
+ghost use Rattle.net_world.specs.Steps.{HaveMade};
+ghost use Rattle.net_world.specs.World.{WorldShape, IsStep};
+ghost use Rattle.run_rows.specs.Rows.{IsBefore, IsPictured, IsRow, IsReason};
+
+use crate::asking::asked_in;
+use crate::row::{Row, What, keep};
+use crate::seen::{Before, before_of, mover, seen_of};
+use event_text::Event;
+use host_code::Code;
+use ignored_reasons::{Why, asked_by, reason_laws, why_ignored};
+use net_world::laws::{fits_laws, step_laws};
+use net_world::{ReplayError, World, refused};
+use std::alloc::Global;
+
+/// The row of an event that happened, by what was seen before it.
+fn row_after(code: &Code, world: &World, line: u32, event: &Event, before: &Before) -> Row
+    requires { WorldFits code.now world.now }
+    ensures { (old : WorldShape) → ShapeFits code.now old → IsBefore code.now.root old event.now before.now →
+        IsStep code.now old event.now (world_of world.now) →
+        IsRow code.now old (line, event.now) (world_of world.now) result }
+{
+    reason_laws();
+    let host = seen_of(world, mover(event));
+    let sent = world.sent().len() as u64;
+    Row {
+        line,
+        what: before.what,
+        ignored: why_not(code, &before.what, host.ignored == before.host.ignored),
+        told: number_told(before.sent, sent),
+        halts: is_turn(before.halted, world.halted()),
+        runs: host.runs,
+        waits: host.waits,
+    }
+}
+
+/// The number of what was sent where so many things were before, and so many are now.
+fn number_told(before: u64, now: u64) -> Option<u64>
+    ensures { result ≡ (if nat_lt before now then Some before else None) }
+{
+    if before < now { Some(before) } else { None }
+}
+
+/// Whether what is so now was not so before.
+fn is_turn(before: bool, now: bool) -> bool
+    ensures { IsTrue result ↔ (IsTrue now × ¬ IsTrue before) }
+{
+    now && !before
+}
+
+/// Why an event was ignored, where it did not pass.
+fn why_not(code: &Code, what: &What, passes: bool) -> Option<Why>
+    ensures { IsReason code.now what.now passes result }
+{
+    match what {
+        What::Turn(_, _) => if passes { None } else { Some(Why::NotOnTop) },
+        What::Take(from, to, message) => why_ignored(code, *to, *from, &asked_by(message), passes),
+        What::Act(from, to, made) => why_ignored(code, *to, *from, &asked_in(made), passes),
+    }
+}
+
+/// Makes events happen, each of which stands on a line, and gives a row for each, up to the first that is refused. The
+/// world has just started.
+///
+/// # Errors
+/// As of `replay`.
+pub fn rows_of(
+    alloc: Global,
+    code: &Code,
+    world: &mut World,
+    events: &[(u32, Event)],
+) -> Result<Vec<Row>, ReplayError>
+    requires fits { WorldFits code.now world.old }
+    requires fresh { HaveMade 0 world.old.hosts }
+    requires own { All (λ one. HasOwnToken (world_of world.old) one.1) events.now }
+    ensures pictured { IfOk result (λ rows.
+        IsPictured code.now (world_of world.old) events.now rows.items (world_of world.new)) }
+    ensures refused { IfErr result (IsReplayError code.now (world_of world.old) events.now) }
+    ensures fits { WorldFits code.now world.new }
+{
+    fits_laws();
+    step_laws();
+    let mut rows = Vec::new(alloc);
+    for (line, event) in events {
+        let before = before_of(world, event);
+        if let Err(error) = world.apply(code, event) {
+            return Err(refused(*line, event, error));
+        }
+        let Some(before) = before else {
+            unreachable!();
+        };
+        keep(&mut rows, row_after(code, world, *line, event, &before))?;
+    }
+    Ok(rows)
+}
