@@ -75,7 +75,7 @@ turned code world next host step found passes reason is tells counted =
     (λ is. counts.0 (counted.0 is), λ same. counted.1 (counts.1 same))))
 
 -- the host of a state has its number
-numbered : (code : CodeShape) (world : WorldShape) (host : HostId) (state : HostShape) → ShapeFits code world →
+pub numbered : (code : CodeShape) (world : WorldShape) (host : HostId) (state : HostShape) → ShapeFits code world →
     state_at world host ≡ Some state → state.me ≡ host
 numbered code world host state fits obeys =
     let own : IsStateOf code host state =

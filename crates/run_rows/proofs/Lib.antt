@@ -1,7 +1,10 @@
 mod AskedIn
+mod Changes
 mod Ignoring
 mod PicturedMore
 mod SeenAfter
+mod StackLists
 mod StatesOf
+mod TakenOff
 mod Tellings
 mod TurnTraces

@@ -1,5 +1,5 @@
 -- What is seen of a host, part by part.
-use Rattle.std.proofs.Common.{◌≡◌, ◌∙◌, ℕ, Bool, Option, Some, None, sym, refl, inl, inr, subst}
+use Rattle.std.proofs.Common.{◌≡◌, ◌∙◌, ℕ, length, Bool, Option, Some, None, sym, refl, inl, inr, subst}
 use Rattle.std.specs.Prelude.{◌↔◌, ◌==◌, IsTrue}
 use Rattle.std.proofs.lemmas.Bool.{false≢true}
 use Rattle.std.proofs.lemmas.Bool.Decides.{eqb_tells}
@@ -7,6 +7,7 @@ use Rattle.js_base.specs.declared.ids.HostId.{HostId}
 use Rattle.host_core.specs.Host.{HostShape}
 use Rattle.net_world.specs.World.{WorldShape, has_halted}
 use Rattle.run_rows.specs.Rows.{seen_in, runs_in, waits_in}
+use Rattle.run_rows.specs.Stacks.{entries_in}
 
 pub runs_is : (host : Option HostShape) → (seen_in host).runs ≡ runs_in host
 runs_is None = refl
@@ -35,3 +36,7 @@ halts_now root other old next before now is same turns after was =
       λ it. (let both = turns.0 it in (after_too.0 both.0, λ halted. both.1 (was.1 halted))),
       λ both. turns.1 (after_too.1 both.0, λ it. both.1 (was.0 it)),
     )
+
+pub depth_is : (host : Option HostShape) → (seen_in host).depth ≡ length (entries_in host)
+depth_is None = refl
+depth_is (Some host) = refl

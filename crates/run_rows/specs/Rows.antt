@@ -21,6 +21,7 @@ use Rattle.net_world.specs.World.{WorldShape, IsStep, state_at, tokens_sent, has
 use Rattle.ignored_reasons.specs.declared.why.Why.{Why}
 use Rattle.ignored_reasons.specs.declared.why.Why.TheVariants as why
 use Rattle.ignored_reasons.specs.Reasons.{IsWhy}
+use Rattle.run_rows.specs.Stacks.{HasChanged, entries_in}
 use Rattle.run_rows.specs.declared.row.Row.{Row}
 use Rattle.run_rows.specs.declared.row.What.{What}
 use Rattle.run_rows.specs.declared.row.What.TheVariants as what
@@ -90,6 +91,8 @@ pub record IsRow (code : CodeShape) (world : WorldShape) (said : ℕ × Event) (
   pub what : IsWhat world said.1 row.what
   pub ignored : IsIgnoring code world said.1 row.ignored
   pub told : IsTelling world.sent next.sent row.told
+  pub change : HasChanged (entries_in (state_at world (mover said.1))) (entries_in (state_at next (mover said.1)))
+      row.change
   pub halts : IsTrue row.halts ↔ (has_halted code.root next × ¬ has_halted code.root world)
   pub runs : row.runs ≡ runs_in (state_at next (mover said.1))
   pub waits : row.waits ≡ waits_in (state_at next (mover said.1))

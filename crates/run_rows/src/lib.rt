@@ -10,6 +10,7 @@
 //! - `row`: a row, and what its event was
 //! - `seen`: what a world shows of an event's host before the event and after it
 //! - `asking`: what a misbehaving host asks, whatever token it presents
+//! - `stacks`: the control stacks, as far as a run shows them
 //! - `rows`: the rows of events
 #![tactic(auto)]
 
@@ -17,6 +18,7 @@ mod asking;
 mod row;
 mod rows;
 mod seen;
+mod stacks;
 
-pub use row::{Row, What};
+pub use row::{Change, Row, What};
 pub use rows::rows_of;

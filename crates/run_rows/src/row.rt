@@ -5,7 +5,7 @@ ghost use Rattle.std.specs.Prelude.{◌≡◌, ◌∷◌, ◌++◌, [], OnOk};
 use event_text::BadMessage;
 use host_code::Message;
 use ignored_reasons::Why;
-use js_base::{HostId, OutOfMemory};
+use js_base::{EntryId, HostId, OutOfMemory};
 
 /// What an event was.
 #[derive(Clone, Copy)]
@@ -18,6 +18,14 @@ pub enum What {
     Act(HostId, HostId, BadMessage),
 }
 
+/// What an event did to the control stack of its host.
+#[derive(Clone, Copy)]
+pub enum Change {
+    Same,
+    Pushed(EntryId),
+    TakenOff(EntryId),
+}
+
 /// An event of a run, and what is to be seen of it.
 #[derive(Clone, Copy)]
 pub struct Row {
@@ -28,6 +36,7 @@ pub struct Row {
     pub ignored: Option<Why>,
     /// The number, from 0, of what a misbehaving host was sent in the event, among all that such hosts were sent.
     pub told: Option<u64>,
+    pub change: Change,
     /// Whether the program halted in the event.
     pub halts: bool,
     /// Whether a thread runs on the event's host after it.
@@ -45,6 +54,7 @@ pub fn keep(rows: &mut Vec<Row>, row: Row) -> Result<(), OutOfMemory>
         what,
         ignored,
         told,
+        change,
         halts,
         runs,
         waits,
@@ -60,6 +70,7 @@ pub fn keep(rows: &mut Vec<Row>, row: Row) -> Result<(), OutOfMemory>
         what,
         ignored,
         told,
+        change,
         halts,
         runs,
         waits,

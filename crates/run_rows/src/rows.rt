@@ -4,24 +4,36 @@ ghost use Rattle.std.specs.Prelude.{◌≡◌, ◌↔◌, All, IfOk, IfErr, IsTr
 ghost use Rattle.net_world.specs.Fits.{WorldFits, ShapeFits, HasOwnToken, world_of};
 ghost use Rattle.net_world.specs.Replay.{IsReplayError};
 ghost use Rattle.net_world.specs.Steps.{HaveMade};
-ghost use Rattle.net_world.specs.World.{WorldShape, IsStep};
+ghost use Rattle.net_world.specs.World.{WorldShape, IsStep, mover, state_at};
+ghost use Rattle.run_rows.specs.Stacks.{AreStacks, HasChanged, HaveFirstStacks, entries_in};
 ghost use Rattle.run_rows.specs.Rows.{IsBefore, IsPictured, IsRow, IsReason};
 
 use crate::asking::asked_in;
-use crate::row::{Row, What, keep};
+use crate::row::{Change, Row, What, keep};
 use crate::seen::{Before, before_of, mover, seen_of};
+use crate::stacks::{Stacks, pushed_in};
 use event_text::Event;
 use host_code::Code;
 use ignored_reasons::{Why, asked_by, reason_laws, why_ignored};
+use js_base::OutOfMemory;
 use net_world::laws::{fits_laws, step_laws};
 use net_world::{ReplayError, World, refused};
 use std::alloc::Global;
 
 /// The row of an event that happened, by what was seen before it.
-fn row_after(code: &Code, world: &World, line: u32, event: &Event, before: &Before) -> Row
+fn row_after(
+    code: &Code,
+    world: &World,
+    line: u32,
+    event: &Event,
+    before: &Before,
+    change: Change,
+) -> Row
     requires { WorldFits code.now world.now }
     ensures { (old : WorldShape) → ShapeFits code.now old → IsBefore code.now.root old event.now before.now →
         IsStep code.now old event.now (world_of world.now) →
+        HasChanged (entries_in (state_at old (mover event.now)))
+        (entries_in (state_at (world_of world.now) (mover event.now))) change →
         IsRow code.now old (line, event.now) (world_of world.now) result }
 {
     reason_laws();
@@ -32,10 +44,36 @@ fn row_after(code: &Code, world: &World, line: u32, event: &Event, before: &Befo
         what: before.what,
         ignored: why_not(code, &before.what, host.ignored == before.host.ignored),
         told: number_told(before.sent, sent),
+        change,
         halts: is_turn(before.halted, world.halted()),
         runs: host.runs,
         waits: host.waits,
     }
+}
+
+/// What an event that happened did to the control stack of its host, by what was seen before it. The stacks follow.
+fn change_after(
+    code: &Code,
+    world: &World,
+    event: &Event,
+    before: &Before,
+    stacks: &mut Stacks,
+) -> Result<Change, OutOfMemory>
+    ensures { IfOk result (λ change. (old : WorldShape) → ShapeFits code.now old →
+        IsBefore code.now.root old event.now before.now → IsStep code.now old event.now (world_of world.now) →
+        AreStacks old stacks.old →
+        HasChanged (entries_in (state_at old (mover event.now)))
+        (entries_in (state_at (world_of world.now) (mover event.now))) change
+        × AreStacks (world_of world.now) stacks.new) }
+{
+    let host = mover(event);
+    let depth = seen_of(world, host).depth;
+    stacks.follow(
+        host,
+        pushed_in(code, &before.what),
+        before.host.depth,
+        depth,
+    )
 }
 
 /// The number of what was sent where so many things were before, and so many are now.
@@ -77,6 +115,7 @@ pub fn rows_of(
     requires fits { WorldFits code.now world.old }
     requires fresh { HaveMade 0 world.old.hosts }
     requires own { All (λ one. HasOwnToken (world_of world.old) one.1) events.now }
+    requires stacks { HaveFirstStacks code.now (world_of world.old) }
     ensures pictured { IfOk result (λ rows.
         IsPictured code.now (world_of world.old) events.now rows.items (world_of world.new)) }
     ensures refused { IfErr result (IsReplayError code.now (world_of world.old) events.now) }
@@ -84,6 +123,7 @@ pub fn rows_of(
 {
     fits_laws();
     step_laws();
+    let mut stacks = Stacks::new(alloc, code)?;
     let mut rows = Vec::new(alloc);
     for (line, event) in events {
         let before = before_of(world, event);
@@ -93,7 +133,9 @@ pub fn rows_of(
         let Some(before) = before else {
             unreachable!();
         };
-        keep(&mut rows, row_after(code, world, *line, event, &before))?;
+        let change = change_after(code, world, event, &before, &mut stacks)?;
+        let row = row_after(code, world, *line, event, &before, change);
+        keep(&mut rows, row)?;
     }
     Ok(rows)
 }

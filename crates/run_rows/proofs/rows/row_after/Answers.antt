@@ -12,7 +12,7 @@ use Rattle.run_rows.proofs.Tellings.{one_more, told}
 use Rattle.run_rows.proofs.rows.row_after.Goals as goal
 
 pub returns : goal.returns
-returns c = λ old fits before step.
+returns c = λ old fits before step changed.
     let code = c.args.code.now in
     let next = world_of c.args.world.now in
     let event = c.args.event.now in
@@ -32,6 +32,7 @@ returns c = λ old fits before step.
           ∙ ap (λ (n : ℕ). if nat_lt n (length c.sent.result.now) then Some n else None) before.sent
           ∙ ap (λ (n : ℕ). if nat_lt (length old.sent) n then Some (length old.sent) else None) sent))
           telling;
+      change = changed;
       halts = halts_now c.args.world.now.root code.root old next c.args.before.now.halted c.halted.result c.is_turn.result
           c.requires.root c.is_turn.ensures c.halted.ensures before.halted;
       runs = ap (λ (s : Seen). s.runs) host ∙ runs_is (state_at next (mover event));

@@ -33,16 +33,18 @@ loop-line-preserved c =
     let fits = c.fits_laws.ensures.world code c.loop-line.world c.loop-line.invariant.fits in
     let before = subst (λ (root : HostId). IsBefore root old event c.in-Some.before) c.loop-line.invariant.fits.root
     c.in-Some.ensures.before in
-    let row : IsRow code old c.loop-line-item.result next c.row_after.result =
-    c.row_after.ensures old fits before c.in_default.ensures.ok in
+    let changed = c.in_ok-change.ensures old fits before c.in_default.ensures.ok c.loop-line.invariant.stacks in
+    let row : IsRow code old c.loop-line-item.result next c.row_after-row.result =
+    c.row_after-row.ensures old fits before c.in_default.ensures.ok changed.0 in
     record {
       pictured = subst (λ (rows : List Row). IsPictured code (world_of c.args.world.now)
           (take (c.loop-line.line-index + 1) c.args.events.now) rows next) (sym c.in_ok-keep.ensures)
           (pictured_more code (world_of c.args.world.now) old next c.args.events.now c.loop-line.line-index
-          c.loop-line-item.result c.loop-line.rows.items c.row_after.result c.loop-line-test.true
+          c.loop-line-item.result c.loop-line.rows.items c.row_after-row.result c.loop-line-test.true
           c.loop-line.invariant.pictured
           (subst (λ (it : ℕ × Event). IsStep code old it.1 next) c.loop-line-item.is c.in_default.ensures.ok)
-          (subst (λ (it : ℕ × Event). IsRow code old it next c.row_after.result) c.loop-line-item.is row));
+          (subst (λ (it : ℕ × Event). IsRow code old it next c.row_after-row.result) c.loop-line-item.is row));
+      stacks = changed.1;
       fits = c.apply.ensures.fits;
       made = c.in_default.ensures.made _ c.loop-line.invariant.made;
       own = λ k d less.
