@@ -2,6 +2,7 @@ mod AskedIn
 mod Changes
 mod Ignoring
 mod PicturedMore
+mod RowLaws
 mod SeenAfter
 mod StackLists
 mod StatesOf

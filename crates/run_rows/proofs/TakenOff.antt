@@ -21,7 +21,7 @@ use Rattle.run_rows.specs.Stacks.{IsStackStep, message_pushes}
 abbrev Same : HostShape → HostShape → Type 0
 Same host other = (other.ignored ≡ host.ignored) × (other.entries ≡ host.entries)
 
-entered : (host : HostShape) (entry : Option Entry) (frame : FrameId) (token : Token) →
+pub entered : (host : HostShape) (entry : Option Entry) (frame : FrameId) (token : Token) →
     Same host (after_entering host entry frame token)
 entered host None frame token = (refl, refl)
 entered host (Some entry) frame token = (refl, refl)

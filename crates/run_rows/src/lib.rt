@@ -12,13 +12,16 @@
 //! - `asking`: what a misbehaving host asks, whatever token it presents
 //! - `stacks`: the control stacks, as far as a run shows them
 //! - `rows`: the rows of events
+//! - `laws`: what rows say of a run
 #![tactic(auto)]
 
 mod asking;
+mod laws;
 mod row;
 mod rows;
 mod seen;
 mod stacks;
 
+pub use laws::row_laws;
 pub use row::{Change, Row, What};
 pub use rows::rows_of;
