@@ -22,7 +22,8 @@ use Rattle.run_rows.specs.Rows.{IsWhat}
 use Rattle.run_rows.specs.Stacks.{HasChanged, IsStackStep, IsFollowed, AreStacks, entries_in, entries_of, stack_at}
 use Rattle.run_rows.specs.Stacks.{pushed_in, instruction_pushes}
 use Rattle.run_rows.proofs.AskedIn.{same_pushes}
-use Rattle.run_rows.proofs.Ignoring.{numbered}
+use Rattle.run_rows.specs.Stacks.{HaveFirstStacks, first_stack}
+use Rattle.run_rows.proofs.Ignoring.{numbered, numbered_host}
 use Rattle.run_rows.proofs.StackLists.{stack_put, stack_beside}
 use Rattle.run_rows.proofs.StatesOf.{and_some, after_take, after_turn, after_act}
 use Rattle.run_rows.proofs.TakenOff.{taking_stacks}
@@ -172,3 +173,20 @@ did_after code world next event found did stacks new depth later fits step is ar
       subst (AreStacks next) (sym (puts stood.0))
           (follow_all code world next event stacks (stack_at new host) moved.after step are stood.0 moved.is both.1),
     )
+
+-- before the first event
+pub are_first : (code : CodeShape) (world : WorldShape) (stacks : List (List EntryId)) → ShapeFits code world →
+    HaveFirstStacks code world → length stacks ≡ length code.hosts →
+    ((host : HostId) → host.0 < length code.hosts → stack_at stacks host ≡ first_stack code host) →
+    AreStacks world stacks
+are_first code world stacks fits have long first host = at (state_at world host) refl
+  where
+    at : (o : Option HostShape) → state_at world host ≡ o →
+        IfSome o (λ state. (host.0 < length stacks) × (entries_of state.entries ≡ stack_at stacks host))
+    at None is = tt
+    at (Some state) is =
+        let within : host.0 < length code.hosts = numbered_host code world host state fits is in
+        let own : entries_of state.entries ≡ first_stack code host =
+        subst (λ (o : Option HostShape). IfSome o (λ one. entries_of one.entries ≡ first_stack code host)) is (have host)
+        in
+        (omega arith, own ∙ sym (first host within))

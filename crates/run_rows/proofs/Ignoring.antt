@@ -1,6 +1,6 @@
 -- Why an event was ignored, by whether the count of what its host ignored has risen.
 use Rattle.std.proofs.Common.{◌≡◌, ◌⊎◌, ◌∙◌, ℕ, Bool, true, false, Option, Some, None, ap, sym, refl, inl, inr}
-use Rattle.std.proofs.Common.{arith, subst}
+use Rattle.std.proofs.Common.{arith, subst, length, ◌<◌}
 use Rattle.std.specs.Prelude.{◌↔◌, IsTrue, IsSomeAnd, IfSome, slice_get, if◌then◌else◌}
 use Rattle.js_base.specs.declared.ids.HostId.{HostId}
 use Rattle.host_code.specs.declared.message.Message.{Message}
@@ -81,6 +81,14 @@ numbered code world host state fits obeys =
     let own : IsStateOf code host state =
     subst (λ (o : Option HostShape). IfSome o (IsStateOf code host)) obeys (fits.states host) in
     own.me
+
+-- and is one of the code's
+pub numbered_host : (code : CodeShape) (world : WorldShape) (host : HostId) (state : HostShape) → ShapeFits code world →
+    state_at world host ≡ Some state → host.0 < length code.hosts
+numbered_host code world host state fits obeys =
+    let own : IsStateOf code host state =
+    subst (λ (o : Option HostShape). IfSome o (IsStateOf code host)) obeys (fits.states host) in
+    subst (λ (h : HostId). h.0 < length code.hosts) own.me own.fits.me
 
 took : (code : CodeShape) (world next : WorldShape) (from to : HostId) (place : ℕ)
     (step : IsTakeStep code world from to place next) (found : What) (passes : Bool) (reason : Option Why) →

@@ -2,8 +2,10 @@ mod AskedIn
 mod Changes
 mod Ignoring
 mod PicturedMore
+mod Postings
 mod RowLaws
 mod SeenAfter
+mod SlotLists
 mod StackLists
 mod StatesOf
 mod TakenOff

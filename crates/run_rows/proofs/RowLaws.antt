@@ -1,7 +1,7 @@
 -- What rows say of a run.
-use Rattle.std.proofs.Common.{◌≡◌, ◌≢◌, ◌⊎◌, ◌∙◌, ℕ, zero, suc, ◌+◌, ◌-◌, ◌<◌, ◌≤◌, Bool, true, false, List, [], ◌∷◌, ◌++◌}
-use Rattle.std.proofs.Common.{length, map, Option, Some, None, ap, sym, refl, subst, arith, length-append, inl, inr}
-use Rattle.std.specs.Prelude.{◌↔◌, ◌==◌, ℤ, IsSomeAnd, IfSome, slice_get, if◌then◌else◌}
+use Rattle.std.proofs.Common.{◌≡◌, ◌∙◌, ℕ, zero, suc, ◌+◌, ◌-◌, ◌≤◌, Bool, true, false, List, [], ◌∷◌}
+use Rattle.std.proofs.Common.{length, map, Option, Some, None, ap, sym, refl, subst, arith, length-append}
+use Rattle.std.specs.Prelude.{◌==◌, ℤ, IfSome, slice_get, if◌then◌else◌}
 use Rattle.std.specs.Int.{bit_at}
 use Rattle.std.specs.List.{cons_option, filter_map, range_with_len}
 use Rattle.js_base.specs.declared.ids.HostId.{HostId}
@@ -13,21 +13,21 @@ use Rattle.host_core.specs.Host.{HostShape, after_push, new_token}
 use Rattle.host_core.specs.Start.{host_at_start, idle_host, root_host, main_frame, last_token}
 use Rattle.event_text.specs.declared.event.Event.{Event}
 use Rattle.net_world.specs.Told.{SentMessage}
-use Rattle.net_world.specs.World.{WorldShape, given, host_before, hosts_before, world_at_start, state_at}
+use Rattle.net_world.specs.World.{given, host_before, hosts_before, world_at_start}
 use Rattle.run_rows.specs.declared.row.Change.{Change}
 use Rattle.run_rows.specs.declared.row.Change.TheVariants as change
 use Rattle.run_rows.specs.declared.row.Row.{Row}
-use Rattle.run_rows.specs.Rows.{IsRow, IsTelling, IsPictured}
+use Rattle.run_rows.specs.Rows.{Moment, IsTelling, IsPictured, moment_after}
 use Rattle.run_rows.specs.Stacks.{HasChanged, HaveFirstStacks, entries_of, first_stack}
 use Rattle.run_rows.proofs.TakenOff.{entered}
 
-pub lines : (code : CodeShape) (world last : WorldShape) (said : List (ℕ × Event)) (rows : List Row) →
-    IsPictured code world said rows last → map (λ (row : Row). row.line) rows ≡ map (λ (one : ℕ × Event). one.0) said
-lines code world last [] rows is = ap (map (λ (row : Row). row.line)) is.0
-lines code world last (one ∷ said) rows (next, row, others, step, its, same, behind) =
+pub lines : (code : CodeShape) (at last : Moment) (said : List (ℕ × Event)) (rows : List Row) →
+    IsPictured code at said rows last → map (λ (row : Row). row.line) rows ≡ map (λ (one : ℕ × Event). one.0) said
+lines code at last [] rows is = ap (map (λ (row : Row). row.line)) is.0
+lines code at last (one ∷ said) rows (next, row, others, step, its, sends, same, behind) =
     ap (map (λ (row : Row). row.line)) same
     ∙ ap (λ (n : ℕ). n ∷ map (λ (row : Row). row.line) others) its.line
-    ∙ ap (λ (ns : List ℕ). one.0 ∷ ns) (lines code next last said others behind)
+    ∙ ap (λ (ns : List ℕ). one.0 ∷ ns) (lines code (moment_after at one.1 next row.posts) last said others behind)
 
 -- ---- what misbehaving hosts were sent
 
@@ -46,27 +46,27 @@ counts_on before after (Some number) all rest (letter, more, at) within is =
           ∙ sym (ap (range_with_len (length before)) left),
     )
 
-counted : (code : CodeShape) (world last : WorldShape) (said : List (ℕ × Event)) (rows : List Row) →
-    IsPictured code world said rows last →
-    (length world.sent ≤ length last.sent)
+counted : (code : CodeShape) (at last : Moment) (said : List (ℕ × Event)) (rows : List Row) →
+    IsPictured code at said rows last →
+    (length at.world.sent ≤ length last.world.sent)
     × (filter_map (λ (row : Row). row.told) rows
-    ≡ range_with_len (length world.sent) (length last.sent - length world.sent))
-counted code world last [] rows is =
-    let long : length world.sent ≡ length last.sent = ap (λ (w : WorldShape). length w.sent) is.1 in
-    let none : length last.sent - length world.sent ≡ 0 = omega (arith, long) in (
+    ≡ range_with_len (length at.world.sent) (length last.world.sent - length at.world.sent))
+counted code at last [] rows is =
+    let long : length at.world.sent ≡ length last.world.sent = ap (λ (m : Moment). length m.world.sent) is.1 in
+    let none : length last.world.sent - length at.world.sent ≡ 0 = omega (arith, long) in (
       omega (arith, long),
-      ap (filter_map (λ (row : Row). row.told)) is.0 ∙ sym (ap (range_with_len (length world.sent)) none),
+      ap (filter_map (λ (row : Row). row.told)) is.0 ∙ sym (ap (range_with_len (length at.world.sent)) none),
     )
-counted code world last (one ∷ said) rows (next, row, others, step, its, same, behind) =
-    let later = counted code next last said others behind in
-    let here = counts_on world.sent next.sent row.told (length last.sent) _ its.told later.0 later.1 in
+counted code at last (one ∷ said) rows (next, row, others, step, its, sends, same, behind) =
+    let later = counted code (moment_after at one.1 next row.posts) last said others behind in
+    let here = counts_on at.world.sent next.sent row.told (length last.world.sent) _ its.told later.0 later.1 in
     (here.0, ap (filter_map (λ (row : Row). row.told)) same ∙ here.1)
 
-pub told : (code : CodeShape) (world last : WorldShape) (said : List (ℕ × Event)) (rows : List Row) →
-    IsPictured code world said rows last →
+pub told : (code : CodeShape) (at last : Moment) (said : List (ℕ × Event)) (rows : List Row) →
+    IsPictured code at said rows last →
     filter_map (λ (row : Row). row.told) rows
-    ≡ range_with_len (length world.sent) (length last.sent - length world.sent)
-told code world last said rows is = (counted code world last said rows is).1
+    ≡ range_with_len (length at.world.sent) (length last.world.sent - length at.world.sent)
+told code at last said rows is = (counted code at last said rows is).1
 
 -- ---- control stacks
 

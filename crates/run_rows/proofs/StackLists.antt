@@ -16,7 +16,7 @@ before_last [] y i lt = absurd (omega arith)
 before_last (x ∷ xs) y zero lt = refl
 before_last (x ∷ xs) y (suc i) lt = before_last xs y i (omega arith)
 
-at_last : {X : Type 0} (xs : List X) (y : X) (i : ℕ) → i ≡ length xs → slice_get (xs ++ y ∷ []) i ≡ Some y
+pub at_last : {X : Type 0} (xs : List X) (y : X) (i : ℕ) → i ≡ length xs → slice_get (xs ++ y ∷ []) i ≡ Some y
 at_last [] y zero is = refl
 at_last [] y (suc i) is = absurd (omega (arith, is))
 at_last (x ∷ xs) y zero is = absurd (omega (arith, is))

@@ -3,8 +3,12 @@ use Rattle.std.proofs.Common.{◌≡◌, ◌∙◌, ℕ, List, Option, Some, Non
 use Rattle.std.specs.Prelude.{IsSomeAnd, slice_get, slice_set}
 use Rattle.js_base.specs.declared.ids.HostId.{HostId}
 use Rattle.host_code.specs.Code.{CodeShape}
+use Rattle.host_core.specs.Host.{HostShape}
 use Rattle.event_text.specs.declared.event.BadMessage.{BadMessage}
-use Rattle.net_world.specs.World.{WorldShape, IsTakeStep, IsTurnStep, IsActStep, given, present, state_at}
+use Rattle.event_text.specs.declared.event.Event.{Event}
+use Rattle.event_text.specs.declared.event.Event.TheVariants.{Take, Turn, Act}
+use Rattle.net_world.specs.World.{WorldShape, IsStep, IsTakeStep, IsTurnStep, IsActStep, given, present}
+use Rattle.net_world.specs.World.{state_at, mover}
 use Rattle.net_world.proofs.Present.{at_set}
 use Rattle.net_world.proofs.StepLaws.{take_puts, turn_puts, act_puts}
 
@@ -42,3 +46,10 @@ pub after_act : (code : CodeShape) (world next : WorldShape) (from to : HostId) 
 after_act code world next from to made step =
     put_there world.hosts next.hosts to step.state step.outcome.state step.obeys
     (act_puts code world next from to made step)
+
+-- the state of an event's host before it
+pub moved_state : (code : CodeShape) (world next : WorldShape) (event : Event) → IsStep code world event next →
+    (state : HostShape) × (state_at world (mover event) ≡ Some state)
+moved_state code world next (Take from to place) step = (step.state, step.obeys)
+moved_state code world next (Turn host) step = (step.state, step.obeys)
+moved_state code world next (Act from to made) step = (step.state, step.obeys)

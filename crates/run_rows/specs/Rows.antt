@@ -2,7 +2,7 @@
 --
 -- A row is told from the world before its event and the world after it. Only the host of the event changes, so a row has
 -- no more than that one's threads.
-use Rattle.std.specs.Prelude.{◌≡◌, ◌⊎◌, ◌↔◌, ℕ, Bool, false, IsTrue, List, [], ◌∷◌, ◌++◌, length}
+use Rattle.std.specs.Prelude.{◌≡◌, ◌⊎◌, ◌↔◌, ◌+◌, ℕ, Bool, false, IsTrue, List, [], ◌∷◌, ◌++◌, length}
 use Rattle.std.specs.Prelude.{Option, Some, None, IsSomeAnd, is_some, nat_lt, slice_get, if◌then◌else◌}
 use Rattle.std.specs.Option.{option_map}
 use Rattle.js_base.specs.declared.ids.HostId.{HostId}
@@ -21,6 +21,7 @@ use Rattle.net_world.specs.World.{WorldShape, IsStep, state_at, tokens_sent, has
 use Rattle.ignored_reasons.specs.declared.why.Why.{Why}
 use Rattle.ignored_reasons.specs.declared.why.Why.TheVariants as why
 use Rattle.ignored_reasons.specs.Reasons.{IsWhy}
+use Rattle.run_rows.specs.Senders.{IsPosting, no_senders, sender_of, senders_after}
 use Rattle.run_rows.specs.Stacks.{HasChanged, entries_in}
 use Rattle.run_rows.specs.declared.row.Row.{Row}
 use Rattle.run_rows.specs.declared.row.What.{What}
@@ -97,14 +98,36 @@ pub record IsRow (code : CodeShape) (world : WorldShape) (said : ℕ × Event) (
   pub runs : row.runs ≡ runs_in (state_at next (mover said.1))
   pub waits : row.waits ≡ waits_in (state_at next (mover said.1))
 
--- events with their lines happen one after the other, these are their rows, one for each in order, and this is the world
--- that they leave
-abbrev pub IsPictured : CodeShape → WorldShape → List (ℕ × Event) → List Row → WorldShape → Type 0
-IsPictured code world [] rows last = (rows ≡ []) × (world ≡ last)
-IsPictured code world (one ∷ said) rows last =
+-- ---- a run
+
+-- A moment of a run: the world, the numbers of the events that sent what is in flight, and how many events happened.
+pub record Moment : Type 0 where
+  pub world : WorldShape
+  pub senders : List (List ℕ)
+  pub count : ℕ
+
+-- the event sent a message that is in flight now to this host, and what it took was sent by the event of this number
+pub record IsSending (at : Moment) (event : Event) (next : WorldShape) (row : Row) : Type 0 where
+  pub posts : IsPosting at.world event next row.posts
+  pub sent_by : row.sent_by ≡ sender_of at.senders event
+
+-- the moment after an event, which left this world, and sent a message that is in flight, if it sent one
+abbrev pub moment_after : Moment → Event → WorldShape → Option HostId → Moment
+moment_after at event next posts =
+    record { world = next; senders = senders_after at.senders event posts at.count; count = at.count + 1 }
+
+-- nothing has happened, and nothing is in flight
+abbrev pub first_moment : WorldShape → Moment
+first_moment world = record { world = world; senders = no_senders; count = 0 }
+
+-- events with their lines happen one after the other, these are their rows, one for each in order, and this is the
+-- moment that they lead to
+abbrev pub IsPictured : CodeShape → Moment → List (ℕ × Event) → List Row → Moment → Type 0
+IsPictured code at [] rows last = (rows ≡ []) × (at ≡ last)
+IsPictured code at (one ∷ said) rows last =
     (next : WorldShape) × (row : Row) × (others : List Row)
-    × IsStep code world one.1 next × IsRow code world one next row × (rows ≡ row ∷ others)
-    × IsPictured code next said others last
+    × IsStep code at.world one.1 next × IsRow code at.world one next row × IsSending at one.1 next row
+    × (rows ≡ row ∷ others) × IsPictured code (moment_after at one.1 next row.posts) said others last
 
 -- ---- in the program
 

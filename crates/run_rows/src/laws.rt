@@ -19,7 +19,7 @@ ghost use Rattle.net_world.specs.World.{WorldShape, IsRun, state_at, tokens_sent
 ghost use Rattle.run_rows.specs.declared.row.Change.{Change};
 ghost use Rattle.run_rows.specs.declared.row.Change.TheVariants as change;
 ghost use Rattle.run_rows.specs.declared.row.Row.{Row};
-ghost use Rattle.run_rows.specs.Rows.{IsRow, IsPictured};
+ghost use Rattle.run_rows.specs.Rows.{Moment, IsRow, IsPictured};
 ghost use Rattle.run_rows.specs.Stacks.{HasChanged, HaveFirstStacks};
 
 use ignored_reasons::reason_laws;
@@ -27,10 +27,10 @@ use ignored_reasons::reason_laws;
 /// What the rows of a run say of it.
 pub fn row_laws()
     // What has rows has happened, and there is a row for each event, in order, with its line.
-    ensures ran { (code : CodeShape) (world last : WorldShape) (said : List (ℕ × Event)) (rows : List Row) →
-        IsPictured code world said rows last → IsRun code world (events_in said) last }
-    ensures lines { (code : CodeShape) (world last : WorldShape) (said : List (ℕ × Event)) (rows : List Row) →
-        IsPictured code world said rows last → map (λ row. row.line) rows ≡ map (λ one. one.0) said }
+    ensures ran { (code : CodeShape) (at last : Moment) (said : List (ℕ × Event)) (rows : List Row) →
+        IsPictured code at said rows last → IsRun code at.world (events_in said) last.world }
+    ensures lines { (code : CodeShape) (at last : Moment) (said : List (ℕ × Event)) (rows : List Row) →
+        IsPictured code at said rows last → map (λ row. row.line) rows ≡ map (λ one. one.0) said }
     // Of a message that is taken there is a reason exactly where its check is false of the host's state, the sender and
     // the message.
     ensures take_ignored { (code : CodeShape) (world next : WorldShape) (line place : ℕ) (from to : HostId)
@@ -43,10 +43,10 @@ pub fn row_laws()
         message_made (tokens_sent world) made ≡ Some taken → state_at world to ≡ Some state →
         ((row.ignored ≡ None) ↔ Passes code state from taken) }
     // The numbers of what misbehaving hosts were sent count on, and none is left out.
-    ensures told { (code : CodeShape) (world last : WorldShape) (said : List (ℕ × Event)) (rows : List Row) →
-        IsPictured code world said rows last →
+    ensures told { (code : CodeShape) (at last : Moment) (said : List (ℕ × Event)) (rows : List Row) →
+        IsPictured code at said rows last →
         filter_map (λ row. row.told) rows
-        ≡ range_with_len (length world.sent) (length last.sent - length world.sent) }
+        ≡ range_with_len (length at.world.sent) (length last.world.sent - length at.world.sent) }
     // One more entry on a stack was pushed, one less was taken off, and where neither is so the stack is the same.
     ensures pushed { (before after : List StackEntry) (top : StackEntry) (did : Change) → HasChanged before after did →
         after ≡ top ∷ before → did ≡ change.Pushed top.entry }

@@ -11,6 +11,7 @@
 //! - `seen`: what a world shows of an event's host before the event and after it
 //! - `asking`: what a misbehaving host asks, whatever token it presents
 //! - `stacks`: the control stacks, as far as a run shows them
+//! - `senders`: the events that sent what is in flight
 //! - `rows`: the rows of events
 //! - `laws`: what rows say of a run
 #![tactic(auto)]
@@ -20,8 +21,10 @@ mod laws;
 mod row;
 mod rows;
 mod seen;
+mod senders;
 mod stacks;
 
 pub use laws::row_laws;
 pub use row::{Change, Row, What};
-pub use rows::rows_of;
+pub use rows::{Run, rows_of};
+pub use senders::Senders;

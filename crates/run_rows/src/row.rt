@@ -32,6 +32,10 @@ pub struct Row {
     /// The line of the script on which the event stands.
     pub line: u32,
     pub what: What,
+    /// The number, from 0, of the event that sent the message that is taken.
+    pub sent_by: Option<u64>,
+    /// To whom the event's host sent a message that is in flight after the event.
+    pub posts: Option<HostId>,
     /// Why the host ignored what was asked of it, or the token that it gave back itself. None where it did not.
     pub ignored: Option<Why>,
     /// The number, from 0, of what a misbehaving host was sent in the event, among all that such hosts were sent.
@@ -52,6 +56,8 @@ pub fn keep(rows: &mut Vec<Row>, row: Row) -> Result<(), OutOfMemory>
     let Row {
         line,
         what,
+        sent_by,
+        posts,
         ignored,
         told,
         change,
@@ -68,6 +74,8 @@ pub fn keep(rows: &mut Vec<Row>, row: Row) -> Result<(), OutOfMemory>
     rows.push(Row {
         line,
         what,
+        sent_by,
+        posts,
         ignored,
         told,
         change,

@@ -1,4 +1,3 @@
-use Rattle.std.proofs.Common.{◌≡◌}
 use Rattle.std.specs.Prelude.{slice_get}
 use Rattle.net_world.specs.Told.{message_made}
 use Rattle.net_world.specs.World.{state_at, tokens_sent}

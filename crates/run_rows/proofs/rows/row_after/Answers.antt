@@ -11,8 +11,8 @@ use Rattle.run_rows.proofs.SeenAfter.{runs_is, waits_is, counted_as, halts_now}
 use Rattle.run_rows.proofs.Tellings.{one_more, told}
 use Rattle.run_rows.proofs.rows.row_after.Goals as goal
 
-pub returns : goal.returns
-returns c = λ old fits before step changed.
+pub returns-clause-row : goal.returns-clause-row
+returns-clause-row c = λ old fits before step changed.
     let code = c.args.code.now in
     let next = world_of c.args.world.now in
     let event = c.args.event.now in
