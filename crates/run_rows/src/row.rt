@@ -53,35 +53,13 @@ pub struct Row {
 pub fn keep(rows: &mut Vec<Row>, row: Row) -> Result<(), OutOfMemory>
     ensures { OnOk result (rows.new.items ≡ rows.old.items ++ row ∷ []) }
 {
-    let Row {
-        line,
-        what,
-        sent_by,
-        posts,
-        ignored,
-        told,
-        change,
-        halts,
-        runs,
-        waits,
-    } = row;
+    let what = row.what;
     // Written out by its kinds, as the check looks up what a message is made of only where a function names one.
     let what = match what {
         What::Turn(host, at) => What::Turn(host, at),
         What::Take(from, to, message) => What::Take(from, to, message),
         What::Act(from, to, made) => What::Act(from, to, made),
     };
-    rows.push(Row {
-        line,
-        what,
-        sent_by,
-        posts,
-        ignored,
-        told,
-        change,
-        halts,
-        runs,
-        waits,
-    })?;
+    rows.push(Row { what, ..row })?;
     Ok(())
 }
