@@ -1,6 +1,8 @@
 mod AskedIn
 mod Changes
+mod FittingRows
 mod Ignoring
+mod OneRow
 mod PicturedMore
 mod Postings
 mod RowLaws

@@ -110,7 +110,7 @@ beside_put senders flying from to numbers flights lt lt' beside same = (
 
 -- ---- hosts of what is in flight
 
-all_there : {X : Type 0} (P : X → Type 0) (xs : List X) (i : ℕ) (x : X) → All P xs → slice_get xs i ≡ Some x → P x
+pub all_there : {X : Type 0} (P : X → Type 0) (xs : List X) (i : ℕ) (x : X) → All P xs → slice_get xs i ≡ Some x → P x
 all_there P [] i x all is = absurd (cc)
 all_there P (y ∷ xs) zero x all is = subst P (some_same (Some y) y x refl is) (all 0 y (omega arith))
 all_there P (y ∷ xs) (suc i) x all is = all_there P xs i x (λ k d lt. all (suc k) d (omega arith)) is
@@ -142,7 +142,7 @@ left_beside code world next (Take from to place) senders sound fits step beside 
 
 -- ---- to whom an event sent
 
-cell_same : (flying : Flying) (from to : HostId) (flights : List Flight) →
+pub cell_same : (flying : Flying) (from to : HostId) (flights : List Flight) →
     with_flights flying from to flights from to ≡ flights
 cell_same flying from to flights = cell (from.0 == from.0 && to.0 == to.0) (grind (arith, nat_tests))
   where
@@ -150,7 +150,7 @@ cell_same flying from to flights = cell (from.0 == from.0 && to.0 == to.0) (grin
     cell true is = refl
     cell false is = absurd (cc)
 
-cell_other : (flying : Flying) (from to other : HostId) (flights : List Flight) → other.0 ≢ to.0 →
+pub cell_other : (flying : Flying) (from to other : HostId) (flights : List Flight) → other.0 ≢ to.0 →
     with_flights flying from to flights from other ≡ flying from other
 cell_other flying from to other flights apart =
     cell (from.0 == from.0 && other.0 == to.0) (grind (arith, nat_tests))

@@ -3,13 +3,14 @@
 -- A row is told from the world before its event and the world after it. Only the host of the event changes, so a row has
 -- no more than that one's threads.
 use Rattle.std.specs.Prelude.{◌≡◌, ◌⊎◌, ◌↔◌, ◌+◌, ℕ, Bool, false, IsTrue, List, [], ◌∷◌, ◌++◌, length}
-use Rattle.std.specs.Prelude.{Option, Some, None, IsSomeAnd, is_some, nat_lt, slice_get, if◌then◌else◌}
+use Rattle.std.specs.Prelude.{⊤, Option, Some, None, IsSome, IsSomeAnd, is_some, nat_lt, slice_get, if◌then◌else◌}
 use Rattle.std.specs.Option.{option_map}
 use Rattle.js_base.specs.declared.ids.HostId.{HostId}
 use Rattle.capability.specs.declared.token.Token.{Token}
 use Rattle.ics_stack.specs.Stack.{top_token}
 use Rattle.host_code.specs.declared.instruction.Op.{Op}
 use Rattle.host_code.specs.declared.instruction.Op.TheVariants as op
+use Rattle.host_code.specs.Messages.{MessageFits}
 use Rattle.host_code.specs.Code.{CodeShape, instruction_at}
 use Rattle.host_code.specs.declared.message.Message.{Message}
 use Rattle.host_core.specs.Host.{HostShape}
@@ -39,6 +40,12 @@ IsWhat world (Turn host) found =
 IsWhat world (Take from to place) found =
     IsSomeAnd (slice_get (world.flying from to) place) (λ flight. found ≡ what.Take from to flight.message)
 IsWhat world (Act from to made) found = found ≡ what.Act from to made
+
+-- the instruction that ran is there, and so is what a message names that was in flight
+abbrev pub WhatFits : CodeShape → What → Type 0
+WhatFits code (what.Turn host at) = IsSome (instruction_at code host at)
+WhatFits code (what.Take from to taken) = MessageFits code taken
+WhatFits code (what.Act from to made) = ⊤
 
 -- ---- what was ignored
 

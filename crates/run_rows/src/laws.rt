@@ -31,6 +31,10 @@ pub fn row_laws()
         IsPictured code at said rows last → IsRun code at.world (events_in said) last.world }
     ensures lines { (code : CodeShape) (at last : Moment) (said : List (ℕ × Event)) (rows : List Row) →
         IsPictured code at said rows last → map (λ row. row.line) rows ≡ map (λ one. one.0) said }
+    // There is one list of rows at most, and it leads to one moment.
+    ensures one { (code : CodeShape) (at last ends : Moment) (said : List (ℕ × Event)) (rows others : List Row) →
+        IsPictured code at said rows last → IsPictured code at said others ends →
+        (rows ≡ others) × (last ≡ ends) }
     // Of a message that is taken there is a reason exactly where its check is false of the host's state, the sender and
     // the message.
     ensures take_ignored { (code : CodeShape) (world next : WorldShape) (line place : ℕ) (from to : HostId)

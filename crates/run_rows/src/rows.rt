@@ -8,7 +8,7 @@ ghost use Rattle.net_world.specs.World.{WorldShape, IsStep, mover, state_at};
 ghost use Rattle.js_base.specs.declared.ids.HostId.{HostId};
 ghost use Rattle.run_rows.specs.Senders.{AreBeside, IsPosting, senders_after};
 ghost use Rattle.run_rows.specs.Stacks.{AreStacks, HasChanged, HaveFirstStacks, entries_in};
-ghost use Rattle.run_rows.specs.Rows.{IsBefore, IsPictured, IsRow, IsReason, first_moment};
+ghost use Rattle.run_rows.specs.Rows.{IsBefore, IsPictured, IsRow, IsReason, WhatFits, first_moment};
 
 use crate::asking::asked_in;
 use crate::row::{Change, Row, What, keep};
@@ -169,6 +169,7 @@ pub fn rows_of(
         IsPictured code.now (first_moment (world_of world.old)) events.now run.rows.items
         (record { world = world_of world.new; senders = run.senders; count = length events.now })) }
     ensures beside { IfOk result (λ run. AreBeside run.senders (world_of world.new).flying) }
+    ensures fitting { IfOk result (λ run. All (λ row. WhatFits code.now row.what) run.rows.items) }
     ensures refused { IfErr result (IsReplayError code.now (world_of world.old) events.now) }
     ensures fits { WorldFits code.now world.new }
 {

@@ -2,6 +2,7 @@ use Rattle.std.specs.Prelude.{slice_get}
 use Rattle.net_world.specs.Told.{message_made}
 use Rattle.net_world.specs.World.{state_at, tokens_sent}
 use Rattle.run_rows.proofs.StatesOf.{and_some}
+use Rattle.run_rows.proofs.OneRow.{one_list}
 use Rattle.run_rows.proofs.PicturedMore.{pictured_ran}
 use Rattle.run_rows.proofs.RowLaws as law
 use Rattle.run_rows.proofs.laws.row_laws.Goals as goal
@@ -11,6 +12,10 @@ returns-clause-ran c = λ code world last said rows is. pictured_ran code world 
 
 pub returns-clause-lines : goal.returns-clause-lines
 returns-clause-lines c = law.lines
+
+pub returns-clause-one : goal.returns-clause-one
+returns-clause-one c = λ code at last ends said rows others.
+    one_list code at last ends said rows others (c.reason_laws.ensures.one_why code)
 
 pub returns-clause-take_ignored : goal.returns-clause-take_ignored
 returns-clause-take_ignored c = λ code world next line place from to state flight row its there obeys.

@@ -1,5 +1,7 @@
 use Rattle.std.proofs.Common.{◌≡◌, ◌∙◌, ℕ, ◌+◌, List, [], ◌∷◌, ◌++◌, take, length, length-append, ap, subst, sym, rules}
-use Rattle.std.proofs.Common.{Option, Some, Err, get_or}
+use Rattle.std.proofs.Common.{Option, Some, Err, get_or, arith}
+use Rattle.std.specs.Prelude.{All}
+use Rattle.std.proofs.lemmas.List.Elements.{All-append}
 use Rattle.js_base.specs.declared.ids.HostId.{HostId}
 use Rattle.event_text.specs.declared.event.Event.{Event}
 use Rattle.net_world.specs.Fits.{world_of}
@@ -7,9 +9,10 @@ use Rattle.net_world.specs.Replay.{IsErrorOf}
 use Rattle.net_world.specs.World.{IsStep, refusal_of, not_bad, not_there, host_busy, no_such_token}
 use Rattle.net_world.proofs.ReplayedEvents.{stops}
 use Rattle.run_rows.specs.declared.row.Row.{Row}
-use Rattle.run_rows.specs.Rows.{Moment, IsBefore, IsRow, IsSending, IsPictured, first_moment, moment_after}
+use Rattle.run_rows.specs.Rows.{Moment, IsBefore, IsRow, IsSending, IsPictured, WhatFits, first_moment, moment_after}
 use Rattle.run_rows.specs.Senders.{AreBeside, IsPosting, senders_after}
 use Rattle.run_rows.proofs.Changes.{are_first}
+use Rattle.run_rows.proofs.FittingRows.{single, what_fits}
 use Rattle.run_rows.proofs.PicturedMore.{pictured_more, pictured_ran}
 use Rattle.run_rows.proofs.Postings.{none_beside}
 use Rattle.run_rows.proofs.rows.rows_of.Goals as goal
@@ -39,6 +42,7 @@ loop-line-init c =
     let first : ListOfLists → Moment = λ all. record { world = world; senders = all; count = 0 } in
     record {
       pictured = (c.new-rows.ensures.items, ap first (sym c.in_ok-senders.ensures));
+      fitting = λ k d less. absurd (omega (arith, ap length c.new-rows.ensures.items, less));
       count = ap length c.new-rows.ensures.items;
       beside = subst (λ (all : ListOfLists). AreBeside all world.flying) (sym c.in_ok-senders.ensures)
           (none_beside world.flying c.requires.nothing);
@@ -95,6 +99,10 @@ loop-line-preserved c =
           (record { world = next; senders = c.posts_after.new.senders; count = at + 1 })) (sym c.in_ok-keep.ensures)
           (subst (λ (lists : ListOfLists). IsPictured code first all rows
           (record { world = next; senders = lists; count = at + 1 })) (sym now) there);
+      fitting = subst (All (λ (one : Row). WhatFits code one.what)) (sym c.in_ok-keep.ensures)
+          (All-append (λ (one : Row). WhatFits code one.what) c.loop-line.rows.items (row ∷ [])
+          c.loop-line.invariant.fitting
+          (single (λ (one : Row). WhatFits code one.what) row (what_fits code old event row.what fits its.what)));
       count = ap length c.in_ok-keep.ensures ∙ length-append c.loop-line.rows.items (row ∷ [])
           ∙ ap (λ (n : ℕ). n + 1) c.loop-line.invariant.count;
       beside = posted.2;
