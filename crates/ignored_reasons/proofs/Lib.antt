@@ -1,0 +1,6 @@
+mod AskedParts
+mod CheckParts
+mod DecidedParts
+mod FirstFalse
+mod RidingParts
+mod SeenIgnored

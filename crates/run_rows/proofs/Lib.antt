@@ -1,0 +1,15 @@
+mod AskedIn
+mod Changes
+mod FittingRows
+mod Ignoring
+mod OneRow
+mod PicturedMore
+mod Postings
+mod RowLaws
+mod SeenAfter
+mod SlotLists
+mod StackLists
+mod StatesOf
+mod TakenOff
+mod Tellings
+mod TurnTraces
