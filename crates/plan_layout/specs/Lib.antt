@@ -1,0 +1,6 @@
+pub mod Columns
+pub mod Lines
+pub mod Places
+pub mod Rectangles
+pub mod Routes
+pub mod Strips
