@@ -8,6 +8,7 @@ use crate::lines::{Line, lane_of};
 use crate::places::{Places, places_of};
 use crate::strips::{Strip, strips_of, track_of, width_of};
 use drawing_text::Span;
+use js_base::limits::HOSTS;
 use js_base::{HostId, OutOfMemory};
 use std::alloc::Global;
 use std::marker::Model;
@@ -85,10 +86,12 @@ pub fn columns_of(
     lines: &[Line],
 ) -> Result<Columns, OutOfMemory>
     requires from { from < 2 ^ 32 }
-    requires few { length widths.items < 2 ^ 16 }
+    requires few { length widths.items ≤ HOSTS }
     ensures { IfOk result (λ found. found ≡ columns.columns_of from widths.items lines.now) }
 {
-    let strips = strips_of(alloc, lines, widths.len() as u16 + 1)?;
+    let count = widths.len();
+    prove!(count <= HOSTS);
+    let strips = strips_of(alloc, lines, count as u16 + 1)?;
     let spans = spans_of(alloc, &widths, &strips)?;
     let places = places_of(alloc, from, spans.as_slice())?;
     Ok(Columns {
@@ -100,8 +103,9 @@ pub fn columns_of(
 
 /// The columns with the strips before them, and behind the last one.
 fn spans_of(alloc: Global, widths: &[u16], strips: &[Strip]) -> Result<Vec<Span>, OutOfMemory>
-    ensures { IfOk result (λ spans. spans.items
+    ensures spans { IfOk result (λ spans. spans.items
         ≡ columns.spans_from (map strip_shape strips.now) (length widths.now) 0 widths.now) }
+    ensures few { IfOk result (λ spans. length spans.items ≡ length widths.now) }
 {
     let mut spans = Vec::new(alloc);
     let count = widths.len();

@@ -74,13 +74,19 @@ pub fn width_of(strip: &Strip, outer: bool) -> u16
 pub fn track_of(strip: &Strip, rightward: bool, hub: Hub) -> usize
     ensures { result ≡ strips.track_in (strips.lane_hubs (strip_shape strip.now) rightward) hub }
 {
-    let hubs = if rightward {
-        &strip.rightward
+    if rightward {
+        place_in(&strip.rightward, hub)
     } else {
-        &strip.leftward
-    };
+        place_in(&strip.leftward, hub)
+    }
+}
+
+/// The place of a hub among hubs, and behind them where it is not there.
+fn place_in(hubs: &IndexSet<Hub>, hub: Hub) -> usize
+    ensures { result ≡ strips.track_in hubs.now.keys hub }
+{
     match hubs.get_index_of(&hub) {
-        Some(track) => track,
+        Some(place) => place,
         None => hubs.len(),
     }
 }
