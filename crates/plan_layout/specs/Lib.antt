@@ -1,4 +1,5 @@
 pub mod Columns
+pub mod Fits
 pub mod Lines
 pub mod Places
 pub mod Rectangles
