@@ -1,6 +1,6 @@
 -- The way of a line: out of the edge of the column that it begins in, along that row to a strip beside the column that
 -- it leads to, up or down there, and into the edge of that column.
-use Rattle.std.specs.Prelude.{ℕ, ◌+◌, ◌-◌, ◌*◌, nat_le, nat_lt, if◌then◌else◌, slice_index}
+use Rattle.std.specs.Prelude.{ℕ, ◌+◌, ◌-◌, ◌*◌, ◌^◌, ◌<◌, nat_le, nat_lt, if◌then◌else◌, slice_index}
 use Rattle.plan_layout.specs.Columns.{ColumnsShape, left_of, track_of, width_of}
 use Rattle.plan_layout.specs.Places.{PlacesShape}
 use Rattle.plan_layout.specs.declared.lines.Line.{Line}
@@ -46,3 +46,9 @@ route_of columns rows line = record {
   down = nat_lt (leaves_at rows line) (enters_at rows line);
   ends_right = nat_lt line.from.0 line.to.0;
 }
+
+-- its numbers are so small that a few more pixels fit too
+abbrev pub IsSmall : Route → Type 0
+IsSmall route =
+    (route.from_x < 2 ^ 53) × (route.from_y < 2 ^ 53) × (route.at_x < 2 ^ 53) × (route.to_y < 2 ^ 53)
+    × (route.to_x < 2 ^ 53)

@@ -1,7 +1,8 @@
 //! The way of a line.
 
-ghost use Rattle.std.specs.Prelude.{◌≡◌};
+ghost use Rattle.std.specs.Prelude.{◌≡◌, ◌<◌, ◌^◌};
 ghost use Rattle.plan_layout.specs.Routes as routes;
+ghost use Rattle.plan_layout.specs.Routes.{IsSmall};
 
 use crate::columns::Columns;
 use crate::lines::Line;
@@ -25,7 +26,8 @@ pub struct Route {
 
 /// The way of a line among these columns and rows.
 pub fn route_of(columns: &Columns, rows: &Places, line: &Line) -> Route
-    ensures { result ≡ routes.route_of columns.now rows.now line.now }
+    ensures value { result ≡ routes.route_of columns.now rows.now line.now }
+    ensures small { IsSmall result }
 {
     let from_y = rows.start(line.begin as usize) + line.leaves as u64;
     let to_y = rows.start(line.end as usize) + line.enters as u64;
@@ -43,7 +45,8 @@ pub fn route_of(columns: &Columns, rows: &Places, line: &Line) -> Route
 
 /// The edge at which a line begins.
 fn begins_at(columns: &Columns, line: &Line) -> u64
-    ensures { result ≡ routes.begins_at columns.now line.now }
+    ensures value { result ≡ routes.begins_at columns.now line.now }
+    ensures within { result < 2 ^ 53 }
 {
     if line.from.0 <= line.to.0 {
         columns.left(line.from) + columns.width(line.from) as u64
@@ -54,7 +57,8 @@ fn begins_at(columns: &Columns, line: &Line) -> u64
 
 /// Where a line goes up or down.
 fn goes_at(columns: &Columns, line: &Line) -> u64
-    ensures { result ≡ routes.goes_at columns.now line.now }
+    ensures value { result ≡ routes.goes_at columns.now line.now }
+    ensures within { result < 2 ^ 53 }
 {
     let aside = 14 + 9 * columns.track(line);
     if line.from.0 < line.to.0 {
@@ -66,7 +70,8 @@ fn goes_at(columns: &Columns, line: &Line) -> u64
 
 /// The edge at which a line ends.
 fn ends_at(columns: &Columns, line: &Line) -> u64
-    ensures { result ≡ routes.ends_at columns.now line.now }
+    ensures value { result ≡ routes.ends_at columns.now line.now }
+    ensures within { result < 2 ^ 53 }
 {
     if line.from.0 < line.to.0 {
         columns.left(line.to)
