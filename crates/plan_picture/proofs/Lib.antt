@@ -1,0 +1,4 @@
+pub mod Sorted
+pub mod StatementRows
+pub mod TextsAt
+pub mod Walks
