@@ -1,0 +1,10 @@
+pub mod Ends
+pub mod Lasts
+pub mod Levels
+pub mod Readers
+pub mod Relays
+pub mod Stands
+pub mod Tables
+pub mod Tips
+pub mod Ways
+pub mod Whole
