@@ -1,3 +1,4 @@
+pub mod Pictures
 pub mod Sorted
 pub mod StatementRows
 pub mod TextsAt

@@ -6,7 +6,7 @@ use Rattle.std.proofs.lemmas.Bool.{eqb-true, eq-eqb}
 use Rattle.std.proofs.lemmas.Grind.{get_or-set_at}
 use Rattle.std.proofs.lemmas.List.{append-nil, get_or-replicate, get_or-set_other, length-replicate, length-set}
 use Rattle.std.proofs.lemmas.Option.{unwrap_or-slice_get}
-use Rattle.plan_ways.specs.declared.ways.Relay.{Relay}
+use Rattle.plan_ways.specs.declared.relays.Relay.{Relay}
 use Rattle.plan_picture.specs.Behind.{all_behind, relays_at, with_relay, with_relays}
 use Rattle.plan_picture.specs.Rows.{relays_behind}
 
@@ -18,22 +18,22 @@ pub one_more : (behind : List (List Relay)) (relay : Relay) (relays : List Relay
     relays_at (with_relay behind relay) s ++ relays_behind s relays
     ≡ relays_at behind s ++ relays_behind s (relay ∷ relays)
 one_more behind relay relays s lt =
-    let value = relays_at behind relay.behind.0 ++ relay ∷ [] in
-    let read = unwrap_or-slice_get (slice_set behind relay.behind.0 value) s [] in
-    elim (true_or_false (relay.behind.0 == s)) [
+    let value = relays_at behind relay.behind ++ relay ∷ [] in
+    let read = unwrap_or-slice_get (slice_set behind relay.behind value) s [] in
+    elim (true_or_false (relay.behind == s)) [
       | inl here ↦
-          let same : relay.behind.0 ≡ s = eqb-true relay.behind.0 s here in
-          let put : get_or (slice_set behind relay.behind.0 value) s [] ≡ value =
-          get_or-set_at behind relay.behind.0 s value [] (sym same) (omega (arith, lt, same)) in
+          let same : relay.behind ≡ s = eqb-true relay.behind s here in
+          let put : get_or (slice_set behind relay.behind value) s [] ≡ value =
+          get_or-set_at behind relay.behind s value [] (sym same) (omega (arith, lt, same)) in
           let is : relays_at (with_relay behind relay) s ≡ relays_at behind s ++ relay ∷ [] =
           read ∙ put ∙ ap (λ (n : ℕ). relays_at behind n ++ relay ∷ []) same in
           rw here
           (ap (λ (front : List Relay). front ++ relays_behind s relays) is
           ∙ append_assoc (relays_at behind s) (relay ∷ []) (relays_behind s relays))
       | inr elsewhere ↦
-          let apart : s ≢ relay.behind.0 = λ same. let no = eq-eqb relay.behind.0 s (sym same) in cc in
-          let kept : get_or (slice_set behind relay.behind.0 value) s [] ≡ get_or behind s [] =
-          get_or-set_other behind relay.behind.0 s value [] apart in
+          let apart : s ≢ relay.behind = λ same. let no = eq-eqb relay.behind s (sym same) in cc in
+          let kept : get_or (slice_set behind relay.behind value) s [] ≡ get_or behind s [] =
+          get_or-set_other behind relay.behind s value [] apart in
           let is : relays_at (with_relay behind relay) s ≡ relays_at behind s =
           read ∙ kept ∙ sym (unwrap_or-slice_get behind s []) in
           rw elsewhere (ap (λ (front : List Relay). front ++ relays_behind s relays) is)
@@ -44,7 +44,7 @@ all_sorted : (behind : List (List Relay)) (relays : List Relay) (s : ℕ) → s 
 all_sorted behind [] s lt = sym (append-nil (relays_at behind s))
 all_sorted behind (relay ∷ relays) s lt =
     let inside : s < length (with_relay behind relay) =
-    omega (arith, lt, length-set behind relay.behind.0 (relays_at behind relay.behind.0 ++ relay ∷ [])) in
+    omega (arith, lt, length-set behind relay.behind (relays_at behind relay.behind ++ relay ∷ [])) in
     all_sorted (with_relay behind relay) relays s inside ∙ one_more behind relay relays s lt
 
 -- those behind each statement are found at its number

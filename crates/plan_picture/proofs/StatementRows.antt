@@ -1,6 +1,6 @@
 -- The rows of one more statement.
 use Rattle.std.proofs.Common.{◌≡◌, ℕ, ◌+◌, ◌<◌, List, [], ◌∷◌, ◌++◌, length, get_or, drop, map, ap, sym, ◌∙◌}
-use Rattle.plan_ways.specs.declared.ways.Relay.{Relay}
+use Rattle.plan_ways.specs.declared.relays.Relay.{Relay}
 use Rattle.statement_texts.specs.Texts.{statement_text_shape}
 use Rattle.statement_texts.specs.declared.texts.StatementText.{StatementText}
 use Rattle.plan_picture.specs.Rows.{relay_row, relays_behind, statement_row, statement_rows}

@@ -96,3 +96,7 @@ numbered_written f n start before after was pushed =
     pushed ∙ ap (λ (front : List ℕ). front ++ f n) was
     ∙ append_assoc start (flat_map f (range_with_len 0 n)) (f n)
     ∙ ap (λ (text : List ℕ). start ++ text) (sym whole)
+
+-- nothing was written
+pub none_written : (start : List ℕ) → start ≡ start ++ []
+none_written start = sym (append-nil start)

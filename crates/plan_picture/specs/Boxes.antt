@@ -10,9 +10,9 @@ use Rattle.js_base.specs.declared.ids.FieldId.{FieldId}
 use Rattle.js_base.specs.declared.ids.HostId.{HostId}
 use Rattle.js_base.specs.declared.ids.StmtId.{StmtId}
 use Rattle.plan_layout.specs.Columns as layout
-use Rattle.plan_ways.specs.declared.ways.Relay.{Relay}
-use Rattle.plan_ways.specs.declared.ways.Role.{Role}
-use Rattle.plan_ways.specs.declared.ways.Role.TheVariants as role
+use Rattle.plan_ways.specs.declared.relays.Relay.{Relay}
+use Rattle.plan_ways.specs.declared.relays.RelayRole.{RelayRole}
+use Rattle.plan_ways.specs.declared.relays.RelayRole.TheVariants as role
 use Rattle.statement_texts.specs.Texts.{StatementTextShape}
 use Rattle.plan_picture.specs.Columns.{has_part}
 use Rattle.plan_picture.specs.Paths.{Grid}
@@ -157,7 +157,7 @@ statement_of sheet statement room place =
 
 -- ---- relays
 
-abbrev pub role_text : Role → List ℕ
+abbrev pub role_text : RelayRole → List ℕ
 role_text role.End = codes "end"
 role_text role.GivesBack = codes "gives back"
 role_text role.HandsOn = codes "hands on"

@@ -4,7 +4,7 @@ use Rattle.std.specs.Prelude.{List, [], ◌∷◌, ◌++◌, codes, Option, Some
 use Rattle.std.specs.Fmt.{decimal}
 use Rattle.js_base.specs.declared.ids.StmtId.{StmtId}
 use Rattle.plan_layout.specs.Places.{PlacesShape}
-use Rattle.plan_ways.specs.declared.ways.Relay.{Relay}
+use Rattle.plan_ways.specs.declared.relays.Relay.{Relay}
 use Rattle.statement_texts.specs.Texts.{StatementTextShape}
 use Rattle.plan_picture.specs.Legend.{bracket_text, bracket_tip}
 use Rattle.plan_picture.specs.Rows.{height_of}

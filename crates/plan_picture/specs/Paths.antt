@@ -1,15 +1,15 @@
 -- The strokes of ways.
 use Rattle.std.specs.Prelude.{ℕ, ◌+◌, ◌-◌, ◌/◌, Bool, true, false, not, if◌then◌else◌, List, [], ◌∷◌, ◌++◌, codes}
 use Rattle.std.specs.Fmt.{decimal}
-use Rattle.host_code.specs.Code.{CodeShape}
 use Rattle.plan_layout.specs.Columns.{ColumnsShape}
 use Rattle.plan_layout.specs.Places.{PlacesShape}
 use Rattle.plan_layout.specs.Routes.{route_of}
 use Rattle.plan_layout.specs.declared.routes.Route.{Route}
-use Rattle.plan_ways.specs.Ways.{tip_text}
+use Rattle.plan_ways.specs.Tips.{tip_text}
 use Rattle.plan_ways.specs.declared.ends.Way.{Way}
 use Rattle.plan_picture.specs.Legend.{class_of_kind, class_text}
 use Rattle.plan_picture.specs.Lines.{RowNumbers, line_of, parts}
+use Rattle.plan_picture.specs.Sheets.{SheetShape}
 
 -- seven pixels before where a way ends, which is where its tip begins
 abbrev pub tip_x : Route → ℕ
@@ -81,9 +81,9 @@ abbrev pub title_text : List ℕ → List ℕ
 title_text tip = codes "<title>" ++ (tip ++ codes "</title>")
 
 -- a way that goes so
-abbrev pub way_text : CodeShape → Way → Route → List ℕ
-way_text code way route =
-    class_text (class_of_kind way.kind) ++ (title_text (tip_text code way)
+abbrev pub way_text : SheetShape → Way → Route → List ℕ
+way_text sheet way route =
+    class_text (class_of_kind way.kind) ++ (title_text (tip_text sheet.code sheet.program way)
     ++ (path_text (stroke_of (parts way.kind) route) ++ (rider_text way.rides route ++ end_text route)))
 
 -- where all things are: how rows are numbered, and where columns and rows begin
@@ -95,6 +95,6 @@ pub record Grid : Type 0 where
 abbrev pub route_on : Grid → Way → Route
 route_on grid way = route_of grid.columns grid.places (line_of grid.numbers way)
 
-abbrev pub ways_text : CodeShape → Grid → List Way → List ℕ
-ways_text code grid [] = []
-ways_text code grid (way ∷ ways) = way_text code way (route_on grid way) ++ ways_text code grid ways
+abbrev pub ways_text : SheetShape → Grid → List Way → List ℕ
+ways_text sheet grid [] = []
+ways_text sheet grid (way ∷ ways) = way_text sheet way (route_on grid way) ++ ways_text sheet grid ways

@@ -72,35 +72,38 @@ lane_of columns top bottom number =
     lane_text (layout.left_of columns (record { 0 = number })) (layout.width_of columns (record { 0 = number })) top
     bottom
 
-abbrev pub lanes_text : layout.ColumnsShape → (top bottom count : ℕ) → List ℕ
+unfoldable pub lanes_text : layout.ColumnsShape → (top bottom count : ℕ) → List ℕ
 lanes_text columns top bottom count = flat_map (lane_of columns top bottom) (range_with_len 0 count)
 
 -- ---- the whole
 
 -- the lines before the lanes
-abbrev pub front_text : (cost width height : ℕ) → List Sign → List ℕ
+unfoldable pub front_text : (cost width height : ℕ) → List Sign → List ℕ
 front_text cost width height signs =
     first_text width height ++ (style_text ++ (ground_text width height ++ (cost_text cost
     ++ cells_text width 0 signs)))
 
 -- bands and brackets of loops, and the ways, which pass behind the boxes
-abbrev pub middle_text : SheetShape → Grid → List ℕ
+unfoldable pub middle_text : SheetShape → Grid → List ℕ
 middle_text sheet grid =
     bands_text grid.places grid.columns.places.past (loops_of sheet 1 (rows_of sheet))
-    ++ (brackets_text grid.places (loops_of sheet 1 (rows_of sheet)) ++ ways_text sheet.code grid sheet.ways)
+    ++ (brackets_text grid.places (loops_of sheet 1 (rows_of sheet)) ++ ways_text sheet grid sheet.ways)
 
-abbrev pub boxes_of : SheetShape → Grid → List ℕ
+unfoldable pub boxes_of : SheetShape → Grid → List ℕ
 boxes_of sheet grid =
     heads_text sheet grid (rows_of sheet)
     ++ (boxes_text sheet grid (line_room sheet.lines) 1 (rows_of sheet) ++ codes "</svg>\n")
 
--- the picture: 14 pixels are free behind the last row
-abbrev pub picture_on : SheetShape → Grid → (width signs : ℕ) → List ℕ
-picture_on sheet grid width signs =
-    front_text sheet.cost width (grid.places.past + 14) (legend_of sheet)
-    ++ (lanes_text grid.columns (top_of width signs) (grid.places.past + 4) (length sheet.code.hosts)
+-- 14 pixels are free behind the last row
+unfoldable pub parts_text : SheetShape → Grid → List Sign → (width top : ℕ) → List ℕ
+parts_text sheet grid signs width top =
+    front_text sheet.cost width (grid.places.past + 14) signs
+    ++ (lanes_text grid.columns top (grid.places.past + 4) (length sheet.code.hosts)
     ++ (middle_text sheet grid ++ boxes_of sheet grid))
 
+abbrev pub picture_on : SheetShape → Grid → List Sign → List ℕ
+picture_on sheet grid signs =
+    parts_text sheet grid signs (width_of grid.columns) (top_of (width_of grid.columns) (length signs))
+
 abbrev pub plan_text : SheetShape → List ℕ
-plan_text sheet =
-    picture_on sheet (grid_of sheet) (width_of (columns_of sheet)) (length (legend_of sheet))
+plan_text sheet = picture_on sheet (grid_of sheet) (legend_of sheet)

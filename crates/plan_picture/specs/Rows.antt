@@ -4,7 +4,7 @@ use Rattle.std.specs.Prelude.{ℕ, ◌+◌, ◌==◌, if◌then◌else◌, List,
 use Rattle.drawing_text.specs.declared.spans.Span.{Span}
 use Rattle.host_code.specs.Code.{CodeFieldShape}
 use Rattle.need_labels.specs.Plan.{field_host, statement_host}
-use Rattle.plan_ways.specs.declared.ways.Relay.{Relay}
+use Rattle.plan_ways.specs.declared.relays.Relay.{Relay}
 use Rattle.statement_texts.specs.Texts.{StatementTextShape}
 use Rattle.plan_picture.specs.Sheets.{SheetShape}
 use Rattle.plan_picture.specs.Texts.{field_label, field_letters, indent, line_room, small_need, statement_letters}
@@ -50,7 +50,7 @@ relay_row relay = record {
 
 -- the relays behind the statement of a number
 abbrev pub relays_behind : ℕ → List Relay → List Relay
-relays_behind number relays = filter (λ relay. relay.behind.0 == number) relays
+relays_behind number relays = filter (λ relay. relay.behind == number) relays
 
 -- the rows of the statements, of which the first has this number, and of the relays behind them
 abbrev pub statement_rows : SheetShape → ℕ → List StatementTextShape → List Row

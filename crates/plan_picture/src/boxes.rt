@@ -19,7 +19,7 @@ use drawing_text::{letters, push_escaped};
 use host_code::host_name;
 use js_base::limits::HOSTS;
 use js_base::{FieldId, HostId, OutOfMemory, StmtId};
-use plan_ways::{Relay, Role};
+use plan_ways::{Relay, RelayRole};
 use statement_texts::StatementText;
 use std::alloc::Global;
 use std::fmt::Write;
@@ -443,13 +443,13 @@ fn push_relay_inside(text: &mut String, role: &str) -> Result<(), OutOfMemory>
 }
 
 /// What a relay does.
-fn role_text(role: Role) -> &'static str
+fn role_text(role: RelayRole) -> &'static str
     ensures { result.now ≡ boxes.role_text role }
 {
     match role {
-        Role::End => "end",
-        Role::GivesBack => "gives back",
-        Role::HandsOn => "hands on",
+        RelayRole::End => "end",
+        RelayRole::GivesBack => "gives back",
+        RelayRole::HandsOn => "hands on",
     }
 }
 

@@ -4,11 +4,13 @@ ghost use Rattle.std.specs.Prelude.{◌≡◌, ◌<◌, ◌^◌, ◌++◌, OnOk,
 ghost use Rattle.std.specs.String.{string_bytes};
 ghost use Rattle.plan_layout.specs.Routes.{IsSmall};
 ghost use Rattle.plan_picture.specs.Paths as paths;
-ghost use Rattle.plan_ways.specs.Ways.{tip_text};
+ghost use Rattle.jif_tree.specs.Trees.{program_tree};
+ghost use Rattle.plan_picture.specs.Sheets.{sheet_shape};
+ghost use Rattle.plan_ways.specs.Tips.{tip_text};
 
 use crate::legend::{class_of_kind, push_class};
+use crate::sheet::PictureSheet;
 use crate::lines::{RowNumbers, line_of, parts};
-use host_code::Code;
 use js_base::OutOfMemory;
 use plan_layout::{Columns, Places, Route, route_of};
 use plan_ways::{Way, push_tip};
@@ -34,16 +36,16 @@ impl Model for Grid {
 /// Adds these ways.
 pub fn push_ways(
     text: &mut String,
-    code: &Code,
+    sheet: &PictureSheet<'_>,
     grid: &Grid,
     ways: &[Way],
 ) -> Result<(), OutOfMemory>
     ensures { OnOk result (string_bytes text.new ≡ string_bytes text.old
-        ++ paths.ways_text code.now grid.now ways.now) }
+        ++ paths.ways_text (sheet_shape sheet.now) grid.now ways.now) }
 {
     for way in ways {
         let route = route_on(grid, way);
-        push_way(text, code, way, &route)?;
+        push_way(text, sheet, way, &route)?;
     }
     Ok(())
 }
@@ -61,13 +63,18 @@ fn route_on(grid: &Grid, way: &Way) -> Route
 }
 
 /// Adds a way that goes so.
-fn push_way(text: &mut String, code: &Code, way: &Way, route: &Route) -> Result<(), OutOfMemory>
+fn push_way(
+    text: &mut String,
+    sheet: &PictureSheet<'_>,
+    way: &Way,
+    route: &Route,
+) -> Result<(), OutOfMemory>
     requires { IsSmall route.now }
     ensures { OnOk result (string_bytes text.new ≡ string_bytes text.old
-        ++ paths.way_text code.now way.now route.now) }
+        ++ paths.way_text (sheet_shape sheet.now) way.now route.now) }
 {
     push_class(text, class_of_kind(way.kind))?;
-    push_title(text, code, way)?;
+    push_title(text, sheet, way)?;
     push_stroke(text, parts(way.kind), route)?;
     push_rider(text, way.rides, route)?;
     push_end(text, route)?;
@@ -75,12 +82,16 @@ fn push_way(text: &mut String, code: &Code, way: &Way, route: &Route) -> Result<
 }
 
 /// Adds what a way stands for.
-fn push_title(text: &mut String, code: &Code, way: &Way) -> Result<(), OutOfMemory>
+fn push_title(
+    text: &mut String,
+    sheet: &PictureSheet<'_>,
+    way: &Way,
+) -> Result<(), OutOfMemory>
     ensures { OnOk result (string_bytes text.new ≡ string_bytes text.old
-        ++ paths.title_text (tip_text code.now way.now)) }
+        ++ paths.title_text (tip_text sheet.now.code.now (program_tree sheet.now.program.now) way.now)) }
 {
     text.push_str("<title>")?;
-    push_tip(text, code, way)?;
+    push_tip(text, sheet.code, sheet.program, way)?;
     text.push_str("</title>")?;
     Ok(())
 }

@@ -51,7 +51,15 @@ pub fn push_plan(
         columns,
         places,
     };
-    push_picture(alloc, text, sheet, &grid, rows.as_slice(), signs.as_slice())
+    push_picture(
+        alloc,
+        text,
+        sheet,
+        &grid,
+        rows.as_slice(),
+        signs.as_slice(),
+    )?;
+    Ok(())
 }
 
 /// How wide the picture is.
@@ -81,22 +89,35 @@ fn push_picture(
 ) -> Result<(), OutOfMemory>
     requires few { length signs.now ≤ 10 }
     requires rows { rows.now ≡ rows_of (sheet_shape sheet.now) }
-    requires signs { signs.now ≡ legend_of (sheet_shape sheet.now) }
     ensures { OnOk result (string_bytes text.new ≡ string_bytes text.old
-        ++ picture.picture_on (sheet_shape sheet.now) grid.now (picture.width_of grid.now.columns)
-        (length signs.now)) }
+        ++ picture.picture_on (sheet_shape sheet.now) grid.now signs.now) }
 {
     let width = width_of(&grid.columns);
-    let past = grid.places.past();
     let top = top_of(width, signs.len());
+    push_parts(alloc, text, sheet, grid, rows, signs, width, top)?;
+    Ok(())
+}
+
+/// Adds the parts of the picture, which is so wide, and in which the heads of the hosts begin here.
+fn push_parts(
+    alloc: Global,
+    text: &mut String,
+    sheet: &PictureSheet<'_>,
+    grid: &Grid,
+    rows: &[Row],
+    signs: &[Sign],
+    width: u64,
+    top: u64,
+) -> Result<(), OutOfMemory>
+    requires few { length signs.now ≤ 10 }
+    requires rows { rows.now ≡ rows_of (sheet_shape sheet.now) }
+    ensures { OnOk result (string_bytes text.new ≡ string_bytes text.old
+        ++ picture.parts_text (sheet_shape sheet.now) grid.now signs.now width top) }
+{
+    let past = grid.places.past();
+    let count = sheet.code.hosts().len();
     push_front(text, sheet.cost, width, past + 14, signs)?;
-    push_lanes(
-        text,
-        &grid.columns,
-        top,
-        past + 4,
-        sheet.code.hosts().len(),
-    )?;
+    push_lanes(text, &grid.columns, top, past + 4, count)?;
     push_middle(alloc, text, sheet, grid, rows)?;
     push_all_boxes(alloc, text, sheet, grid, rows)?;
     Ok(())
@@ -230,7 +251,7 @@ fn push_middle(
     let loops = loops_of(alloc, sheet, rows)?;
     push_bands(text, &grid.places, grid.columns.right(), loops.as_slice())?;
     push_brackets(text, &grid.places, loops.as_slice())?;
-    push_ways(text, sheet.code, grid, &sheet.ways.ways)?;
+    push_ways(text, sheet, grid, &sheet.ways.ways)?;
     Ok(())
 }
 

@@ -45,7 +45,7 @@ struct Behind {
 
 impl Model for Behind {
     ghost use Rattle.std.specs.Prelude.{List};
-    ghost use Rattle.plan_ways.specs.declared.ways.Relay.{Relay};
+    ghost use Rattle.plan_ways.specs.declared.relays.Relay.{Relay};
 
     ghost Value = { List Relay };
 
@@ -228,7 +228,7 @@ fn none_behind(alloc: Global, count: usize) -> Result<Vec<Behind>, OutOfMemory>
 fn add_relay(found: &mut Vec<Behind>, relay: &Relay) -> Result<(), OutOfMemory>
     ensures { OnOk result (found.new.items ≡ with_relay found.old.items relay.now) }
 {
-    let number = relay.behind.0 as usize;
+    let number = relay.behind;
     if number < found.len() {
         push_relay(&mut found[number], relay)?;
     }

@@ -1,5 +1,5 @@
 use Rattle.std.proofs.Common.{List, ◌∙◌, ap, length}
-use Rattle.plan_ways.specs.declared.ways.Relay.{Relay}
+use Rattle.plan_ways.specs.declared.relays.Relay.{Relay}
 use Rattle.plan_picture.specs.Behind.{relays_at}
 use Rattle.plan_picture.specs.Sheets.{sheet_shape}
 use Rattle.plan_picture.proofs.Sorted.{sorted}
