@@ -1,14 +1,20 @@
 -- The parts of a picture, one behind the other.
-use Rattle.std.proofs.Common.{◌≡◌, ℕ, ◌+◌, List, ◌++◌, ap, sym, ◌∙◌, length, codes}
+use Rattle.std.proofs.Common.{◌≡◌, ℕ, ◌+◌, List, ◌++◌, ap, ◌∙◌, length, codes, map}
+use Rattle.drawing_text.specs.declared.spans.Span.{Span}
+use Rattle.plan_layout.specs.Columns as layout
 use Rattle.plan_layout.specs.Columns.{ColumnsShape}
-use Rattle.plan_layout.specs.Places.{PlacesShape}
+use Rattle.plan_layout.specs.Places.{PlacesShape, places_of}
+use Rattle.plan_layout.specs.declared.lines.Line.{Line}
 use Rattle.plan_ways.specs.declared.ends.Way.{Way}
 use Rattle.plan_picture.specs.Boxes.{boxes_text, heads_text}
-use Rattle.plan_picture.specs.Loops.{bands_text, brackets_text, loops_of}
+use Rattle.plan_picture.specs.Columns.{widths_of}
+use Rattle.plan_picture.specs.Legend.{legend_of}
+use Rattle.plan_picture.specs.Lines.{RowNumbers, line_of, lines_of, row_numbers}
+use Rattle.plan_picture.specs.Loops.{bands_text, brackets_text, deepest, loops_of, margin_of}
 use Rattle.plan_picture.specs.Paths.{Grid, ways_text}
 use Rattle.plan_picture.specs.Picture.{boxes_of, front_text, lanes_text, middle_text, parts_text, picture_on, top_of}
-use Rattle.plan_picture.specs.Picture.{width_of}
-use Rattle.plan_picture.specs.Rows.{rows_of}
+use Rattle.plan_picture.specs.Picture.{columns_of, grid_of, width_of}
+use Rattle.plan_picture.specs.Rows.{rows_of, spans_of}
 use Rattle.plan_picture.specs.Sheets.{SheetShape}
 use Rattle.plan_picture.specs.Texts.{line_room}
 use Rattle.plan_picture.specs.declared.legend.Sign.{Sign}
@@ -89,3 +95,41 @@ pub plan_written : (sheet : SheetShape) (grid other : Grid) (signs legend : List
 plan_written sheet grid other signs legend start text grids signs_are is =
     is ∙ ap (λ (g : Grid). start ++ picture_on sheet g signs) grids
     ∙ ap (λ (s : List Sign). start ++ picture_on sheet other s) signs_are
+
+abbrev pub the_grid : RowNumbers → ColumnsShape → PlacesShape → Grid
+the_grid numbers columns places = record { numbers = numbers; columns = columns; places = places }
+
+-- columns and rows are where they are to be
+pub grid_is : (sheet : SheetShape) (numbers : RowNumbers) (columns : ColumnsShape) (places : PlacesShape)
+    (rows all : List Row) (signs : ℕ) (from : ℕ) (widths : List ℕ) (lines : List Line) (width top : ℕ)
+    (spans : List Span) → rows ≡ rows_of sheet → all ≡ rows_of sheet → numbers ≡ row_numbers sheet →
+    lines ≡ map (line_of numbers) sheet.ways → widths ≡ widths_of sheet rows →
+    from ≡ margin_of (deepest 0 sheet.texts) → columns ≡ layout.columns_of from widths lines →
+    width ≡ width_of columns → signs ≡ length (legend_of sheet) → top ≡ top_of width signs → spans ≡ spans_of all →
+    places ≡ places_of top spans →
+    the_grid numbers columns places ≡ grid_of sheet
+grid_is sheet numbers columns places rows all signs from widths lines width top spans rows_are all_are numbers_are
+    lines_are widths_are from_is columns_are width_is signs_are top_is spans_are places_are =
+    let own_lines : lines ≡ lines_of sheet =
+    lines_are ∙ ap (λ (n : RowNumbers). map (line_of n) sheet.ways) numbers_are in
+    let own_widths : widths ≡ widths_of sheet (rows_of sheet) =
+    widths_are ∙ ap (λ (r : List Row). widths_of sheet r) rows_are in
+    let own_columns : columns ≡ columns_of sheet =
+    columns_are
+    ∙ ap (λ (f : ℕ). layout.columns_of f widths lines) from_is
+    ∙ ap (λ (w : List ℕ). layout.columns_of (margin_of (deepest 0 sheet.texts)) w lines) own_widths
+    ∙ ap (λ (l : List Line).
+    layout.columns_of (margin_of (deepest 0 sheet.texts)) (widths_of sheet (rows_of sheet)) l) own_lines in
+    let own_width : width ≡ width_of (columns_of sheet) =
+    width_is ∙ ap (λ (c : ColumnsShape). width_of c) own_columns in
+    let own_top : top ≡ top_of (width_of (columns_of sheet)) (length (legend_of sheet)) =
+    top_is ∙ ap (λ (w : ℕ). top_of w signs) own_width
+    ∙ ap (λ (s : ℕ). top_of (width_of (columns_of sheet)) s) signs_are in
+    let own_spans : spans ≡ spans_of (rows_of sheet) = spans_are ∙ ap (λ (r : List Row). spans_of r) all_are in
+    let own_places : places
+    ≡ places_of (top_of (width_of (columns_of sheet)) (length (legend_of sheet))) (spans_of (rows_of sheet)) =
+    places_are ∙ ap (λ (t : ℕ). places_of t spans) own_top
+    ∙ ap (λ (s : List Span). places_of (top_of (width_of (columns_of sheet)) (length (legend_of sheet))) s) own_spans in
+    ap (λ (n : RowNumbers). the_grid n columns places) numbers_are
+    ∙ ap (λ (c : ColumnsShape). the_grid (row_numbers sheet) c places) own_columns
+    ∙ ap (λ (p : PlacesShape). the_grid (row_numbers sheet) (columns_of sheet) p) own_places
