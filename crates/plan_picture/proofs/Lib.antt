@@ -1,0 +1,5 @@
+pub mod Pictures
+pub mod Sorted
+pub mod StatementRows
+pub mod TextsAt
+pub mod Walks

@@ -1,0 +1,12 @@
+use Rattle.std.proofs.Common.{◌≡◌, ◌≤◌, ◌++◌, drop, filter, length}
+use Rattle.plan_picture.specs.Legend.{all_signs, legend_of, occurs}
+use Rattle.plan_picture.specs.Sheets.{sheet_shape}
+use Rattle.plan_picture.proofs.legend.legend_of.Given as goal
+
+-- what was found, and what occurs of the signs that are left
+abbrev pub invariant-loop-sign : goal.invariant-loop-sign
+invariant-loop-sign l = record {
+  found : l.found.items ++ filter (occurs (sheet_shape l.sheet)) (drop l.sign-index all_signs)
+    ≡ legend_of (sheet_shape l.sheet);
+  few : length l.found.items ≤ l.sign-index;
+}

@@ -1,0 +1,11 @@
+pub mod Behind
+pub mod Boxes
+pub mod Columns
+pub mod Legend
+pub mod Lines
+pub mod Loops
+pub mod Paths
+pub mod Picture
+pub mod Rows
+pub mod Sheets
+pub mod Texts

@@ -1,0 +1,5 @@
+//! What holds of the picture.
+
+/// Laws of the picture of a plan. The call does nothing.
+pub fn plan_laws()
+{}
