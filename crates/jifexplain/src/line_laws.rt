@@ -82,9 +82,9 @@ pub fn line_laws()
         map (λ field. field.name) tree.fields ≡ map (λ field. field.name.text) draft.fields }
 
     // So are its methods, and their statements, on the lines of the tokens that the draft names.
-    ensures statements_written { (h : List ℕ) (file : HostsShape) (list : List Token) (draft : DraftShape) (tree : ProgramTree) →
-        HostsRead h (given file) → Parsed list (given draft) → Resolved file draft (given tree) →
-        AllZip (IsWrittenAs list) draft.methods tree.methods }
+    ensures statements_written { (h : List ℕ) (file : HostsShape) (list : List Token) (draft : DraftShape)
+        (tree : ProgramTree) → HostsRead h (given file) → Parsed list (given draft) →
+        Resolved file draft (given tree) → AllZip (IsWrittenAs list) draft.methods tree.methods }
 {
     host_file_laws();
     reason_laws();
