@@ -1,5 +1,6 @@
 -- The first of some parts that is false.
-use Rattle.std.proofs.Common.{◌≡◌, Bool, true, false, ◌∙◌, List, [], ◌∷◌, ◌++◌, Option, Some, None, ap, sym, subst, refl, inl, inr}
+use Rattle.std.proofs.Common.{◌≡◌, Bool, true, false, ◌∙◌, List, [], ◌∷◌, ◌++◌, Option, Some, None, ap, sym, subst}
+use Rattle.std.proofs.Common.{refl, inl, inr}
 use Rattle.std.specs.Prelude.{◌↔◌, IsTrue, if◌then◌else◌}
 use Rattle.std.specs.List.{AllByRecursion}
 use Rattle.std.proofs.lemmas.Bool.{false≢true}

@@ -1,5 +1,6 @@
 -- A message that passes leaves the count of those that were ignored, and one that does not adds one to it.
-use Rattle.std.proofs.Common.{◌≡◌, ◌∙◌, ℕ, ◌+◌, Bool, true, false, List, [], ◌∷◌, Option, Some, None, ap, sym, refl, arith}
+use Rattle.std.proofs.Common.{◌≡◌, ◌∙◌, ℕ, ◌+◌, Bool, true, false, List, [], ◌∷◌, Option, Some, None, ap, sym, refl}
+use Rattle.std.proofs.Common.{arith}
 use Rattle.std.specs.Prelude.{◌↔◌, ◌==◌, if◌then◌else◌}
 use Rattle.js_base.specs.declared.ids.HostId.{HostId}
 use Rattle.js_base.specs.declared.ids.FrameId.{FrameId}

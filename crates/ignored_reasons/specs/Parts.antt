@@ -1,5 +1,5 @@
--- The parts of which the check of a message is made. Each is a fact of its own, so that a check that fails can be told by
--- the first part that is false.
+-- The parts of which the check of a message is made. Each is a fact of its own, so that a check that fails can be told
+-- by the first part that is false.
 use Rattle.std.specs.Prelude.{◌≡◌, Some, IsSome, IsSomeAnd}
 use Rattle.js_base.specs.declared.ids.HostId.{HostId}
 use Rattle.js_base.specs.declared.ids.FieldId.{FieldId}

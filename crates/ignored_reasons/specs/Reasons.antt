@@ -1,8 +1,8 @@
 -- Why a host ignores a message: the first part of its check that is false.
 --
 -- A reason names its part, so the parts of a check are a list of reasons, in the order in which they are told: what is
--- asked for has to be here, the sender has to be trusted with it, and may know of it. A variable that rides comes behind
--- the entry, and the first of those that the sender may not set is told.
+-- asked for has to be here, the sender has to be trusted with it, and may know of it. A variable that rides comes
+-- behind the entry, and the first of those that the sender may not set is told.
 use Rattle.std.specs.Prelude.{◌≡◌, ◌⊎◌, List, [], ◌∷◌, ◌++◌, map, Option, Some, None}
 use Rattle.js_base.specs.declared.ids.HostId.{HostId}
 use Rattle.js_base.specs.declared.ids.EntryId.{EntryId}

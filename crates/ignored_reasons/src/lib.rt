@@ -1,7 +1,7 @@
 //! Why a host ignores a message: the first part of the check that is false, for whoever shows a run.
 //!
-//! **Promises.** The reason is that of the first part of the check that is false of the host's state, the sender and the
-//! message, and there is none exactly where the check passes.
+//! **Promises.** The reason is that of the first part of the check that is false of the host's state, the sender and
+//! the message, and there is none exactly where the check passes.
 //!
 //! **Begin** with `specs/Reasons.antt`; `asked_by` and `why_ignored` are the calls.
 //!

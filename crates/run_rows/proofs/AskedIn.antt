@@ -33,7 +33,8 @@ same_asked tokens (bad.Set request field index value) taken is =
 same_asked tokens (bad.Forward request frame variable value) taken is =
     without (message.Forward request frame variable value) taken is
 same_asked tokens (bad.Sync request frame entry token) taken is =
-    with_token (token_presented tokens token) (λ known. message.Sync request frame entry known) taken _ is (λ known. refl)
+    with_token (token_presented tokens token) (λ known. message.Sync request frame entry known) taken _ is
+    (λ known. refl)
 same_asked tokens (bad.Rgoto frame entry token) taken is =
     with_token (token_presented tokens token) (λ known. message.Rgoto frame entry known) taken _ is (λ known. refl)
 same_asked tokens (bad.RgotoWith frame entry token riders) taken is =

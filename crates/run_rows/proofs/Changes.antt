@@ -187,6 +187,6 @@ are_first code world stacks fits have long first host = at (state_at world host)
     at (Some state) is =
         let within : host.0 < length code.hosts = numbered_host code world host state fits is in
         let own : entries_of state.entries ≡ first_stack code host =
-        subst (λ (o : Option HostShape). IfSome o (λ one. entries_of one.entries ≡ first_stack code host)) is (have host)
-        in
+        subst (λ (o : Option HostShape). IfSome o (λ one. entries_of one.entries ≡ first_stack code host)) is
+        (have host) in
         (omega arith, own ∙ sym (first host within))

@@ -1,6 +1,7 @@
 -- What an event sends that is in flight then, and the numbers that stand beside it.
 use Rattle.std.proofs.Common.{◌≡◌, ◌≢◌, ◌⊎◌, ◌∙◌, ℕ, zero, suc, ◌+◌, ◌<◌, ◌≤◌, Bool, true, false, List, [], ◌∷◌, ◌++◌}
-use Rattle.std.proofs.Common.{length, Option, Some, None, ap, sym, refl, subst, arith, inl, inr, length-append, length-set}
+use Rattle.std.proofs.Common.{length, Option, Some, None, ap, sym, refl, subst, arith, inl, inr, length-append}
+use Rattle.std.proofs.Common.{length-set}
 use Rattle.std.specs.Prelude.{◌==◌, ◌&&◌, if◌then◌else◌, MatchOption, All, remove, slice_get, slice_set, unwrap_or}
 use Rattle.std.proofs.lemmas.Bool.Decides.{nat_tests}
 use Rattle.std.proofs.lemmas.Bool.Decides.{eqb_tells}
@@ -132,7 +133,8 @@ left_beside code world next (Turn host) senders sound fits step beside = beside
 left_beside code world next (Act from to made) senders sound fits step beside = beside
 left_beside code world next (Take from to place) senders sound fits step beside =
     let bounds = few code world from to place step.flight sound fits step.there in
-    let same : length (senders_at senders from to) ≡ length (world.flying from to) = beside.1 from to bounds.0 bounds.1 in
+    let same : length (senders_at senders from to) ≡ length (world.flying from to) =
+    beside.1 from to bounds.0 bounds.1 in
     let within : place < length (world.flying from to) =
     slice_get_within (world.flying from to) place step.flight step.there in
     let one = length-remove (world.flying from to) place within in

@@ -1,7 +1,8 @@
 -- What is seen of a host, part by part.
 use Rattle.std.proofs.Common.{◌≡◌, ◌∙◌, ℕ, length, Bool, Option, Some, None, sym, refl, inl, inr, subst}
-use Rattle.std.specs.Prelude.{◌↔◌, ◌==◌, IsTrue}
-use Rattle.std.proofs.lemmas.Bool.{false≢true}
+use Rattle.std.proofs.Common.{◌<◌}
+use Rattle.std.specs.Prelude.{◌↔◌, ◌==◌, IsTrue, IsSome, IsSomeAnd}
+use Rattle.std.proofs.lemmas.Bool.{false≢true, lt-ltb, ltb-true}
 use Rattle.std.proofs.lemmas.Bool.Decides.{eqb_tells}
 use Rattle.js_base.specs.declared.ids.HostId.{HostId}
 use Rattle.host_core.specs.Host.{HostShape}
@@ -40,3 +41,15 @@ halts_now root other old next before now is same turns after was =
 pub depth_is : (host : Option HostShape) → (seen_in host).depth ≡ length (entries_in host)
 depth_is None = refl
 depth_is (Some host) = refl
+
+-- ---- threads
+
+pub runs_there : (host : Option HostShape) →
+    (IsTrue (runs_in host) ↔ IsSomeAnd host (λ state. IsSome state.running))
+runs_there None = (λ is. false≢true is, λ none. absurd none)
+runs_there (Some host) = (λ is. is, λ is. is)
+
+pub waits_there : (host : Option HostShape) →
+    (IsTrue (waits_in host) ↔ IsSomeAnd host (λ state. 0 < length state.waiting))
+waits_there None = (λ is. false≢true is, λ none. absurd none)
+waits_there (Some host) = (ltb-true 0 (length host.waiting), lt-ltb 0 (length host.waiting))

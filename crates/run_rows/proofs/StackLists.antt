@@ -1,5 +1,6 @@
 -- Lists with a stack for each host.
-use Rattle.std.proofs.Common.{◌≡◌, ◌≢◌, ◌∙◌, ℕ, zero, suc, ◌+◌, ◌<◌, List, [], ◌∷◌, ◌++◌, length, map, Option, Some, ap, sym, subst}
+use Rattle.std.proofs.Common.{◌≡◌, ◌≢◌, ◌∙◌, ℕ, zero, suc, ◌+◌, ◌<◌, List, [], ◌∷◌, ◌++◌, length, map, Option, Some}
+use Rattle.std.proofs.Common.{ap, sym, subst}
 use Rattle.std.proofs.Common.{refl, arith, inl, inr}
 use Rattle.std.proofs.Common.{get_or}
 use Rattle.std.specs.Prelude.{slice_get, slice_set, unwrap_or}
@@ -65,7 +66,8 @@ pub replaced : {X : Type 0} (make : X → List EntryId) (items : List X) (host :
     (stacks : List (List EntryId)) → stacks ≡ map make items → host.0 < length stacks →
     stack_at (map make (slice_set items host.0 one)) host ≡ make one
 replaced {X} make items host one stacks is within =
-    let long : host.0 < length (map make items) = subst (λ (all : List (List EntryId)). host.0 < length all) is within in
+    let long : host.0 < length (map make items) =
+    subst (λ (all : List (List EntryId)). host.0 < length all) is within in
     ap (λ (all : List (List EntryId)). stack_at all host) (map-set make items host.0 one)
     ∙ stack_put (map make items) host (make one) long
 

@@ -1,7 +1,7 @@
 -- The record of each event of a run: what it was, and what is to be seen of it.
 --
--- A row is told from the world before its event and the world after it. Only the host of the event changes, so a row has
--- no more than that one's threads.
+-- A row is told from the world before its event and the world after it. Only the host of the event changes, so a row
+-- has no more than that one's threads.
 use Rattle.std.specs.Prelude.{◌≡◌, ◌⊎◌, ◌↔◌, ◌+◌, ℕ, Bool, false, IsTrue, List, [], ◌∷◌, ◌++◌, length}
 use Rattle.std.specs.Prelude.{⊤, Option, Some, None, IsSome, IsSomeAnd, is_some, nat_lt, slice_get, if◌then◌else◌}
 use Rattle.std.specs.Option.{option_map}
@@ -160,8 +160,8 @@ pub record IsBefore (root : HostId) (world : WorldShape) (event : Event) (before
   pub sent : before.sent ≡ length world.sent
   pub halted : IsTrue before.halted ↔ has_halted root world
 
--- This is why an event was ignored that passes or does not: a turn for its token, and what is taken for the first part of
--- its check that is false, whatever the state of the host, where this says whether it passes.
+-- This is why an event was ignored that passes or does not: a turn for its token, and what is taken for the first part
+-- of its check that is false, whatever the state of the host, where this says whether it passes.
 abbrev pub IsReason : CodeShape → What → Bool → Option Why → Type 0
 IsReason code (what.Turn host at) passes found = found ≡ (if passes then None else Some why.NotOnTop)
 IsReason code (what.Take from to taken) passes found =

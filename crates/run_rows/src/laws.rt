@@ -1,6 +1,7 @@
 //! Laws of the rows of a run. The calls do nothing: their contracts have them.
 
-ghost use Rattle.std.specs.Prelude.{◌≡◌, ◌↔◌, ◌-◌, ◌∷◌, ◌++◌, ℕ, ℤ, List, None, Some, Option, map, length, slice_get};
+ghost use Rattle.std.specs.Prelude.{◌≡◌, ◌↔◌, ◌-◌, ◌<◌, ◌∷◌, ◌++◌, ℕ, ℤ, List, None, Some, Option, map, length};
+ghost use Rattle.std.specs.Prelude.{IsSomeAnd, IsTrue, slice_get};
 ghost use Rattle.std.specs.List.{filter_map, range_with_len};
 ghost use Rattle.js_base.specs.declared.ids.HostId.{HostId};
 ghost use Rattle.ics_stack.specs.declared.stack.StackEntry.{StackEntry};
@@ -12,10 +13,11 @@ ghost use Rattle.host_core.specs.Taking.{Passes};
 ghost use Rattle.event_text.specs.declared.event.Event.{Event};
 ghost use Rattle.event_text.specs.declared.event.Event.TheVariants.{Take, Act};
 ghost use Rattle.event_text.specs.declared.event.BadMessage.{BadMessage};
+ghost use Rattle.net_world.specs.Choice.{Runs};
 ghost use Rattle.net_world.specs.Flying.{Flight};
 ghost use Rattle.net_world.specs.Replay.{events_in};
 ghost use Rattle.net_world.specs.Told.{SentMessage, message_made};
-ghost use Rattle.net_world.specs.World.{WorldShape, IsRun, state_at, tokens_sent, world_at_start};
+ghost use Rattle.net_world.specs.World.{WorldShape, IsRun, state_at, mover, tokens_sent, world_at_start};
 ghost use Rattle.run_rows.specs.declared.row.Change.{Change};
 ghost use Rattle.run_rows.specs.declared.row.Change.TheVariants as change;
 ghost use Rattle.run_rows.specs.declared.row.Row.{Row};
@@ -58,6 +60,12 @@ pub fn row_laws()
         HasChanged before after did → before ≡ top ∷ after → did ≡ change.TakenOff top.entry }
     ensures same { (before after : List StackEntry) (did : Change) → HasChanged before after did →
         after ≡ before → did ≡ change.Same }
+    // After an event a thread runs on its host, or one waits there, exactly where the row says so.
+    ensures runs { (code : CodeShape) (world next : WorldShape) (said : ℕ × Event) (row : Row) →
+        IsRow code world said next row → (IsTrue row.runs ↔ Runs next (mover said.1)) }
+    ensures waits { (code : CodeShape) (world next : WorldShape) (said : ℕ × Event) (row : Row) →
+        IsRow code world said next row →
+        (IsTrue row.waits ↔ IsSomeAnd (state_at next (mover said.1)) (λ state. 0 < length state.waiting)) }
     // A world before its first event has the first stacks.
     ensures first { (code : CodeShape) (hosts : List declared_hosts.HostShape) (bad : ℕ) (store : List (List ℤ)) →
         HaveFirstStacks code (world_at_start code hosts bad store) }

@@ -15,7 +15,9 @@ returns c =
     let on = c.is_field_on.ensures.0 c.if-not-is_field_on.false in
     λ host taken here. inl (
       subst (λ (me : HostId). IsFieldOn code me field) (sym here) on,
-      subst (λ (found : Option Why). IsFirstFalse (Holds code host c.args.from taken) (reason.MayNotSee field ∷ []) found)
+      subst (λ (found : Option Why). IsFirstFalse (Holds code host c.args.from taken)
+          (reason.MayNotSee field ∷ []) found)
           (sym c.unless.ensures)
-          (last_part (Holds code host c.args.from taken) (reason.MayNotSee field) c.sees_field.result c.sees_field.ensures),
+          (last_part (Holds code host c.args.from taken) (reason.MayNotSee field) c.sees_field.result
+          c.sees_field.ensures),
     )

@@ -1,10 +1,13 @@
-use Rattle.std.specs.Prelude.{slice_get}
+use Rattle.std.proofs.Common.{◌<◌, Bool, length, subst, sym}
+use Rattle.std.specs.Prelude.{◌↔◌, IsSomeAnd, IsTrue, slice_get}
 use Rattle.net_world.specs.Told.{message_made}
-use Rattle.net_world.specs.World.{state_at, tokens_sent}
+use Rattle.net_world.specs.Choice.{Runs}
+use Rattle.net_world.specs.World.{state_at, mover, tokens_sent}
 use Rattle.run_rows.proofs.StatesOf.{and_some}
 use Rattle.run_rows.proofs.OneRow.{one_list}
 use Rattle.run_rows.proofs.PicturedMore.{pictured_ran}
 use Rattle.run_rows.proofs.RowLaws as law
+use Rattle.run_rows.proofs.SeenAfter.{runs_there, waits_there}
 use Rattle.run_rows.proofs.laws.row_laws.Goals as goal
 
 pub returns-clause-ran : goal.returns-clause-ran
@@ -43,3 +46,13 @@ returns-clause-same c = law.same
 
 pub returns-clause-first : goal.returns-clause-first
 returns-clause-first c = law.first
+
+pub returns-clause-runs : goal.returns-clause-runs
+returns-clause-runs c = λ code world next said row is.
+    subst (λ (runs : Bool). IsTrue runs ↔ Runs next (mover said.1)) (sym is.runs)
+    (runs_there (state_at next (mover said.1)))
+
+pub returns-clause-waits : goal.returns-clause-waits
+returns-clause-waits c = λ code world next said row is.
+    subst (λ (waits : Bool). IsTrue waits ↔ IsSomeAnd (state_at next (mover said.1)) (λ state. 0 < length state.waiting))
+    (sym is.waits) (waits_there (state_at next (mover said.1)))

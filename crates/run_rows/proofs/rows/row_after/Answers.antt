@@ -25,16 +25,16 @@ returns-clause-row c = λ old fits before step changed.
     record {
       line = refl;
       what = before.what;
-      ignored = ignoring code old next event c.args.before.now.what _ c.why_not.result (c.reason_laws.ensures.seen code) fits
-          step before.what c.why_not.ensures (counted_as _ _ _ _ ignored was);
+      ignored = ignoring code old next event c.args.before.now.what _ c.why_not.result
+          (c.reason_laws.ensures.seen code) fits step before.what c.why_not.ensures (counted_as _ _ _ _ ignored was);
       told = subst (IsTelling old.sent next.sent)
           (sym (c.number_told.ensures
           ∙ ap (λ (n : ℕ). if nat_lt n (length c.sent.result.now) then Some n else None) before.sent
           ∙ ap (λ (n : ℕ). if nat_lt (length old.sent) n then Some (length old.sent) else None) sent))
           telling;
       change = changed;
-      halts = halts_now c.args.world.now.root code.root old next c.args.before.now.halted c.halted.result c.is_turn.result
-          c.requires.root c.is_turn.ensures c.halted.ensures before.halted;
+      halts = halts_now c.args.world.now.root code.root old next c.args.before.now.halted c.halted.result
+          c.is_turn.result c.requires.root c.is_turn.ensures c.halted.ensures before.halted;
       runs = ap (λ (s : Seen). s.runs) host ∙ runs_is (state_at next (mover event));
       waits = ap (λ (s : Seen). s.waits) host ∙ waits_is (state_at next (mover event));
     }
