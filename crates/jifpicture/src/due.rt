@@ -8,8 +8,7 @@ ghost use Rattle.front_end.specs.Verdicts.{verdict_shape};
 ghost use Rattle.jifpicture.specs.Due.{DueForBytes, IsDue, IsDueForNames};
 
 use crate::picture::picture_text;
-use front_end::{Asked, Loaded, Stop, Verdict, load_all, read_places};
-use js_base::limits::{HOSTS_BYTES, PROGRAM_BYTES};
+use front_end::{Loaded, Stop, Verdict, host_file, load_all, program_file, read_places};
 use js_base::{Files, OutOfMemory, Status};
 use std::alloc::Global;
 
@@ -67,28 +66,6 @@ fn ended<F: Files>(
         unreachable!();
     };
     due_for_loaded(alloc, p, h)
-}
-
-/// A program.
-fn program_file(name: &str) -> Asked<'_>
-    ensures name { result.name.now ≡ name.now }
-    ensures most { result.most ≡ PROGRAM_BYTES }
-{
-    Asked {
-        name,
-        most: PROGRAM_BYTES,
-    }
-}
-
-/// A host file.
-fn host_file(name: &str) -> Asked<'_>
-    ensures name { result.name.now ≡ name.now }
-    ensures most { result.most ≡ HOSTS_BYTES }
-{
-    Asked {
-        name,
-        most: HOSTS_BYTES,
-    }
 }
 
 /// What is due for a program and a host file that were loaded.
