@@ -1,7 +1,7 @@
 -- Where a way begins or ends at an entry, it is one of the code.
-use Rattle.std.proofs.Common.{◌≡◌, ℕ, ◌+◌, ◌<◌, ◌≤◌, suc, zero, List, [], ◌∷◌, ◌++◌, Option, Some, None, All, Bool, refl}
+use Rattle.std.proofs.Common.{◌≡◌, ℕ, ◌+◌, ◌<◌, ◌≤◌, suc, zero, List, [], ◌∷◌, Option, Some, None, All, Bool}
 use Rattle.std.proofs.Common.{arith, length, replicate, subst, sym}
-use Rattle.std.specs.Prelude.{◌==◌, IfSome, if◌then◌else◌, false, slice_get, slice_set, true, unwrap_or}
+use Rattle.std.specs.Prelude.{◌==◌, IfSome, if◌then◌else◌, false, slice_get, true, unwrap_or}
 use Rattle.std.specs.List.{flat_map, range_with_len}
 use Rattle.std.proofs.lemmas.List.Elements.{All-append, All-cons, All-head, All-nil, All-replicate, All-set, All-tail}
 use Rattle.js_base.specs.declared.ids.EntryId.{EntryId}
@@ -15,14 +15,14 @@ use Rattle.host_code.specs.declared.instruction.Op.{Op}
 use Rattle.host_code.specs.declared.instruction.Op.TheVariants as op
 use Rattle.plan_ways.specs.Ends.{is_same_end, kept}
 use Rattle.plan_ways.specs.Marked.{HasRow}
-use Rattle.plan_ways.specs.Readers.{reader_by, reader_end, reader_in, reader_on}
+use Rattle.plan_ways.specs.Readers.{reader_by, reader_end}
 use Rattle.plan_ways.specs.Stands.{arrivals_of, arrived, code_places, door_at, door_behind, door_of, doors_from, doors_of}
-use Rattle.plan_ways.specs.Stands.{entered, entered_all, entered_at, first_done, first_stand, head_at, host_places}
+use Rattle.plan_ways.specs.Stands.{entered, entered_all, first_done, head_at}
 use Rattle.plan_ways.specs.Stands.{is_moving, landed, passed, places_from, places_on, stand_of, standing, station_at}
-use Rattle.plan_ways.specs.Stands.{station_of_start, stood}
+use Rattle.plan_ways.specs.Stands.{station_of_start}
 use Rattle.plan_ways.specs.Tables.{noted, noted_at}
 use Rattle.plan_ways.specs.Ways.{SheetShape, asked, asked_by, asked_of, back_at, back_elsewhere, back_if_elsewhere}
-use Rattle.plan_ways.specs.Ways.{back_to, back_ways, called, elsewhere, end_of_main, entries_behind, given_by, given_of}
+use Rattle.plan_ways.specs.Ways.{back_to, back_ways, elsewhere, end_of_main, entries_behind, given_by, given_of}
 use Rattle.plan_ways.specs.Ways.{gone, got, instruction_ways, level_of, place_ways, result_at, result_to, result_ways}
 use Rattle.plan_ways.specs.Ways.{sent, set, ways_at}
 use Rattle.plan_ways.specs.declared.ends.Way.{Way}
