@@ -1,5 +1,5 @@
 -- At which entries ways begin and end.
-use Rattle.std.specs.Prelude.{ℕ, ◌==◌, Bool, false, ◌||◌, List}
+use Rattle.std.specs.Prelude.{⊤, ℕ, ◌<◌, ◌==◌, Bool, false, ◌||◌, List}
 use Rattle.std.specs.List.{list_any}
 use Rattle.plan_ways.specs.declared.ends.Way.{Way}
 use Rattle.plan_ways.specs.declared.ends.WayEnd.{WayEnd}
@@ -21,3 +21,8 @@ is_touched number ways = list_any (touches number) ways
 -- whether a relay is that of the entry of this number
 abbrev pub is_of : ℕ → Relay → Bool
 is_of number relay = relay.entry.0 == number
+
+-- where an end is an entry, it is one of so many
+abbrev pub HasRow : ℕ → WayEnd → Type 0
+HasRow count (end.Relay entry) = entry.0 < count
+HasRow count other = ⊤

@@ -7,7 +7,7 @@ ghost use Rattle.host_code.specs.Code.{CodeShape};
 ghost use Rattle.jif_tree.specs.Trees.{ProgramTree, done};
 ghost use Rattle.need_labels.specs.Plan.{PlanShape};
 ghost use Rattle.plan_ways.specs.Asks.{apart, asked_ways, code_requests, is_asked, request_of};
-ghost use Rattle.plan_ways.specs.Marked.{is_of, is_touched};
+ghost use Rattle.plan_ways.specs.Marked.{HasRow, is_of, is_touched};
 ghost use Rattle.plan_ways.specs.Whole.{known_of, places_in, sheet_of, ways_of};
 ghost use Rattle.plan_ways.specs.Worked as worked;
 ghost use Rattle.plan_ways.specs.declared.ends.WayEnd.TheVariants as end;
@@ -29,6 +29,11 @@ pub fn way_laws()
     // No way begins and ends in one row.
     ensures ends_apart { (code : CodeShape) (plan : PlanShape) (program : ProgramTree) →
         All (λ way. way.begin ≢ way.end) (ways_of code plan program).ways }
+
+    // Where a way begins or ends at an entry, that is one of the code.
+    ensures rows { (code : CodeShape) (plan : PlanShape) (program : ProgramTree) →
+        All (λ way. HasRow (length code.entries) way.begin × HasRow (length code.entries) way.end)
+        (ways_of code plan program).ways }
 
     // Each entry at which a way begins or ends and that has no other row has one relay, and no other entry has one.
     ensures relays { (code : CodeShape) (plan : PlanShape) (program : ProgramTree) (number : ℕ) →

@@ -6,6 +6,7 @@ use Rattle.plan_ways.specs.Whole.{known_of, places_in, rows_of, sheet_of, ways_b
 use Rattle.plan_ways.proofs.Apart.{all_apart}
 use Rattle.plan_ways.proofs.AskedWays.{all_asked, all_requests}
 use Rattle.plan_ways.proofs.RelayCounts.{relays_counted}
+use Rattle.plan_ways.proofs.Rows.{ways_rows}
 use Rattle.plan_ways.proofs.laws.way_laws.Goals as goal
 
 pub returns-clause-asks : goal.returns-clause-asks
@@ -19,6 +20,10 @@ returns-clause-asked c = λ code plan program.
 pub returns-clause-ends_apart : goal.returns-clause-ends_apart
 returns-clause-ends_apart c = λ code plan program.
     all_apart (sheet_of code plan (known_of code program)) (places_in code program)
+
+pub returns-clause-rows : goal.returns-clause-rows
+returns-clause-rows c = λ code plan program.
+    ways_rows (sheet_of code plan (known_of code program)) (heads_of program) refl
 
 pub returns-clause-relays : goal.returns-clause-relays
 returns-clause-relays c = λ code plan program number.
