@@ -56,12 +56,12 @@ room lines from widths i j lt within =
     let here = span_there all count 0 i widths (omega (arith, lt, within)) in
     let there = span_there all count 0 j widths within in
     let gap = apart from i j spans _ _ _ _ lt here there (start_there from i spans (omega (arith, lt, within, many)))
-      (start_there from j spans (omega (arith, within, many))) in
+    (start_there from j spans (omega (arith, within, many))) in
     let from_none : 0 + j ≡ j = omega arith in
     let inner : (j == 0) ≡ false = grind (arith, lt) in
     let strip = strip_there lines (count + 1) j (omega (arith, within)) in
     let before : width_at all (0 + j) (0 + j == 0) ≡ max (20 + 9 * tracks_of (strip_of lines j)) 28 =
-      ap (λ (n : ℕ). width_of_strip (slice_get all n) (n == 0)) from_none ∙ rw (inner, strip) refl in
+    ap (λ (n : ℕ). width_of_strip (slice_get all n) (n == 0)) from_none ∙ rw (inner, strip) refl in
     (omega (arith, gap, before), omega (arith, gap, before))
 
 free_behind : (rows : List Span) (i : ℕ) (one : Span) → All (λ row. 8 ≤ row.after) rows →

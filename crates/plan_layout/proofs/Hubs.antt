@@ -107,7 +107,7 @@ pub one_place : (hub other : Hub) (hubs : List Hub) → track_in hubs hub < leng
     track_in hubs hub ≡ track_in hubs other → hub ≡ other
 one_place hub other hubs within same =
     let first = hub_same hub (get_or hubs (track_in hubs hub) hub)
-      (passes_at_first (same_hub hub) hubs hub within) in
+    (passes_at_first (same_hub hub) hubs hub within) in
     let second = hub_same other (get_or hubs (track_in hubs other) hub)
-      (passes_at_first (same_hub other) hubs hub (omega (arith, within, same))) in
+    (passes_at_first (same_hub other) hubs hub (omega (arith, within, same))) in
     first ∙ ap (λ (place : ℕ). get_or hubs place hub) same ∙ sym second

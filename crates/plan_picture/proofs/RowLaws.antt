@@ -103,8 +103,8 @@ span_of_end sheet end = elim (shown_there sheet end) [
       record {
         span = span_of shows.row;
         there =
-          ap (slice_get (spans_of (rows_of sheet))) behind
-          ∙ span_there (rows_of sheet) shows.place shows.row shows.there;
+            ap (slice_get (spans_of (rows_of sheet))) behind
+            ∙ span_there (rows_of sheet) shows.place shows.row shows.there;
         high = λ f low high. fits_within f end shows.row.standing shows.shown low high;
       }
   | inr none ↦ record {

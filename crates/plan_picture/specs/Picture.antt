@@ -35,7 +35,7 @@ grid_of sheet = record {
   numbers = row_numbers sheet;
   columns = columns_of sheet;
   places =
-    places_of (top_of (width_of (columns_of sheet)) (length (legend_of sheet))) (spans_of (rows_of sheet));
+      places_of (top_of (width_of (columns_of sheet)) (length (legend_of sheet))) (spans_of (rows_of sheet));
 }
 
 -- ---- the parts of the text

@@ -39,13 +39,12 @@ returns-clause-clear c = λ sheet top i column row way one here to inside there 
     let within : column < length widths = omega (arith, inside, as_many_widths sheet (rows_of sheet)) in
     let is : slice_get lines i ≡ Some line =
     slice_get-map (line_of (row_numbers sheet)) sheet.ways i
-    ∙ ap (option_map (line_of (row_numbers sheet))) here in
-    (
+    ∙ ap (option_map (line_of (row_numbers sheet))) here in (
       c.layout_laws.ensures.across from top widths lines rows line column row one (all_free (rows_of sheet)) fits there
-      begin,
+          begin,
       c.layout_laws.ensures.along from top widths lines rows i line column row one.length is fits.column within,
       c.layout_laws.ensures.into from top widths lines rows i line column row one (all_free (rows_of sheet)) is fits
-      there within end,
+          there within end,
     )
 
 pub returns-clause-legend : goal.returns-clause-legend
