@@ -1,9 +1,8 @@
 -- Lines meet no box but those at their ends.
-use Rattle.std.proofs.Common.{◌≡◌, ◌≢◌, ◌<◌, ◌≤◌, ◌+◌, ◌-◌, ◌*◌, ◌%◌, ◌⊎◌, ℕ, Bool, true, false, inl, inr, min, max}
+use Rattle.std.proofs.Common.{◌≡◌, ◌≢◌, ◌<◌, ◌≤◌, ◌+◌, ◌-◌, ◌*◌, ◌%◌, ◌⊎◌, ℕ, Bool, true, false, inl, inr, min}
 use Rattle.std.proofs.Common.{List, Some, All, length, refl, ap, ◌∙◌, arith, subst}
 use Rattle.std.specs.Prelude.{slice_get, slice_index}
 use Rattle.std.proofs.lemmas.Bool.{cases_lt, le-ltb, lt-ltb}
-use Rattle.drawing_text.specs.Spans.{starts_from}
 use Rattle.drawing_text.specs.declared.spans.Span.{Span}
 use Rattle.plan_layout.specs.Columns.{columns_of, left_of, track_in_strip, track_of, width_of}
 use Rattle.plan_layout.specs.Fits.{Fits}
@@ -158,7 +157,8 @@ along_clear from top widths lines rows i line column row height here within insi
           let small = small_left from widths lines i line here within left in
           elim (cases_lt line.to.0 column) [
             | inl behind ↦
-                let gap = room lines from widths line.to.0 (line.to.0 + 1) (omega arith) (omega (arith, behind, inside)) in
+                let gap =
+                room lines from widths line.to.0 (line.to.0 + 1) (omega arith) (omega (arith, behind, inside)) in
                 let order = ordered from widths lines (line.to.0 + 1) column (omega (arith, behind)) inside in
                 inl (omega (arith, at, small, gap, order))
             | inr most ↦
@@ -196,7 +196,8 @@ into_columns from top widths lines rows i line column row height here within ins
           rw (le-ltb line.from.0 line.to.0 left) refl in
           elim (cases_lt line.to.0 column) [
             | inl behind ↦
-                let gap = room lines from widths line.to.0 (line.to.0 + 1) (omega arith) (omega (arith, behind, inside)) in
+                let gap =
+                room lines from widths line.to.0 (line.to.0 + 1) (omega arith) (omega (arith, behind, inside)) in
                 let order = ordered from widths lines (line.to.0 + 1) column (omega (arith, behind)) inside in
                 inl (omega (arith, at, small, gap, order, ends))
             | inr most ↦

@@ -1,17 +1,16 @@
 -- What is between columns, and between rows.
-use Rattle.std.proofs.Common.{◌≡◌, ◌≢◌, ◌<◌, ◌≤◌, ◌+◌, ◌*◌, ◌⊎◌, ℕ, zero, suc, Bool, true, false, inl, inr, min, max}
-use Rattle.std.proofs.Common.{List, [], ◌∷◌, Some, All, length, get_or, map, refl, sym, ap, ◌∙◌, arith}
-use Rattle.std.specs.Prelude.{slice_get, slice_index, ◌==◌, if◌then◌else◌}
-use Rattle.std.specs.List.{range_with_len}
-use Rattle.std.proofs.lemmas.Bool.{cases_lt, eqb-true}
-use Rattle.std.proofs.lemmas.Option.{slice_get-get_or, slice_get-map, slice_get_within, get_or_from_slice_get}
+use Rattle.std.proofs.Common.{◌≡◌, ◌≢◌, ◌<◌, ◌≤◌, ◌+◌, ◌*◌, ◌⊎◌, ℕ, zero, suc, false, inl, inr, max}
+use Rattle.std.proofs.Common.{List, [], ◌∷◌, Some, All, length, get_or, refl, ap, ◌∙◌, arith}
+use Rattle.std.specs.Prelude.{slice_get, slice_index, ◌==◌}
+use Rattle.std.proofs.lemmas.Bool.{cases_lt}
+use Rattle.std.proofs.lemmas.Option.{slice_get-get_or, slice_get_within, get_or_from_slice_get}
 use Rattle.std.proofs.lemmas.List.Elements.{All-get_or}
 use Rattle.std.proofs.lemmas.List.FromFn.{get_or-map-range_with_len, length-map-range_with_len}
-use Rattle.drawing_text.specs.Spans.{past_all, starts_from}
+use Rattle.drawing_text.specs.Spans.{starts_from}
 use Rattle.drawing_text.specs.declared.spans.Span.{Span}
-use Rattle.drawing_text.proofs.Rows.{apart, as_many, begins}
+use Rattle.drawing_text.proofs.Rows.{apart, as_many}
 use Rattle.plan_layout.specs.Columns.{columns_of, span_of, spans_from, width_at, width_of_strip}
-use Rattle.plan_layout.specs.Strips.{StripShape, strip_of, strips_of, tracks_of, width_of}
+use Rattle.plan_layout.specs.Strips.{StripShape, strip_of, strips_of, tracks_of}
 use Rattle.plan_layout.specs.declared.lines.Line.{Line}
 
 -- the column of a number
@@ -56,12 +55,12 @@ room lines from widths i j lt within =
     let here = span_there all count 0 i widths (omega (arith, lt, within)) in
     let there = span_there all count 0 j widths within in
     let gap = apart from i j spans _ _ _ _ lt here there (start_there from i spans (omega (arith, lt, within, many)))
-      (start_there from j spans (omega (arith, within, many))) in
+    (start_there from j spans (omega (arith, within, many))) in
     let from_none : 0 + j ≡ j = omega arith in
     let inner : (j == 0) ≡ false = grind (arith, lt) in
     let strip = strip_there lines (count + 1) j (omega (arith, within)) in
     let before : width_at all (0 + j) (0 + j == 0) ≡ max (20 + 9 * tracks_of (strip_of lines j)) 28 =
-      ap (λ (n : ℕ). width_of_strip (slice_get all n) (n == 0)) from_none ∙ rw (inner, strip) refl in
+    ap (λ (n : ℕ). width_of_strip (slice_get all n) (n == 0)) from_none ∙ rw (inner, strip) refl in
     (omega (arith, gap, before), omega (arith, gap, before))
 
 free_behind : (rows : List Span) (i : ℕ) (one : Span) → All (λ row. 8 ≤ row.after) rows →

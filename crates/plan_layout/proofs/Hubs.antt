@@ -1,11 +1,11 @@
 -- The hub of each line is among those of its lane, and has a place of its own there.
-use Rattle.std.proofs.Common.{◌≡◌, ◌≢◌, ◌<◌, ◌+◌, ◌&&◌, ◌⊎◌, ℕ, zero, suc, Bool, true, false, nat_eq, inl, inr}
+use Rattle.std.proofs.Common.{◌≡◌, ◌<◌, ◌&&◌, ◌⊎◌, ℕ, zero, suc, Bool, true, false, nat_eq, inl, inr}
 use Rattle.std.proofs.Common.{List, [], ◌∷◌, ◌++◌, Some, length, get_or, refl, sym, ap, ◌∙◌, arith}
 use Rattle.std.specs.Prelude.{if◌then◌else◌, slice_get}
-use Rattle.std.specs.List.{list_any, position_or_len}
+use Rattle.std.specs.List.{list_any}
 use Rattle.std.proofs.lemmas.Bool.{eqb-true, eq-eqb}
 use Rattle.std.proofs.lemmas.List.Sums.{passes_at_first}
-use Rattle.plan_layout.specs.Lines.{is_in, lane_of, same_hub, same_lane, same_truth}
+use Rattle.plan_layout.specs.Lines.{is_in, lane_of, same_hub, same_truth}
 use Rattle.plan_layout.specs.Strips.{hubs_from, hubs_of, track_in, track_of, with_hub}
 use Rattle.plan_layout.specs.declared.lines.Hub.{Hub}
 use Rattle.plan_layout.specs.declared.lines.Lane.{Lane}
@@ -107,7 +107,7 @@ pub one_place : (hub other : Hub) (hubs : List Hub) → track_in hubs hub < leng
     track_in hubs hub ≡ track_in hubs other → hub ≡ other
 one_place hub other hubs within same =
     let first = hub_same hub (get_or hubs (track_in hubs hub) hub)
-      (passes_at_first (same_hub hub) hubs hub within) in
+    (passes_at_first (same_hub hub) hubs hub within) in
     let second = hub_same other (get_or hubs (track_in hubs other) hub)
-      (passes_at_first (same_hub other) hubs hub (omega (arith, within, same))) in
+    (passes_at_first (same_hub other) hubs hub (omega (arith, within, same))) in
     first ∙ ap (λ (place : ℕ). get_or hubs place hub) same ∙ sym second

@@ -1,6 +1,6 @@
 -- Lines of different hubs are apart.
-use Rattle.std.proofs.Common.{◌≡◌, ◌≢◌, ◌<◌, ◌≤◌, ◌+◌, ◌-◌, ◌*◌, ◌%◌, ◌⊎◌, ℕ, Bool, true, false, inl, inr, min}
-use Rattle.std.proofs.Common.{List, Some, length, refl, sym, ap, ◌∙◌, arith, subst}
+use Rattle.std.proofs.Common.{◌≡◌, ◌≢◌, ◌<◌, ◌≤◌, ◌+◌, ◌⊎◌, ℕ, true, false, inl, inr}
+use Rattle.std.proofs.Common.{List, Some, length, refl, sym, ap, ◌∙◌, arith}
 use Rattle.std.specs.Prelude.{slice_get, slice_index}
 use Rattle.std.proofs.lemmas.Bool.{cases_lt, le-ltb, lt-ltb}
 use Rattle.plan_layout.specs.Columns.{columns_of, left_of, track_of, width_of}
@@ -83,10 +83,13 @@ apart from widths lines i j line other here there within lane differ near also_n
           let also_small = small_right from widths lines j other there also_within right.1 in
           let left : left_of (columns_of from widths lines) line.to ≡ left_of (columns_of from widths lines) other.to =
           ap (slice_index (columns_of from widths lines).places.starts) to in
-          elim (cases_lt (track_of (columns_of from widths lines) line) (track_of (columns_of from widths lines) other)) [
+          elim
+          (cases_lt (track_of (columns_of from widths lines) line) (track_of (columns_of from widths lines) other)) [
             | inl less ↦ inr (omega (arith, first, second, own, small, also_small, left, less, one, two))
             | inr more ↦
-                inl (omega (arith, first, second, own, small, also_small, left, more, one, two, near, also_near, apart_tracks))
+                inl
+                (omega
+                (arith, first, second, own, small, also_small, left, more, one, two, near, also_near, apart_tracks))
           ]
       | inr left ↦
           let to = left.2 in
@@ -97,7 +100,8 @@ apart from widths lines i j line other here there within lane differ near also_n
           let right : left_of (columns_of from widths lines) line.to + width_of (columns_of from widths lines) line.to
           ≡ left_of (columns_of from widths lines) other.to + width_of (columns_of from widths lines) other.to =
           ap (λ (c : ℕ). slice_index (columns_of from widths lines).places.starts c + slice_index widths c) to in
-          elim (cases_lt (track_of (columns_of from widths lines) line) (track_of (columns_of from widths lines) other)) [
+          elim
+          (cases_lt (track_of (columns_of from widths lines) line) (track_of (columns_of from widths lines) other)) [
             | inl less ↦ inl (omega (arith, first, second, right, less, one, two))
             | inr more ↦
                 inr (omega (arith, first, second, right, more, one, two, near, also_near, apart_tracks))

@@ -1,6 +1,6 @@
 -- Loops over lists.
 use Rattle.std.proofs.Common.{◌≡◌, ℕ, ◌+◌, ◌<◌, List, ◌∷◌, ◌++◌, length, get_or, drop, ap, sym, ◌∙◌}
-use Rattle.std.proofs.Common.{◌≤◌, ◌⊎◌, inl, inr, Bool, None, [], add-one, arith, map, not}
+use Rattle.std.proofs.Common.{inl, inr, Bool, None, [], add-one, arith, map, not}
 use Rattle.std.specs.List.{position, position_or_len}
 use Rattle.std.proofs.lemmas.Bool.{cases_lt, lt-ltb}
 use Rattle.std.proofs.lemmas.List.{map-append}

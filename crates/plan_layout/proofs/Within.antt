@@ -1,5 +1,5 @@
 -- Nothing in a row begins behind its end.
-use Rattle.std.proofs.Common.{◌≤◌, ◌<◌, ◌+◌, ℕ, zero, suc, List, [], ◌∷◌, length, get_or, arith}
+use Rattle.std.proofs.Common.{◌≤◌, ◌<◌, ℕ, zero, suc, List, [], ◌∷◌, length, get_or, arith}
 use Rattle.drawing_text.specs.Spans.{past, past_all, starts_from}
 use Rattle.drawing_text.specs.declared.spans.Span.{Span}
 

@@ -1,6 +1,6 @@
 -- Columns, with the strips between them. The strip of a number is to the left of the column of that number, and the
 -- last one to the right of the last column.
-use Rattle.std.specs.Prelude.{ℕ, ◌+◌, ◌%◌, ◌==◌, Bool, true, false, if◌then◌else◌, List, [], ◌∷◌, length}
+use Rattle.std.specs.Prelude.{ℕ, ◌+◌, ◌%◌, ◌==◌, Bool, true, if◌then◌else◌, List, [], ◌∷◌, length}
 use Rattle.std.specs.Prelude.{Option, Some, None, slice_get, slice_index}
 use Rattle.drawing_text.specs.declared.spans.Span.{Span}
 use Rattle.js_base.specs.declared.ids.HostId.{HostId}

@@ -1,6 +1,6 @@
 -- Lines from one row to another. A line goes along the row that it begins in, up or down between two columns, and then
 -- into the row that it ends in.
-use Rattle.std.specs.Prelude.{ℕ, ◌+◌, ◌==◌, nat_lt, Bool, true, false, not, ◌&&◌, if◌then◌else◌}
+use Rattle.std.specs.Prelude.{◌+◌, ◌==◌, nat_lt, Bool, true, false, not, ◌&&◌, if◌then◌else◌}
 use Rattle.plan_layout.specs.declared.lines.Hub.{Hub}
 use Rattle.plan_layout.specs.declared.lines.Lane.{Lane}
 use Rattle.plan_layout.specs.declared.lines.Line.{Line}

@@ -1,7 +1,5 @@
 -- What a line covers, and boxes, as rectangles.
-use Rattle.std.specs.Prelude.{ℕ, ◌+◌, ◌-◌, ◌<◌, ◌⊎◌, List, [], ◌∷◌, max, min, slice_index}
-use Rattle.drawing_text.specs.Spans.{starts_from}
-use Rattle.drawing_text.specs.declared.spans.Span.{Span}
+use Rattle.std.specs.Prelude.{ℕ, ◌+◌, ◌-◌, ◌<◌, ◌⊎◌, max, min, slice_index}
 use Rattle.plan_layout.specs.Columns.{ColumnsShape}
 use Rattle.plan_layout.specs.Places.{PlacesShape}
 use Rattle.plan_layout.specs.declared.routes.Route.{Route}

@@ -17,12 +17,12 @@ pub statement_written : (sheet : SheetShape) (texts : List StatementText) (i : �
 statement_written sheet texts i d x row relays whole before between after lt is row_is relays_are one all was =
     let left = statement_rows sheet (i + 1) (map statement_text_shape (drop (i + 1) texts)) in
     let cut = ap (λ (rest : List StatementText). statement_rows sheet i (map statement_text_shape rest))
-      (left_cut texts i d x lt is) in
+    (left_cut texts i d x lt is) in
     let opened : statement_rows sheet i (map statement_text_shape (drop i texts))
     ≡ row ∷ (map relay_row relays ++ left) =
     cut
     ∙ ap (λ (first : Row). first ∷ (map relay_row (relays_behind i sheet.relays) ++ left)) (sym row_is)
     ∙ ap (λ (behind : List Relay). row ∷ (map relay_row behind ++ left)) (sym relays_are) in
     let first = written whole before (row ∷ []) (map relay_row relays ++ left) between
-      (ap (λ (rest : List Row). before ++ rest) (sym opened) ∙ was) one in
+    (ap (λ (rest : List Row). before ++ rest) (sym opened) ∙ was) one in
     written whole between (map relay_row relays) left after first all

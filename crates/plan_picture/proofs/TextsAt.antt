@@ -1,6 +1,6 @@
 -- The text of a statement, as it is and as it is seen.
 use Rattle.std.proofs.Common.{◌≡◌, ◌<◌, ◌≤◌, ℕ, List, get_or, length, map, ap, ◌∙◌, refl}
-use Rattle.std.specs.Prelude.{Option, Some, None, option_map, slice_get}
+use Rattle.std.specs.Prelude.{Some, None, option_map, slice_get}
 use Rattle.std.proofs.lemmas.Option.{slice_get-map, slice_get_past, slice_get_read}
 use Rattle.statement_texts.specs.Texts.{statement_text_shape}
 use Rattle.statement_texts.specs.declared.texts.StatementText.{StatementText}

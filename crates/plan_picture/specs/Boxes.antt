@@ -1,6 +1,6 @@
 -- The boxes of a picture: one in each row, and for each host one in the row of the heads.
-use Rattle.std.specs.Prelude.{ℕ, ◌+◌, ◌-◌, ◌==◌, Bool, true, false, if◌then◌else◌, List, [], ◌∷◌, ◌++◌, codes, flat_map, length}
-use Rattle.std.specs.Prelude.{Option, Some, None, slice_get, slice_index, unwrap_or}
+use Rattle.std.specs.Prelude.{ℕ, ◌+◌, ◌-◌, ◌==◌, Bool, true, false, if◌then◌else◌, List, [], ◌∷◌, ◌++◌, codes, length}
+use Rattle.std.specs.Prelude.{flat_map, Option, Some, None, slice_get, slice_index, unwrap_or}
 use Rattle.std.specs.Fmt.{decimal}
 use Rattle.std.specs.List.{range_with_len}
 use Rattle.std.specs.Str.{chars, encode_utf8_all}
@@ -17,7 +17,7 @@ use Rattle.statement_texts.specs.Texts.{StatementTextShape}
 use Rattle.plan_picture.specs.Columns.{has_part}
 use Rattle.plan_picture.specs.Paths.{Grid}
 use Rattle.plan_picture.specs.Sheets.{SheetShape}
-use Rattle.plan_picture.specs.Texts.{cut_text, field_label, field_letters, host_label, host_letters, indent, line_room}
+use Rattle.plan_picture.specs.Texts.{cut_text, field_label, field_letters, host_label, host_letters, indent}
 use Rattle.plan_picture.specs.Texts.{small_letters, statement_letters, wide_letters}
 use Rattle.plan_picture.specs.declared.boxes.Place.{Place}
 use Rattle.plan_picture.specs.declared.rows.Row.{Row}

@@ -1,5 +1,5 @@
 -- The legend: what the strokes and marks of a picture stand for, as far as they occur in it.
-use Rattle.std.specs.Prelude.{ℕ, ◌+◌, ◌-◌, ◌*◌, ◌/◌, ◌%◌, ◌==◌, nat_lt, Bool, true, false, not, ◌&&◌, if◌then◌else◌}
+use Rattle.std.specs.Prelude.{ℕ, ◌+◌, ◌-◌, ◌*◌, ◌/◌, ◌%◌, ◌==◌, nat_lt, Bool}
 use Rattle.std.specs.Prelude.{List, [], ◌∷◌, ◌++◌, codes, filter, length, max}
 use Rattle.std.specs.Fmt.{decimal}
 use Rattle.std.specs.List.{list_any}
@@ -115,7 +115,8 @@ release_sample x y =
 
 abbrev pub passing_sample : (x y : ℕ) → List ℕ
 passing_sample x y =
-    codes "<rect x='" ++ (decimal x ++ (codes "' y='" ++ (decimal (y - 6) ++ codes "' width='32' height='12' rx='6'/>")))
+    codes "<rect x='" ++ (decimal x ++ (codes "' y='" ++ (decimal (y - 6)
+    ++ codes "' width='32' height='12' rx='6'/>")))
 
 abbrev pub sample_of : Sign → (x y : ℕ) → List ℕ
 sample_of (sign.OfWay one) x y = stroke_sample x y

@@ -8,4 +8,5 @@ pub mod Paths
 pub mod Picture
 pub mod Rows
 pub mod Sheets
+pub mod Shown
 pub mod Texts

@@ -1,6 +1,5 @@
 -- Ways of control and values, as lines from row to row.
 use Rattle.std.specs.Prelude.{ℕ, ◌+◌, Bool, true, false, List, [], ◌∷◌, length, map, replicate, slice_index, slice_set}
-use Rattle.plan_layout.specs.declared.lines.Hub.{Hub}
 use Rattle.plan_layout.specs.declared.lines.Line.{Line}
 use Rattle.plan_ways.specs.declared.ends.Way.{Way}
 use Rattle.plan_ways.specs.declared.ends.WayEnd.{WayEnd}

@@ -1,10 +1,9 @@
 -- The bands and brackets of loops.
-use Rattle.std.specs.Prelude.{ℕ, ◌+◌, ◌-◌, ◌*◌, ◌/◌, ◌^◌, ◌==◌, nat_le, nat_lt, Bool, true, false, not, if◌then◌else◌}
+use Rattle.std.specs.Prelude.{ℕ, ◌+◌, ◌-◌, ◌*◌, ◌/◌, ◌^◌, ◌==◌, nat_le, Bool, true, false, if◌then◌else◌}
 use Rattle.std.specs.Prelude.{List, [], ◌∷◌, ◌++◌, codes, Option, Some, None, max, min, slice_get, slice_index}
 use Rattle.std.specs.Fmt.{decimal}
 use Rattle.js_base.specs.declared.ids.StmtId.{StmtId}
 use Rattle.plan_layout.specs.Places.{PlacesShape}
-use Rattle.plan_ways.specs.declared.relays.Relay.{Relay}
 use Rattle.statement_texts.specs.Texts.{StatementTextShape}
 use Rattle.plan_picture.specs.Legend.{bracket_text, bracket_tip}
 use Rattle.plan_picture.specs.Rows.{height_of}

@@ -98,3 +98,16 @@ route_on grid way = route_of grid.columns grid.places (line_of grid.numbers way)
 abbrev pub ways_text : SheetShape → Grid → List Way → List ℕ
 ways_text sheet grid [] = []
 ways_text sheet grid (way ∷ ways) = way_text sheet way (route_on grid way) ++ ways_text sheet grid ways
+
+-- a way that goes to the right, up, and to the right
+abbrev pub sample_route : Route
+sample_route = record {
+  from_x = 10;
+  from_y = 90;
+  at_x = 60;
+  to_y = 50;
+  to_x = 100;
+  begins_right = true;
+  down = false;
+  ends_right = true;
+}

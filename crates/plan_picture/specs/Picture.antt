@@ -1,9 +1,8 @@
 -- The picture of a plan, as an SVG text.
-use Rattle.std.specs.Prelude.{ℕ, ◌+◌, ◌-◌, ◌*◌, List, [], ◌∷◌, ◌++◌, codes, flat_map, length, max}
+use Rattle.std.specs.Prelude.{ℕ, ◌+◌, ◌-◌, ◌*◌, List, ◌++◌, codes, flat_map, length, max}
 use Rattle.std.specs.Fmt.{decimal}
 use Rattle.std.specs.List.{range_with_len}
 use Rattle.drawing_text.specs.declared.style.TheConstants.{STYLE}
-use Rattle.js_base.specs.declared.ids.HostId.{HostId}
 use Rattle.plan_layout.specs.Columns as layout
 use Rattle.plan_layout.specs.Places.{places_of}
 use Rattle.plan_picture.specs.Boxes.{boxes_text, heads_text}
@@ -35,7 +34,7 @@ grid_of sheet = record {
   numbers = row_numbers sheet;
   columns = columns_of sheet;
   places =
-    places_of (top_of (width_of (columns_of sheet)) (length (legend_of sheet))) (spans_of (rows_of sheet));
+      places_of (top_of (width_of (columns_of sheet)) (length (legend_of sheet))) (spans_of (rows_of sheet));
 }
 
 -- ---- the parts of the text

@@ -19,8 +19,8 @@ field_row sheet number = record {
   host = field_host sheet.plan (record { 0 = number });
   before = 0;
   width =
-    max (wide_need (length (field_letters sheet (record { 0 = number }))))
-    (small_need (length (field_label sheet (record { 0 = number }))));
+      max (wide_need (length (field_letters sheet (record { 0 = number }))))
+      (small_need (length (field_label sheet (record { 0 = number }))));
   blocks = 0;
 }
 

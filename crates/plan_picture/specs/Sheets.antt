@@ -9,8 +9,8 @@ use Rattle.plan_ways.specs.declared.relays.Relay.{Relay}
 use Rattle.plan_ways.specs.declared.ends.Way.{Way}
 use Rattle.plan_picture.specs.declared.sheet.PictureSheet.{PictureSheet}
 
--- the program, its code and the plan that this was made for, who is declared, what the plan costs, the statements by number with their
--- lines and whether each releases a value, and the ways of control and values
+-- the program, its code and the plan that this was made for, who is declared, what the plan costs, the statements by
+-- number with their lines and whether each releases a value, and the ways of control and values
 pub record SheetShape : Type 0 where
   pub program : ProgramTree
   pub code : CodeShape

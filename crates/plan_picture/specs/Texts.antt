@@ -1,5 +1,5 @@
 -- The texts in boxes, and how wide they are. All lengths are in pixels.
-use Rattle.std.specs.Prelude.{ℕ, ◌+◌, ◌-◌, ◌*◌, ◌==◌, ℤ, Bool, true, false, if◌then◌else◌, List, [], ◌++◌, codes, length, pos}
+use Rattle.std.specs.Prelude.{ℕ, ◌+◌, ◌-◌, ◌*◌, Bool, true, false, if◌then◌else◌, List, [], ◌++◌, codes, length, pos}
 use Rattle.std.specs.Prelude.{Option, Some, None, fold, max, min, slice_get}
 use Rattle.std.specs.Fmt.{decimal, signed_decimal}
 use Rattle.std.specs.Ordering.{int_eq}
@@ -68,7 +68,8 @@ plain field false = field.name ++ (codes " = " ++ signed_decimal field.first)
 
 abbrev pub declared : CodeFieldShape → List ℕ
 declared field =
-    if field.array then field.name ++ (codes "[" ++ (decimal field.size ++ codes "]")) else plain field (int_eq field.first (pos 0))
+    if field.array then field.name ++ (codes "[" ++ (decimal field.size ++ codes "]"))
+    else plain field (int_eq field.first (pos 0))
 
 abbrev pub declared_letters : Option CodeFieldShape → List ℕ
 declared_letters None = []

@@ -37,7 +37,12 @@ pub struct Place {
 fn push_open(text: &mut String, class: &str, place: &Place) -> Result<(), OutOfMemory>
     ensures { OnOk result (string_bytes text.new ≡ string_bytes text.old ++ boxes.open_text class.now place.now) }
 {
-    let Place { x, y, width, height } = *place;
+    let Place {
+        x,
+        y,
+        width,
+        height,
+    } = *place;
     write!(
         text,
         "<svg class='{class}' x='{x}' y='{y}' width='{width}' height='{height}'><title>"
@@ -151,7 +156,14 @@ fn push_head_of(
     let name = host_letters(alloc, sheet, host)?;
     let label = host_label(alloc, sheet, host)?;
     let place = place_of(grid, host, 0, 44);
-    push_head(alloc, text, name.as_slice(), label.as_slice(), has_part(rows, host), &place)
+    push_head(
+        alloc,
+        text,
+        name.as_slice(),
+        label.as_slice(),
+        has_part(rows, host),
+        &place,
+    )
 }
 
 /// Adds the head of a host with this name and label.
@@ -403,7 +415,15 @@ fn push_short(
     let short = statement_letters(alloc, one)?;
     let own = room + indent(one);
     let fits = wide_letters(width.saturating_sub(own));
-    push_label(alloc, text, style_of(one), 8 + own, 21, short.as_slice(), fits)
+    push_label(
+        alloc,
+        text,
+        style_of(one),
+        8 + own,
+        21,
+        short.as_slice(),
+        fits,
+    )
 }
 
 /// The style of a statement: the head of a method is bold.
@@ -414,7 +434,12 @@ fn style_of(one: &StatementText) -> &'static str
 }
 
 /// Adds the box of a relay on a host of this name.
-fn push_relay(text: &mut String, relay: &Relay, host: &str, place: &Place) -> Result<(), OutOfMemory>
+fn push_relay(
+    text: &mut String,
+    relay: &Relay,
+    host: &str,
+    place: &Place,
+) -> Result<(), OutOfMemory>
     ensures { OnOk result (string_bytes text.new ≡ string_bytes text.old
         ++ boxes.relay_text relay.now host.now place.now) }
 {

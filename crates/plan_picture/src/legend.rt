@@ -232,11 +232,7 @@ fn push_rider_sample(text: &mut String, x: u64, y: u64) -> Result<(), OutOfMemor
     ensures { OnOk result (string_bytes text.new ≡ string_bytes text.old ++ legend.rider_sample x y) }
 {
     let middle = x + 17;
-    write!(
-        text,
-        "<circle class='ride' cx='{middle}' cy='{y}' r='4'/>"
-    )
-    .map_err(|_| OutOfMemory)?;
+    write!(text, "<circle class='ride' cx='{middle}' cy='{y}' r='4'/>").map_err(|_| OutOfMemory)?;
     Ok(())
 }
 

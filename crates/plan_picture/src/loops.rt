@@ -202,12 +202,7 @@ pub fn push_bands(
 }
 
 /// Adds the band of a loop, which reaches to the right end.
-fn push_band(
-    text: &mut String,
-    places: &Places,
-    right: u64,
-    one: &Loop,
-) -> Result<(), OutOfMemory>
+fn push_band(text: &mut String, places: &Places, right: u64, one: &Loop) -> Result<(), OutOfMemory>
     ensures { OnOk result (string_bytes text.new ≡ string_bytes text.old
         ++ looping.loop_band places.now right one.now) }
 {
@@ -240,11 +235,7 @@ fn push_band_at(
 }
 
 /// Adds the brackets of loops.
-pub fn push_brackets(
-    text: &mut String,
-    places: &Places,
-    loops: &[Loop],
-) -> Result<(), OutOfMemory>
+pub fn push_brackets(text: &mut String, places: &Places, loops: &[Loop]) -> Result<(), OutOfMemory>
     ensures { OnOk result (string_bytes text.new ≡ string_bytes text.old
         ++ looping.brackets_text places.now loops.now) }
 {
@@ -304,7 +295,9 @@ fn push_factor(text: &mut String, x: u64, y: u64, depth: u16) -> Result<(), OutO
     ensures { OnOk result (string_bytes text.new ≡ string_bytes text.old ++ looping.factor_text x y depth) }
 {
     let factor = factor_of(depth);
-    writeln!(text, "<text class='s' x='{x}' y='{y}'>x{factor}</text></g>").map_err(|_| OutOfMemory)?;
+    writeln!(text, "<text class='s' x='{x}' y='{y}'>x{factor}</text></g>").map_err(
+        |_| OutOfMemory,
+    )?;
     Ok(())
 }
 

@@ -9,8 +9,8 @@ ghost use Rattle.plan_picture.specs.Sheets.{sheet_shape};
 ghost use Rattle.plan_ways.specs.Tips.{tip_text};
 
 use crate::legend::{class_of_kind, push_class};
-use crate::sheet::PictureSheet;
 use crate::lines::{RowNumbers, line_of, parts};
+use crate::sheet::PictureSheet;
 use js_base::OutOfMemory;
 use plan_layout::{Columns, Places, Route, route_of};
 use plan_ways::{Way, push_tip};
@@ -55,11 +55,7 @@ fn route_on(grid: &Grid, way: &Way) -> Route
     ensures value { result ≡ paths.route_on grid.now way.now }
     ensures small { IsSmall result }
 {
-    route_of(
-        &grid.columns,
-        &grid.places,
-        &line_of(&grid.numbers, way),
-    )
+    route_of(&grid.columns, &grid.places, &line_of(&grid.numbers, way))
 }
 
 /// Adds a way that goes so.
@@ -82,11 +78,7 @@ fn push_way(
 }
 
 /// Adds what a way stands for.
-fn push_title(
-    text: &mut String,
-    sheet: &PictureSheet<'_>,
-    way: &Way,
-) -> Result<(), OutOfMemory>
+fn push_title(text: &mut String, sheet: &PictureSheet<'_>, way: &Way) -> Result<(), OutOfMemory>
     ensures { OnOk result (string_bytes text.new ≡ string_bytes text.old
         ++ paths.title_text (tip_text sheet.now.code.now (program_tree sheet.now.program.now) way.now)) }
 {
@@ -224,11 +216,7 @@ fn push_rider(text: &mut String, riding: bool, route: &Route) -> Result<(), OutO
 fn push_dot(text: &mut String, x: u64, y: u64) -> Result<(), OutOfMemory>
     ensures { OnOk result (string_bytes text.new ≡ string_bytes text.old ++ paths.dot_text x y) }
 {
-    write!(
-        text,
-        "<circle class='ride' cx='{x}' cy='{y}' r='4'/>"
-    )
-    .map_err(|_| OutOfMemory)?;
+    write!(text, "<circle class='ride' cx='{x}' cy='{y}' r='4'/>").map_err(|_| OutOfMemory)?;
     Ok(())
 }
 
@@ -238,11 +226,7 @@ fn push_end(text: &mut String, route: &Route) -> Result<(), OutOfMemory>
 {
     let (x, y) = (route.to_x, route.to_y);
     let back = eight(route.ends_right);
-    writeln!(
-        text,
-        "<path class='tip' d='M{x} {y}l{back}-3.5v7z'/></g>"
-    )
-    .map_err(|_| OutOfMemory)?;
+    writeln!(text, "<path class='tip' d='M{x} {y}l{back}-3.5v7z'/></g>").map_err(|_| OutOfMemory)?;
     Ok(())
 }
 

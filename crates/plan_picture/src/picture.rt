@@ -51,14 +51,7 @@ pub fn push_plan(
         columns,
         places,
     };
-    push_picture(
-        alloc,
-        text,
-        sheet,
-        &grid,
-        rows.as_slice(),
-        signs.as_slice(),
-    )?;
+    push_picture(alloc, text, sheet, &grid, rows.as_slice(), signs.as_slice())?;
     Ok(())
 }
 

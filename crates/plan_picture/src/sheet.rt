@@ -7,8 +7,8 @@ use plan_ways::PlanWays;
 use principals::Principals;
 use statement_texts::StatementText;
 
-/// What a picture is drawn by: the program, its code and the plan that this was made for, who is declared, what the plan costs, the
-/// statements by number, and the ways of control and values.
+/// What a picture is drawn by: the program, its code and the plan that this was made for, who is declared, what the
+/// plan costs, the statements by number, and the ways of control and values.
 #[derive(Clone, Copy)]
 pub struct PictureSheet<'a> {
     pub program: &'a Program,

@@ -144,10 +144,7 @@ fn declared(alloc: Global, field: &CodeField) -> Result<String, OutOfMemory>
 }
 
 /// A statement in short.
-pub fn statement_letters(
-    alloc: Global,
-    statement: &StatementText,
-) -> Result<Vec<char>, OutOfMemory>
+pub fn statement_letters(alloc: Global, statement: &StatementText) -> Result<Vec<char>, OutOfMemory>
     ensures { IfOk result (λ found. found.items
         ≡ texts.statement_letters (statement_text_shape statement.now)) }
 {

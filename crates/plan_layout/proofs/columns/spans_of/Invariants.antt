@@ -7,6 +7,6 @@ use Rattle.plan_layout.proofs.columns.spans_of.Given as goal
 abbrev pub invariant-loop-number : goal.invariant-loop-number
 invariant-loop-number l = record {
   made : l.spans.items ++ spans_from (map strip_shape l.strips) (length l.widths) l.number (drop l.number l.widths)
-    ≡ spans_from (map strip_shape l.strips) (length l.widths) 0 l.widths;
+      ≡ spans_from (map strip_shape l.strips) (length l.widths) 0 l.widths;
   counted : length l.spans.items ≡ l.number;
 }

@@ -15,5 +15,5 @@ pub returns-clause-few : goal.returns-clause-few
 returns-clause-few c =
     let sheet = sheet_shape c.args.sheet.now in
     let many = length-map-range_with_len (λ number. width_of sheet c.args.rows.now (record { 0 = number })) 0
-      c.loop-number.number in
+    c.loop-number.number in
     omega (arith, many, ap length c.loop-number.invariant)

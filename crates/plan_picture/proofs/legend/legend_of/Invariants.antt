@@ -7,6 +7,6 @@ use Rattle.plan_picture.proofs.legend.legend_of.Given as goal
 abbrev pub invariant-loop-sign : goal.invariant-loop-sign
 invariant-loop-sign l = record {
   found : l.found.items ++ filter (occurs (sheet_shape l.sheet)) (drop l.sign-index all_signs)
-    ≡ legend_of (sheet_shape l.sheet);
+      ≡ legend_of (sheet_shape l.sheet);
   few : length l.found.items ≤ l.sign-index;
 }

@@ -1,4 +1,4 @@
-use Rattle.std.proofs.Common.{◌≡◌, sym}
+use Rattle.std.proofs.Common.{sym}
 use Rattle.std.proofs.lemmas.List.{append-nil}
 use Rattle.plan_picture.proofs.TextsAt.{no_text}
 use Rattle.plan_picture.proofs.loops.push_loop_at.Goals as goal

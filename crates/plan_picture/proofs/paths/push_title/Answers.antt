@@ -7,5 +7,6 @@ use Rattle.plan_picture.proofs.paths.push_title.Goals as goal
 
 pub returns : goal.returns
 returns c =
-    three_pieces (string_bytes c.args.text.now) (codes "<title>") (tip_text c.args.sheet.now.code.now (program_tree c.args.sheet.now.program.now) c.args.way.now)
+    three_pieces (string_bytes c.args.text.now) (codes "<title>")
+    (tip_text c.args.sheet.now.code.now (program_tree c.args.sheet.now.program.now) c.args.way.now)
     (codes "</title>") _ _ _ c.in_ok-push_str.ensures.bytes c.in_ok-push_tip.ensures c.in_ok-push_str-2.ensures.bytes

@@ -12,7 +12,8 @@ returns c =
     let way = c.args.way.now in
     let route = c.args.route.now in
     five_pieces (string_bytes c.args.text.now) (class_text (class_of_kind way.kind))
-    (title_text (tip_text c.args.sheet.now.code.now (program_tree c.args.sheet.now.program.now) way)) (path_text (stroke_of (parts way.kind) route))
+    (title_text (tip_text c.args.sheet.now.code.now (program_tree c.args.sheet.now.program.now) way))
+    (path_text (stroke_of (parts way.kind) route))
     (rider_text way.rides route) (end_text route) _ _ _ _ _
     (rw c.class_of_kind.ensures at c.in_ok-push_class.ensures) c.in_ok-push_title.ensures
     (rw c.parts.ensures at c.in_ok-push_stroke.ensures) c.in_ok-push_rider.ensures

@@ -1,4 +1,3 @@
-use Rattle.std.proofs.Common.{sym, ◌∙◌, ap}
 use Rattle.std.specs.String.{string_bytes}
 use Rattle.plan_picture.specs.Picture.{lane_of, lanes_text}
 use Rattle.plan_picture.proofs.Walks.{none_written, numbered_written}

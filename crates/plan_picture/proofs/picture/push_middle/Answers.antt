@@ -14,9 +14,9 @@ returns c =
     let places = ap (λ (g : Grid). g.places) c.grid.view_is in
     let past = c.right.ensures.value ∙ ap (λ (g : Grid). g.columns.places.past) c.grid.view_is in
     let loops = c.as_slice.ensures.value ∙ c.in_ok-loops.ensures
-      ∙ ap (λ (rows : List Row). loops_of sheet 1 rows) c.requires in
+    ∙ ap (λ (rows : List Row). loops_of sheet 1 rows) c.requires in
     let same_loops = c.as_slice-2.ensures.value ∙ c.in_ok-loops.ensures
-      ∙ ap (λ (rows : List Row). loops_of sheet 1 rows) c.requires in
+    ∙ ap (λ (rows : List Row). loops_of sheet 1 rows) c.requires in
     middle_written sheet c.args.grid.now _ _ _ _ (string_bytes c.args.text.now) _ _ _ places past loops
     c.deref.ensures.value c.in_ok-push_bands.ensures
     (rw (same_loops ∙ sym loops) at c.in_ok-push_brackets.ensures) c.in_ok-push_ways.ensures

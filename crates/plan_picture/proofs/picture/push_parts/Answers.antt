@@ -9,6 +9,7 @@ pub returns : goal.returns
 returns c =
     parts_written (sheet_shape c.args.sheet.now) c.args.grid.now _ c.past-past.result _ c.args.signs.now c.args.width
     c.args.top (string_bytes c.args.text.now) _ _ _ _ (ap (λ (g : Grid). g.columns) c.grid.view_is)
-    (c.past-past.ensures.value ∙ ap (λ (g : Grid). g.places.past) c.grid.view_is) (ap length c.hosts-count.ensures.hosts)
+    (c.past-past.ensures.value ∙ ap (λ (g : Grid). g.places.past) c.grid.view_is)
+    (ap length c.hosts-count.ensures.hosts)
     c.in_ok-push_front.ensures c.in_ok-push_lanes.ensures c.in_ok-push_middle.ensures
     c.in_ok-push_all_boxes.ensures

@@ -6,5 +6,6 @@ use Rattle.plan_picture.proofs.picture.push_style.Goals as goal
 
 pub returns : goal.returns
 returns c =
-    two_pieces (string_bytes c.args.text.now) (codes "<title>Where the parts of a program stand</title>\n") STYLE.now _ _
+    two_pieces (string_bytes c.args.text.now) (codes "<title>Where the parts of a program stand</title>\n")
+    STYLE.now _ _
     c.in_ok-push_str.ensures.bytes c.in_ok-push_str-2.ensures.bytes
