@@ -4,7 +4,7 @@ use Rattle.std.proofs.Common.{Global, Vec, vec_items}
 use Rattle.std.proofs.Common.{sym, ◌∙◌, add-one, arith}
 use Rattle.std.specs.List.{flat_map, range_with_len}
 use Rattle.std.proofs.Math.Seq.{drop-cons}
-use Rattle.std.proofs.lemmas.List.{append_assoc, append-nil, drop_all, map-append}
+use Rattle.std.proofs.lemmas.List.{append-nil, drop_all, map-append}
 use Rattle.std.proofs.lemmas.List.Concat.{flat_map-append}
 
 -- what is left of a list is its next element, and what is left behind that
