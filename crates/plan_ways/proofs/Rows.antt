@@ -16,7 +16,8 @@ use Rattle.host_code.specs.declared.instruction.Op.TheVariants as op
 use Rattle.plan_ways.specs.Ends.{is_same_end, kept}
 use Rattle.plan_ways.specs.Marked.{HasRow}
 use Rattle.plan_ways.specs.Readers.{reader_by, reader_end}
-use Rattle.plan_ways.specs.Stands.{arrivals_of, arrived, code_places, door_at, door_behind, door_of, doors_from, doors_of}
+use Rattle.plan_ways.specs.Stands.{arrivals_of, arrived, code_places, door_at, door_behind, door_of, doors_from}
+use Rattle.plan_ways.specs.Stands.{doors_of}
 use Rattle.plan_ways.specs.Stands.{entered, entered_all, first_done, head_at}
 use Rattle.plan_ways.specs.Stands.{is_moving, landed, passed, places_from, places_on, stand_of, standing, station_at}
 use Rattle.plan_ways.specs.Stands.{station_of_start}

@@ -4,7 +4,7 @@ use Rattle.std.proofs.Common.{Global, Vec, vec_items}
 use Rattle.std.proofs.Common.{sym, ◌∙◌, add-one, arith}
 use Rattle.std.specs.List.{flat_map, range_with_len}
 use Rattle.std.proofs.Math.Seq.{drop-cons}
-use Rattle.std.proofs.lemmas.List.{append_assoc, append-nil, drop_all, map-append}
+use Rattle.std.proofs.lemmas.List.{append-nil, drop_all, map-append}
 use Rattle.std.proofs.lemmas.List.Concat.{flat_map-append}
 
 -- what is left of a list is its next element, and what is left behind that
@@ -14,48 +14,10 @@ left_cut {X} xs i d x lt is =
     let cut : drop i xs ≡ get_or xs i d ∷ drop (i + 1) xs = rw add-one (drop-cons xs i d lt) in
     cut ∙ ap (λ (y : X). y ∷ drop (i + 1) xs) (sym is)
 
--- F changes a state by f for each element
-pub folded : {S X : Type 0} (F : S → List X → S) (f : S → X → S) →
-    ((s : S) (x : X) (xs : List X) → F s (x ∷ xs) ≡ F (f s x) xs) → (xs : List X) (i : ℕ) (d x : X)
-    (before after whole : S) → i < length xs → x ≡ get_or xs i d → F before (drop i xs) ≡ whole →
-    after ≡ f before x → F after (drop (i + 1) xs) ≡ whole
-folded {S} F f cons xs i d x before after whole lt is was now =
-    ap (λ (s : S). F s (drop (i + 1) xs)) now ∙ sym (cons before x (drop (i + 1) xs))
-    ∙ sym (ap (F before) (left_cut xs i d x lt is)) ∙ was
-
+-- what F makes of a state and no more elements is the state
 pub folded_all : {S X : Type 0} (F : S → List X → S) → ((s : S) → F s [] ≡ s) → (xs : List X) (i : ℕ)
     (made whole : S) → length xs ≤ i → F made (drop i xs) ≡ whole → made ≡ whole
 folded_all F nil xs i made whole all was = sym (nil made) ∙ sym (ap (F made) (drop_all i xs all)) ∙ was
-
--- the same, where the number of the element counts
-pub counted : {S X : Type 0} (F : S → ℕ → List X → S) (f : S → ℕ → X → S) →
-    ((s : S) (n : ℕ) (x : X) (xs : List X) → F s n (x ∷ xs) ≡ F (f s n x) (n + 1) xs) → (xs : List X) (i : ℕ) (d x : X)
-    (before after whole : S) → i < length xs → x ≡ get_or xs i d → F before i (drop i xs) ≡ whole →
-    after ≡ f before i x → F after (i + 1) (drop (i + 1) xs) ≡ whole
-counted {S} F f cons xs i d x before after whole lt is was now =
-    ap (λ (s : S). F s (i + 1) (drop (i + 1) xs)) now ∙ sym (cons before i x (drop (i + 1) xs))
-    ∙ sym (ap (F before i) (left_cut xs i d x lt is)) ∙ was
-
-pub counted_all : {S X : Type 0} (F : S → ℕ → List X → S) → ((s : S) (n : ℕ) → F s n [] ≡ s) → (xs : List X) (i : ℕ)
-    (made whole : S) → length xs ≤ i → F made i (drop i xs) ≡ whole → made ≡ whole
-counted_all F nil xs i made whole all was = sym (nil made i) ∙ sym (ap (F made i) (drop_all i xs all)) ∙ was
-
--- F gives each element a piece f, by its number
-pub piece_added : {X Y : Type 0} (F : ℕ → List X → List Y) (f : ℕ → X → List Y) →
-    ((n : ℕ) (x : X) (xs : List X) → F n (x ∷ xs) ≡ f n x ++ F (n + 1) xs) → (xs : List X) (i : ℕ) (d x : X)
-    (whole before after : List Y) → i < length xs → x ≡ get_or xs i d → before ++ F i (drop i xs) ≡ whole →
-    after ≡ before ++ f i x → after ++ F (i + 1) (drop (i + 1) xs) ≡ whole
-piece_added {X} {Y} F f cons xs i d x whole before after lt is was added =
-    ap (λ (made : List Y). made ++ F (i + 1) (drop (i + 1) xs)) added
-    ∙ append_assoc before (f i x) (F (i + 1) (drop (i + 1) xs))
-    ∙ ap (λ (left : List Y). before ++ left)
-    (sym (ap (F i) (left_cut xs i d x lt is) ∙ cons i x (drop (i + 1) xs)))
-    ∙ was
-
-pub pieces_all : {X Y : Type 0} (F : ℕ → List X → List Y) → ((n : ℕ) → F n [] ≡ []) → (xs : List X) (i : ℕ)
-    (made whole : List Y) → length xs ≤ i → made ++ F i (drop i xs) ≡ whole → made ≡ whole
-pieces_all {X} {Y} F nil xs i made whole all was =
-    sym (append-nil made) ∙ ap (λ (left : List Y). made ++ left) (sym (ap (F i) (drop_all i xs all) ∙ nil i)) ∙ was
 
 -- ---- hosts by number
 

@@ -136,8 +136,8 @@ handed_down handed spots entry = handed_to spots entry (slice_index_or handed en
 
 -- ---- relays
 
--- what relays are found by: the code, which instruction names each entry, to which entry each of them gives the token of
--- another back at once, and at which of them a way begins or ends
+-- what relays are found by: the code, which instruction names each entry, to which entry each of them gives the token
+-- of another back at once, and at which of them a way begins or ends
 pub record RowShape : Type 0 where
   pub code : CodeShape
   pub namings : List (Option Naming)

@@ -30,7 +30,8 @@ use Rattle.plan_ways.specs.declared.levels.Level.TheVariants.{Body, Under}
 use Rattle.plan_ways.specs.declared.stands.Place.{Place}
 
 -- what ways are found by: the code, the plan that it was made for, where control stands at each entry and whose token
--- it holds there, which entries stand behind the calls of a method, and which statement of a host reads a variable first
+-- it holds there, which entries stand behind the calls of a method, and which statement of a host reads a variable
+-- first
 pub record SheetShape : Type 0 where
   pub code : CodeShape
   pub plan : PlanShape

@@ -1,4 +1,5 @@
--- A small code, worked out: `main` on the first host calls a method on the second one, and goes on behind the call.
+-- Small codes, worked out: `main` on the first host calls a method on the second one, and goes on behind the call; and
+-- it lends the second host a statement.
 use Rattle.std.specs.Prelude.{ℕ, false, List, [], ◌∷◌, None, pos}
 use Rattle.label_lattice.specs.declared.label.Label.{Label}
 use Rattle.js_base.specs.declared.ids.EntryId.{EntryId}
@@ -6,6 +7,7 @@ use Rattle.js_base.specs.declared.ids.HostId.{HostId}
 use Rattle.js_base.specs.declared.ids.StmtId.{StmtId}
 use Rattle.host_code.specs.Code.{CodeShape}
 use Rattle.host_code.specs.declared.code.Entry.{Entry}
+use Rattle.host_code.specs.declared.code_expr.Node.TheVariants as node
 use Rattle.host_code.specs.declared.instruction.Instr.{Instr}
 use Rattle.host_code.specs.declared.instruction.Op.{Op}
 use Rattle.host_code.specs.declared.instruction.Op.TheVariants as op
@@ -77,7 +79,8 @@ small_program label behind = record {
   fields = [];
   vars = [];
   methods = method label 0 (set 1 done)
-      ∷ method label 2 (call (record { id = statement 3; line = 0 }) (record { 0 = 1 }) (record { 0 = 0 }) [] None behind)
+      ∷ method label 2
+      (call (record { id = statement 3; line = 0 }) (record { 0 = 1 }) (record { 0 = 0 }) [] None behind)
       ∷ [];
   main = record { 0 = 1 };
 }
@@ -117,3 +120,75 @@ way_back behind = record {
   what = what.Entry (entry 3);
   rides = false;
 }
+
+-- ---- a statement that is lent
+
+-- `main` with the statements 1, 2 and 3, of which the second one is done on the second host, to which the variable is
+-- sent that it reads; the entry 2 stands at the third statement, and the entry 3 at the second one
+abbrev pub lent_code : Label → CodeShape
+lent_code label = record {
+  hosts = record { name = []; label = label } ∷ record { name = []; label = label } ∷ [];
+  labels = label ∷ [];
+  fields = [];
+  variables = record { name = []; label = 0 } ∷ [];
+  entries = there 0 0 ∷ there 0 0 ∷ there 0 4 ∷ there 1 0 ∷ [];
+  sites = [];
+  parts = (made 1 (op.Let (record { 0 = 0 }) []) ∷ made 1 (op.Send (record { 0 = 0 }) (host 1))
+      ∷ made 2 (op.Push (entry 2)) ∷ made 2 (op.Go (entry 3) (host 1)) ∷ made 3 (op.Let (record { 0 = 0 }) [])
+      ∷ made 0 op.Back ∷ [])
+      ∷ (made 2 (op.Let (record { 0 = 0 }) (node.Var (record { 0 = 0 }) ∷ [])) ∷ made 2 op.Back ∷ []) ∷ [];
+  root = host 0;
+  main = entry 1;
+}
+
+abbrev pub lent_program : Label → ProgramTree
+lent_program label = record {
+  fields = [];
+  vars = [];
+  methods = method label 0 (set 1 (set 2 (set 3 done))) ∷ [];
+  main = record { 0 = 0 };
+}
+
+abbrev pub lent_plan : PlanShape
+lent_plan = record { fields = []; statements = host 0 ∷ host 0 ∷ host 1 ∷ host 0 ∷ [] }
+
+-- the variable goes to the statement that reads it, control follows, and comes back to the third statement
+abbrev pub lent_ways : List Way
+lent_ways =
+    record {
+      kind = kind.Forward;
+      statement = statement 1;
+      host = host 0;
+      at = 1;
+      from = host 0;
+      begin = end.Statement (statement 1);
+      to = host 1;
+      end = end.Statement (statement 2);
+      what = what.Variable (record { 0 = 0 });
+      rides = false;
+    }
+    ∷ record {
+      kind = kind.Go;
+      statement = statement 2;
+      host = host 0;
+      at = 3;
+      from = host 0;
+      begin = end.Statement (statement 1);
+      to = host 1;
+      end = end.Statement (statement 2);
+      what = what.Entry (entry 3);
+      rides = false;
+    }
+    ∷ record {
+      kind = kind.Back;
+      statement = statement 2;
+      host = host 1;
+      at = 1;
+      from = host 1;
+      begin = end.Statement (statement 2);
+      to = host 0;
+      end = end.Statement (statement 3);
+      what = what.Entry (entry 2);
+      rides = false;
+    }
+    ∷ []

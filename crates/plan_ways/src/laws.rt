@@ -62,4 +62,9 @@ pub fn way_laws()
             role = role.GivesBack;
           } ∷ [];
         } }
+    // A statement that is lent to another host: the variable that it reads goes there, control goes there, and comes
+    // back to the statement behind it.
+    ensures worked_lent { (label : Label) →
+        ways_of (worked.lent_code label) worked.lent_plan (worked.lent_program label)
+        ≡ record { ways = worked.lent_ways; relays = [] } }
 {}

@@ -6,8 +6,8 @@
 //! **Begin** with `specs/Stands.antt` (where control stands, and whose token is held), and go on with `specs/Ways.antt`
 //! and `specs/Relays.antt`.
 //!
-//! **Stays.** Ways come in the order of hosts and instructions, since tracks are given out in this order; and every
-//! pass goes once over the code, with tables by number.
+//! **Stays.** Ways come in the order of hosts and instructions, since tracks are given out in this order. Each pass
+//! goes once over the code, with tables by number, and the entries are gone over once for each host.
 //!
 //! - `ends`: kinds and ends of ways
 //! - `tables`: tables by number

@@ -37,3 +37,6 @@ returns-clause-worked_statement c = λ label. refl
 
 pub returns-clause-worked_relay : goal.returns-clause-worked_relay
 returns-clause-worked_relay c = λ label. refl
+
+pub returns-clause-worked_lent : goal.returns-clause-worked_lent
+returns-clause-worked_lent c = λ label. refl
