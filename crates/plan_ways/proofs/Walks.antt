@@ -1,5 +1,6 @@
 -- Loops that follow a recursion on a list: what was made, and what the rest makes of it, is the whole.
 use Rattle.std.proofs.Common.{◌≡◌, ℕ, zero, suc, ◌+◌, ◌<◌, ◌≤◌, List, [], ◌∷◌, ◌++◌, length, get_or, drop, map, ap}
+use Rattle.std.proofs.Common.{Global, Vec, vec_items}
 use Rattle.std.proofs.Common.{sym, ◌∙◌, add-one, arith}
 use Rattle.std.specs.List.{flat_map, range_with_len}
 use Rattle.std.proofs.Math.Seq.{drop-cons}
@@ -80,3 +81,12 @@ host_listed {Y} f n before after was added =
     added ∙ ap (λ (made : List Y). made ++ f n ∷ []) was
     ∙ sym (map-append f (range_with_len 0 n) (n ∷ []))
     ∙ ap (map f) (sym (rw add-one (range_push 0 n n (omega arith))))
+
+-- one more host, with a table of its own
+pub table_listed : {X : Type 0} (f : ℕ → List X) (n : ℕ) (table : Vec X Global) (before after : List (Vec X Global)) →
+    map vec_items before ≡ map f (range_with_len 0 n) → after ≡ before ++ table ∷ [] → table.items ≡ f n →
+    map vec_items after ≡ map f (range_with_len 0 (n + 1))
+table_listed {X} f n table before after was added is =
+    host_listed f n (map vec_items before) (map vec_items after) was
+    (ap (map vec_items) added ∙ map-append vec_items before (table ∷ [])
+    ∙ ap (λ (last : List X). map vec_items before ++ last ∷ []) is)

@@ -3,9 +3,8 @@ use Rattle.std.specs.Prelude.{ℕ, ◌+◌, List, [], ◌∷◌, ◌++◌, lengt
 use Rattle.js_base.specs.declared.ids.StmtId.{StmtId}
 use Rattle.jif_tree.specs.Numbering.{block_statements}
 use Rattle.jif_tree.specs.Trees.{BlockTree, done, set_local, set_field, set_element, branch, loop, call, give_back}
-use Rattle.jif_tree.specs.Trees.{MethodTree, ProgramTree, row_tree}
+use Rattle.jif_tree.specs.Trees.{MethodTree, ProgramTree, statement_tree}
 use Rattle.jif_tree.specs.declared.program.StmtKind.{StmtKind}
-use Rattle.jif_tree.specs.declared.program.StmtKind as kind
 
 -- how many statements a block has, with those in the blocks inside it
 abbrev pub size_of : BlockTree → ℕ
@@ -44,9 +43,13 @@ last_in lasts statement = slice_index_or lasts statement.0 statement.0
 
 -- ---- in the program
 
--- of the statements in the blocks of a statement, of which the first has this number
+-- of the statements in the blocks of the first statement of a block, of which the first has this number
+abbrev pub inside_lasts : ℕ → BlockTree → List ℕ
+inside_lasts first (branch heading guard one other rest) =
+    block_lasts first one ++ block_lasts (first + size_of one) other
+inside_lasts first (loop heading guard body rest) = block_lasts first body
+inside_lasts first block = []
+
+-- the same of a statement as the program keeps it
 abbrev pub kind_lasts : ℕ → StmtKind → List ℕ
-kind_lasts first (kind.If' guard m one n other) =
-    block_lasts first (row_tree one) ++ block_lasts (first + size_of (row_tree one)) (row_tree other)
-kind_lasts first (kind.While' guard m body) = block_lasts first (row_tree body)
-kind_lasts first what = []
+kind_lasts first what = inside_lasts first (statement_tree what (record { id = record { 0 = 0 }; line = 0 }) done)

@@ -4,8 +4,8 @@
 -- held. At any other entry it is the token that was held where the entry was named: pushed on this host or on another,
 -- or gone on to. Each entry is named by one instruction, which runs under an entry of a smaller number, so that the
 -- levels of the entries are found one after the other.
-use Rattle.std.specs.Prelude.{ℕ, ◌+◌, List, [], ◌∷◌, ◌++◌, length, Option, Some, None, replicate, slice_get, slice_set}
-use Rattle.std.specs.Prelude.{slice_index_or, unwrap_or}
+use Rattle.std.specs.Prelude.{ℕ, ◌+◌, List, [], ◌∷◌, ◌++◌, length, Option, Some, None, replicate, slice_set}
+use Rattle.std.specs.Prelude.{slice_index_or}
 use Rattle.js_base.specs.declared.ids.EntryId.{EntryId}
 use Rattle.js_base.specs.declared.ids.StmtId.{StmtId}
 use Rattle.host_code.specs.Code.{CodeShape, instruction_at}

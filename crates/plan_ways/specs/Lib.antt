@@ -1,6 +1,8 @@
+pub mod Asks
 pub mod Ends
 pub mod Lasts
 pub mod Levels
+pub mod Marked
 pub mod Readers
 pub mod Relays
 pub mod Stands
@@ -8,3 +10,4 @@ pub mod Tables
 pub mod Tips
 pub mod Ways
 pub mod Whole
+pub mod Worked

@@ -3,9 +3,9 @@
 -- Both are found along the list of each host. Control comes to a place from the one before it, where the instruction
 -- there leads on. Otherwise it comes through a branch before it in the list, or through an entry, the one of the
 -- smallest number where there are several. (Where control comes in several ways, the same token is held in each.)
-use Rattle.std.specs.Prelude.{ℕ, ◌+◌, ◌==◌, suc, zero, Bool, false, true, drop, List, [], ◌∷◌, ◌++◌, length}
+use Rattle.std.specs.Prelude.{ℕ, ◌+◌, ◌==◌, suc, zero, Bool, false, true, drop, List, [], ◌∷◌, length}
 use Rattle.std.specs.Prelude.{Option, Some, None, if◌then◌else◌, replicate, slice_get, slice_set, unwrap_or}
-use Rattle.std.specs.List.{find, flat_map, range_with_len}
+use Rattle.std.specs.List.{flat_map, range_with_len}
 use Rattle.js_base.specs.declared.ids.EntryId.{EntryId}
 use Rattle.js_base.specs.declared.ids.HostId.{HostId}
 use Rattle.js_base.specs.declared.ids.StmtId.{StmtId}
@@ -50,9 +50,14 @@ abbrev pub is_done : Op → Bool
 is_done (op.Push entry) = false
 is_done other = true
 
--- the first instruction from a place on that is no push
+-- the first of these instructions that is no push
+abbrev pub first_of : List Instr → Option Instr
+first_of [] = None
+first_of (instruction ∷ others) = if is_done instruction.op then Some instruction else first_of others
+
+-- the first from a place on
 abbrev pub first_done : List Instr → ℕ → Option Instr
-first_done part at = find (λ instruction. is_done instruction.op) (drop at part)
+first_done part at = first_of (drop at part)
 
 abbrev pub station_of_start : WayEnd → Option Instr → WayEnd
 station_of_start passing None = passing

@@ -1,5 +1,5 @@
 -- The ways of the instructions: from where a value or control stands to where it goes.
-use Rattle.std.specs.Prelude.{ℕ, ◌==◌, Bool, true, false, List, [], ◌++◌, map, vec_items, Option, Some, None}
+use Rattle.std.specs.Prelude.{◌==◌, Bool, true, false, List, [], ◌++◌, map, vec_items, Option, Some, None}
 use Rattle.std.specs.Prelude.{if◌then◌else◌, slice_index_or}
 use Rattle.std.specs.List.{flat_map}
 use Rattle.js_base.specs.declared.ids.EntryId.{EntryId}

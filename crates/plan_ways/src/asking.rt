@@ -7,7 +7,7 @@ ghost use Rattle.plan_ways.specs.Ways.{sheet_shape};
 use crate::ends::{Way, WayEnd, WayKind, WayText, push_kept};
 use crate::levels::{Level, level_at};
 use crate::readers::reader_on;
-use crate::stands::{Place, door_of};
+use crate::stands::{Place, door_of, instruction_there};
 use host_code::{Code, Entry, Instr, Op};
 use js_base::{EntryId, FieldId, HostId, OutOfMemory, StmtId, VarId};
 use need_labels::Plan;
@@ -40,11 +40,12 @@ pub fn ways_at(alloc: Global, sheet: &Sheet<'_>, places: &[Place]) -> Result<Vec
 fn push_place(ways: &mut Vec<Way>, sheet: &Sheet<'_>, place: Place) -> Result<(), OutOfMemory>
     ensures { OnOk result (ways.new.items ≡ ways.old.items ++ rules.place_ways (sheet_shape sheet.now) place) }
 {
-    let Some(instruction) = sheet.code.part(place.host).get(place.at) else {
+    let Some(instruction) = instruction_there(sheet.code, place) else {
         return Ok(());
     };
     push_kept(ways, asked_by(sheet, place, instruction))?;
-    push_given(ways, sheet, place, instruction)
+    push_given(ways, sheet, place, instruction)?;
+    Ok(())
 }
 
 /// What an instruction asks of another host, or of the host of the method that it calls.
@@ -107,13 +108,7 @@ fn set(sheet: &Sheet<'_>, place: Place, statement: StmtId, field: FieldId) -> Wa
 }
 
 /// A variable is sent.
-fn sent(
-    sheet: &Sheet<'_>,
-    place: Place,
-    statement: StmtId,
-    variable: VarId,
-    to: HostId,
-) -> Way
+fn sent(sheet: &Sheet<'_>, place: Place, statement: StmtId, variable: VarId, to: HostId) -> Way
     ensures { result ≡ rules.sent (sheet_shape sheet.now) place statement variable to }
 {
     let end = reader_on(sheet.readers, to, variable);
@@ -126,7 +121,14 @@ fn asked(sheet: &Sheet<'_>, place: Place, statement: StmtId, entry: EntryId, on:
     ensures { result ≡ rules.asked (sheet_shape sheet.now) place statement entry on }
 {
     let end = door_of(sheet.doors, entry, on);
-    going(WayKind::Sync, place, statement, on, end, WayText::Entry(entry))
+    going(
+        WayKind::Sync,
+        place,
+        statement,
+        on,
+        end,
+        WayText::Entry(entry),
+    )
 }
 
 /// Control goes on at an entry.
@@ -141,7 +143,14 @@ fn gone(
     ensures { result ≡ rules.gone (sheet_shape sheet.now) place statement entry on rides }
 {
     let end = door_of(sheet.doors, entry, on);
-    let way = going(WayKind::Go, place, statement, on, end, WayText::Entry(entry));
+    let way = going(
+        WayKind::Go,
+        place,
+        statement,
+        on,
+        end,
+        WayText::Entry(entry),
+    );
     riding(way, rides)
 }
 
@@ -157,7 +166,14 @@ fn called(
     ensures { result ≡ rules.called (sheet_shape sheet.now) place statement entry on rides }
 {
     let end = door_of(sheet.doors, entry, on);
-    let way = going(WayKind::Go, place, statement, on, end, WayText::Method(entry));
+    let way = going(
+        WayKind::Go,
+        place,
+        statement,
+        on,
+        end,
+        WayText::Method(entry),
+    );
     riding(way, rides)
 }
 
@@ -248,7 +264,10 @@ fn result_to(
     let there = sheet.code.entry(entry)?;
     let end = door_of(sheet.doors, entry, there.host);
     let what = WayText::Result(variable);
-    elsewhere(place, going(WayKind::Forward, place, statement, there.host, end, what))
+    elsewhere(
+        place,
+        going(WayKind::Forward, place, statement, there.host, end, what),
+    )
 }
 
 /// Adds the ways of the token that is given back at a place.
@@ -291,12 +310,7 @@ fn push_returns(
 }
 
 /// The way to the end of the program, where `main` ends on another host than the root.
-fn end_of_main(
-    sheet: &Sheet<'_>,
-    place: Place,
-    statement: StmtId,
-    method: EntryId,
-) -> Option<Way>
+fn end_of_main(sheet: &Sheet<'_>, place: Place, statement: StmtId, method: EntryId) -> Option<Way>
     ensures { result ≡ rules.end_of_main (sheet_shape sheet.now) place statement method }
 {
     if method.0 == sheet.code.main().0 {
@@ -307,12 +321,7 @@ fn end_of_main(
 }
 
 /// The way of the token back to an entry, where that stands on another host.
-fn back_elsewhere(
-    sheet: &Sheet<'_>,
-    place: Place,
-    statement: StmtId,
-    entry: EntryId,
-) -> Option<Way>
+fn back_elsewhere(sheet: &Sheet<'_>, place: Place, statement: StmtId, entry: EntryId) -> Option<Way>
     ensures { result ≡ rules.back_elsewhere (sheet_shape sheet.now) place statement entry }
 {
     elsewhere(place, back_to(sheet, place, statement, entry)?)

@@ -4,7 +4,7 @@ ghost use Rattle.std.specs.Prelude.{◌≡◌, ◌≤◌, ◌++◌, ◌∷◌, [
 ghost use Rattle.host_code.specs.declared.code.TheConstants.{MOST_ITEMS};
 ghost use Rattle.plan_ways.specs.Levels as holding;
 
-use crate::stands::{Place, Stand, head_at};
+use crate::stands::{Place, Stand, head_at, instruction_there};
 use crate::tables::note;
 use host_code::{Code, Instr, Op};
 use js_base::{EntryId, OutOfMemory, StmtId};
@@ -32,9 +32,11 @@ pub fn namings_of(
     code: &Code,
     places: &[Place],
 ) -> Result<Vec<Option<Naming>>, OutOfMemory>
-    ensures { IfOk result (λ table. table.items ≡ holding.namings_of code.now places.now) }
+    ensures table { IfOk result (λ table. table.items ≡ holding.namings_of code.now places.now) }
+    ensures few { IfOk result (λ table. length table.items ≤ MOST_ITEMS) }
 {
-    let mut table = vec![in alloc; None; code.entries().len()]?;
+    let entries = code.entries();
+    let mut table = vec![in alloc; None; entries.len()]?;
     for place in places {
         note_naming(&mut table, code, *place);
     }
@@ -45,7 +47,7 @@ pub fn namings_of(
 fn note_naming(table: &mut [Option<Naming>], code: &Code, place: Place)
     ensures { table.new ≡ holding.with_naming code.now table.old place }
 {
-    let Some(instruction) = code.part(place.host).get(place.at) else {
+    let Some(instruction) = instruction_there(code, place) else {
         return;
     };
     let Some(entry) = named_by(&instruction.op) else {
@@ -144,7 +146,7 @@ fn note_call(behind: &mut Vec<Vec<EntryId>>, code: &Code, place: Place) -> Resul
     ensures { OnOk result (map vec_items behind.new.items
         ≡ holding.with_call code.now (map vec_items behind.old.items) place) }
 {
-    let Some(instruction) = code.part(place.host).get(place.at) else {
+    let Some(instruction) = instruction_there(code, place) else {
         return Ok(());
     };
     let Some(method) = called_by(&instruction.op) else {

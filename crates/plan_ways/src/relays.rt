@@ -7,7 +7,7 @@ ghost use Rattle.plan_ways.specs.Relays.{row_shape};
 use crate::ends::{Way, WayEnd};
 use crate::lasts::last_in;
 use crate::levels::{Level, Naming, level_at};
-use crate::stands::{Place, door_of};
+use crate::stands::{Place, door_of, instruction_there};
 use crate::tables::{note, write};
 use host_code::{Code, Entry, Op};
 use js_base::{EntryId, HostId, OutOfMemory, StmtId};
@@ -245,7 +245,7 @@ fn note_back(
 fn given_back(code: &Code, levels: &[Option<Level>], place: Place) -> Option<EntryId>
     ensures { result ≡ rows.given_back code.now levels.now place }
 {
-    let instruction = code.part(place.host).get(place.at)?;
+    let instruction = instruction_there(code, place)?;
     given_by(&instruction.op, level_at(levels, place.stand))
 }
 
@@ -286,12 +286,7 @@ pub fn handed_of(
 }
 
 /// Notes an entry from which the token of another is given back at once.
-fn note_handed(
-    handed: &mut [Option<EntryId>],
-    code: &Code,
-    levels: &[Option<Level>],
-    place: Place,
-)
+fn note_handed(handed: &mut [Option<EntryId>], code: &Code, levels: &[Option<Level>], place: Place)
     ensures { handed.new ≡ rows.with_handed code.now levels.now handed.old place }
 {
     let Some(entry) = given_back(code, levels, place) else {

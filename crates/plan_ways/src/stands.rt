@@ -1,6 +1,7 @@
 //! Where control stands at each place of the code, and which entry was pushed last on the way there.
 
 ghost use Rattle.std.specs.Prelude.{◌≡◌, ◌++◌, IfOk, OnOk, None, option_copied};
+ghost use Rattle.host_code.specs.Code.{instruction_at};
 ghost use Rattle.plan_ways.specs.Stands as stands;
 
 use crate::ends::WayEnd;
@@ -27,6 +28,13 @@ pub struct Place {
     pub host: HostId,
     pub at: usize,
     pub stand: Stand,
+}
+
+/// The instruction at a place.
+pub fn instruction_there(code: &Code, place: Place) -> Option<&Instr>
+    ensures { option_copied result ≡ instruction_at code.now place.host place.at }
+{
+    code.part(place.host).get(place.at)
 }
 
 /// The places of all instructions, by hosts and numbers. `doors` has where control stands at each entry.
@@ -162,7 +170,11 @@ fn passed(here: Stand, op: &Op) -> Option<Stand>
 fn with_pushed(here: Stand, entry: EntryId) -> Stand
     ensures { result ≡ stands.with_pushed here entry }
 {
-    let Stand { station, entrance, .. } = here;
+    let Stand {
+        station,
+        entrance,
+        ..
+    } = here;
     Stand {
         station,
         entrance,
@@ -197,13 +209,7 @@ fn arrivals_of(
 }
 
 /// Notes an entry at its place, where it is one of the host, does not end the program, and none before it is there.
-fn enter(
-    table: &mut [Option<Stand>],
-    doors: &[WayEnd],
-    host: HostId,
-    entry: EntryId,
-    there: Entry,
-)
+fn enter(table: &mut [Option<Stand>], doors: &[WayEnd], host: HostId, entry: EntryId, there: Entry)
     ensures { table.new ≡ stands.entered doors.now host table.old entry.0 there }
 {
     if entry.0 == 0 {
@@ -266,7 +272,13 @@ fn first_done(part: &[Instr], at: usize) -> Option<&Instr>
     if part.len() < at {
         return None;
     }
-    part[at..].iter().find(|instruction| is_done(&instruction.op))
+    let rest = &part[at..];
+    for instruction in rest {
+        if is_done(&instruction.op) {
+            return Some(instruction);
+        }
+    }
+    None
 }
 
 /// Whether an instruction does more than to push an entry on its own host.

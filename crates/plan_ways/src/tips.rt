@@ -1,14 +1,14 @@
 //! What a way stands for, in words.
 
-ghost use Rattle.std.specs.Prelude.{◌≡◌, ◌++◌, OnOk};
+ghost use Rattle.std.specs.Prelude.{◌≡◌, ◌++◌, OnOk, map, slice_get};
 ghost use Rattle.std.specs.String.{string_bytes};
-ghost use Rattle.jif_tree.specs.Trees.{program_tree};
+ghost use Rattle.jif_tree.specs.Trees.{method_tree, program_tree};
 ghost use Rattle.host_code.specs.InstructionText.{variables_text};
 ghost use Rattle.plan_ways.specs.Tips as tips;
 
 use crate::ends::{Way, WayKind, WayText};
 use host_code::{Code, Op, RiderVars, field_name, host_name, var_name};
-use jif_tree::Program;
+use jif_tree::{Method, Program};
 use js_base::{EntryId, HostId, OutOfMemory};
 use std::fmt::Write;
 
@@ -73,13 +73,7 @@ fn link_of(kind: WayKind, what: WayText) -> &'static str
         WayKind::Set => " of ",
         WayKind::Forward => " to ",
         WayKind::Sync => " on ",
-        WayKind::Go => {
-            if is_call(what) {
-                " on "
-            } else {
-                " of "
-            }
-        }
+        WayKind::Go => { if is_call(what) { " on " } else { " of " } }
         WayKind::Back => " back to ",
     }
 }
@@ -138,10 +132,19 @@ fn push_method(text: &mut String, program: &Program, entry: EntryId) -> Result<(
     ensures { OnOk result (string_bytes text.new
         ≡ string_bytes text.old ++ tips.method_text (program_tree program.now) entry) }
 {
-    if entry.0 == 0 {
-        return Ok(());
+    match entry.0 {
+        0 => {}
+        place => push_name(text, &program.methods, place as usize - 1)?,
     }
-    let Some(method) = program.methods.get(entry.0 as usize - 1) else {
+    Ok(())
+}
+
+/// Adds the name of a method, where there is one at the place.
+fn push_name(text: &mut String, methods: &[Method], place: usize) -> Result<(), OutOfMemory>
+    ensures { OnOk result (string_bytes text.new
+        ≡ string_bytes text.old ++ tips.name_of_method (slice_get (map method_tree methods.now) place)) }
+{
+    let Some(method) = methods.get(place) else {
         return Ok(());
     };
     text.push_str(method.name.as_str())?;

@@ -75,12 +75,7 @@ fn known_of(alloc: Global, code: &Code, program: &Program) -> Result<Known, OutO
 }
 
 /// The ways, by what is known.
-fn ways_by(
-    alloc: Global,
-    code: &Code,
-    plan: &Plan,
-    known: &Known,
-) -> Result<Vec<Way>, OutOfMemory>
+fn ways_by(alloc: Global, code: &Code, plan: &Plan, known: &Known) -> Result<Vec<Way>, OutOfMemory>
     ensures { IfOk result (λ found. found.items
         ≡ whole.ways_by code.now plan.now (whole.known_shape known.now)) }
 {
@@ -94,7 +89,8 @@ fn ways_by(
         behind: &behind,
         readers: &readers,
     };
-    ways_at(alloc, &sheet, &known.places)
+    let found = ways_at(alloc, &sheet, &known.places)?;
+    Ok(found)
 }
 
 /// The relays, by what is known and by the ways.
@@ -125,5 +121,6 @@ fn relays_by(
         &known.levels,
         &known.places,
     )?;
-    relays_of(alloc, &sheet, &mut spots)
+    let found = relays_of(alloc, &sheet, &mut spots)?;
+    Ok(found)
 }

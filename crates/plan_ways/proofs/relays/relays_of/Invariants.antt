@@ -1,4 +1,4 @@
-use Rattle.std.proofs.Common.{◌≡◌, ◌++◌, ◌-◌, length}
+use Rattle.std.proofs.Common.{◌≡◌, ◌++◌, ◌-◌}
 use Rattle.plan_ways.specs.Relays.{relays_below, row_shape}
 use Rattle.plan_ways.proofs.relays.relays_of.Given as goal
 
