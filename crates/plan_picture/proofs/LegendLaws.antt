@@ -11,7 +11,8 @@ true_or_false : (b : Bool) → (b ≡ true) ⊎ (b ≡ false)
 true_or_false true = inl refl
 true_or_false false = inr refl
 
-pub kept_passes : {X : Type 0} (p : X → Bool) (xs : List X) (place : ℕ) (x : X) → slice_get (filter p xs) place ≡ Some x →
+pub kept_passes : {X : Type 0} (p : X → Bool) (xs : List X) (place : ℕ) (x : X) →
+    slice_get (filter p xs) place ≡ Some x →
     p x ≡ true
 kept_passes p [] place x there = absurd (let no = there in cc)
 kept_passes p (first ∷ xs) zero x there = elim (true_or_false (p first)) [
