@@ -11,7 +11,8 @@ true_or_false : (b : Bool) → (b ≡ true) ⊎ (b ≡ false)
 true_or_false true = inl refl
 true_or_false false = inr refl
 
-pub kept_passes : (p : Sign → Bool) (xs : List Sign) (place : ℕ) (x : Sign) → slice_get (filter p xs) place ≡ Some x →
+pub kept_passes : {X : Type 0} (p : X → Bool) (xs : List X) (place : ℕ) (x : X) →
+    slice_get (filter p xs) place ≡ Some x →
     p x ≡ true
 kept_passes p [] place x there = absurd (let no = there in cc)
 kept_passes p (first ∷ xs) zero x there = elim (true_or_false (p first)) [
@@ -26,7 +27,7 @@ kept_passes p (first ∷ xs) (suc place) x there = elim (true_or_false (p first)
   | inr fails ↦ kept_passes p xs (suc place) x (rw fails at there)
 ]
 
-pub stays_kept : (p : Sign → Bool) (xs : List Sign) (i : ℕ) (x : Sign) → slice_get xs i ≡ Some x → p x ≡ true →
+pub stays_kept : {X : Type 0} (p : X → Bool) (xs : List X) (i : ℕ) (x : X) → slice_get xs i ≡ Some x → p x ≡ true →
     (place : ℕ) × (slice_get (filter p xs) place ≡ Some x)
 stays_kept p [] i x there passes = absurd (let no = there in cc)
 stays_kept p (first ∷ xs) zero x there passes =

@@ -2,6 +2,7 @@ pub mod LegendLaws
 pub mod Noted
 pub mod Pictures
 pub mod RowLaws
+pub mod RowsThere
 pub mod Sorted
 pub mod StatementRows
 pub mod TextsAt

@@ -4,6 +4,7 @@ use Rattle.std.specs.Prelude.{List, [], ◌∷◌, ◌++◌, codes, Option, Some
 use Rattle.std.specs.Fmt.{decimal}
 use Rattle.js_base.specs.declared.ids.StmtId.{StmtId}
 use Rattle.plan_layout.specs.Places.{PlacesShape}
+use Rattle.plan_ways.specs.declared.relays.RelayRole.TheVariants as role
 use Rattle.statement_texts.specs.Texts.{StatementTextShape}
 use Rattle.plan_picture.specs.Legend.{bracket_text, bracket_tip}
 use Rattle.plan_picture.specs.Rows.{height_of}
@@ -125,3 +126,29 @@ bands_text places right (loop ∷ loops) = loop_band places right loop ++ bands_
 abbrev pub brackets_text : PlacesShape → List Loop → List ℕ
 brackets_text places [] = []
 brackets_text places (loop ∷ loops) = loop_bracket places loop ++ brackets_text places loops
+
+-- ---- a small case
+
+abbrev pub sample_row : Standing → (blocks : ℕ) → Row
+sample_row stands blocks = record {
+  standing = stands;
+  host = record { 0 = 0 };
+  before = 0;
+  width = 0;
+  blocks = blocks;
+}
+
+abbrev pub sample_relay : (entry pushed_by : ℕ) → Standing
+sample_relay entry pushed_by = standing.OfRelay (record {
+  entry = record { 0 = entry };
+  host = record { 0 = 0 };
+  behind = 5;
+  pushed_by = record { 0 = pushed_by };
+  role = role.HandsOn;
+})
+
+-- a statement in a loop that begins at statement 4, two relays of which one is pushed before it, and one behind it
+abbrev pub sample_rows : List Row
+sample_rows =
+    sample_row (standing.OfStatement (record { 0 = 5 })) 2 ∷ sample_row (sample_relay 9 4) 0
+    ∷ sample_row (sample_relay 3 2) 0 ∷ sample_row (standing.OfStatement (record { 0 = 6 })) 1 ∷ []

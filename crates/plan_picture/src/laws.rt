@@ -6,16 +6,19 @@ ghost use Rattle.drawing_text.specs.declared.spans.Span.{Span};
 ghost use Rattle.plan_layout.specs.Places.{places_of};
 ghost use Rattle.plan_layout.specs.Rectangles.{AreApart, across, along, box_of, into};
 ghost use Rattle.plan_layout.specs.Routes.{route_of};
-ghost use Rattle.plan_picture.specs.Legend.{legend_of, occurs};
-ghost use Rattle.plan_picture.specs.Loops.{factor_of};
+ghost use Rattle.plan_picture.specs.Legend.{legend_lines, legend_of, occurs};
+ghost use Rattle.plan_picture.specs.Loops.{factor_of, last_in, sample_rows};
 ghost use Rattle.plan_picture.specs.Lines.{line_of, row_numbers, row_of};
 ghost use Rattle.plan_picture.specs.Paths.{sample_route, stroke_of};
 ghost use Rattle.plan_picture.specs.Picture.{columns_of};
-ghost use Rattle.plan_picture.specs.Rows.{rows_of, spans_of};
+ghost use Rattle.plan_picture.specs.Rows.{field_row, relay_row, rows_of, spans_of, statement_row};
 ghost use Rattle.plan_picture.specs.Sheets.{SheetShape};
 ghost use Rattle.plan_picture.specs.Shown.{is_shown};
 ghost use Rattle.plan_picture.specs.declared.legend.Sign.{Sign};
 ghost use Rattle.plan_picture.specs.declared.rows.Row.{Row};
+ghost use Rattle.host_code.specs.Code.{CodeFieldShape};
+ghost use Rattle.statement_texts.specs.Texts.{StatementTextShape};
+ghost use Rattle.plan_ways.specs.declared.relays.Relay.{Relay};
 ghost use Rattle.plan_ways.specs.declared.ends.Way.{Way};
 ghost use Rattle.plan_ways.specs.declared.ends.WayEnd.{WayEnd};
 
@@ -33,6 +36,17 @@ pub fn plan_laws()
     ensures columns_apart { (sheet : SheetShape) (i j : ℕ) → i < j → j < length sheet.code.hosts →
         slice_index (columns_of sheet).places.starts i + slice_index (columns_of sheet).widths i + 28
         ≤ slice_index (columns_of sheet).places.starts j }
+
+    // Each field has a row in the order of its number, and each statement and each relay has one behind these.
+    ensures fields { (sheet : SheetShape) (number : ℕ) (field : CodeFieldShape) →
+        slice_get sheet.code.fields number ≡ Some field →
+        slice_get (rows_of sheet) number ≡ Some (field_row sheet number) }
+    ensures statements { (sheet : SheetShape) (number : ℕ) (text : StatementTextShape) →
+        slice_get sheet.texts number ≡ Some text →
+        (place : ℕ) × (slice_get (rows_of sheet) place ≡ Some (statement_row sheet number text)) }
+    ensures relays { (sheet : SheetShape) (relay : Relay) (number : ℕ) →
+        slice_get sheet.relays number ≡ Some relay → relay.behind < length sheet.texts →
+        (place : ℕ) × (slice_get (rows_of sheet) place ≡ Some (relay_row relay)) }
 
     // Where a way begins or ends is a row that shows it, or the row of the heads.
     ensures stands { (sheet : SheetShape) (end : WayEnd) → 0 < row_of (row_numbers sheet) end →
@@ -69,8 +83,14 @@ pub fn plan_laws()
       ends_right = false;
     } }
 
-    // Worked: a loop in two others counts what is in it 512 times.
+    // Worked: the last row of a loop is that of a relay whose entry is pushed in it, and not that of one whose entry is
+    // pushed before it. A loop in two others counts what is in it 512 times.
+    ensures worked_loop { last_in 1 4 (record { number = 10; height = 34 }) 11 sample_rows
+        ≡ record { number = 12; height = 22 } }
     ensures worked_factor { factor_of 2 ≡ 512 }
+
+    // Worked: in a picture that is 800 wide a legend of five signs has three lines.
+    ensures worked_legend { legend_lines 800 5 ≡ 3 }
 {
     layout_laws();
 }

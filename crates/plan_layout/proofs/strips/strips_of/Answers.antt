@@ -8,7 +8,8 @@ pub loop-number-preserved : goal.loop-number-preserved
 loop-number-preserved c =
     let n = c.loop-number.number in
     let lines = c.args.lines.now in
-    mapped_more strip_shape c.loop-number.found.items _ c.in_ok-strip_of.field-0 (strip_of lines n) (strips_of lines n) _
+    mapped_more strip_shape c.loop-number.found.items _ c.in_ok-strip_of.field-0 (strip_of lines n) (strips_of lines n)
+    _
     c.loop-number.invariant c.in_ok-strip_of.ensures
     c.in_ok-push.ensures.items
     (map-range_with_len_more (strip_of lines) 0 n n (omega arith))

@@ -9,6 +9,7 @@ use Rattle.plan_picture.specs.Rows.{rows_of, spans_of}
 use Rattle.plan_picture.proofs.LegendLaws.{kept_passes, sign_there, stays_kept}
 use Rattle.plan_picture.proofs.Noted.{shown_there}
 use Rattle.plan_picture.proofs.RowLaws.{all_free, as_many_widths, way_fits}
+use Rattle.plan_picture.proofs.RowsThere.{own_field, own_relay, own_statement}
 use Rattle.plan_picture.proofs.laws.plan_laws.Goals as goal
 
 pub returns-clause-rows_apart : goal.returns-clause-rows_apart
@@ -62,3 +63,18 @@ returns-clause-worked_back c = refl
 
 pub returns-clause-worked_factor : goal.returns-clause-worked_factor
 returns-clause-worked_factor c = refl
+
+pub returns-clause-fields : goal.returns-clause-fields
+returns-clause-fields c = own_field
+
+pub returns-clause-statements : goal.returns-clause-statements
+returns-clause-statements c = own_statement
+
+pub returns-clause-relays : goal.returns-clause-relays
+returns-clause-relays c = own_relay
+
+pub returns-clause-worked_loop : goal.returns-clause-worked_loop
+returns-clause-worked_loop c = refl
+
+pub returns-clause-worked_legend : goal.returns-clause-worked_legend
+returns-clause-worked_legend c = refl
