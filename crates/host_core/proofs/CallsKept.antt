@@ -11,7 +11,7 @@ use Rattle.entry_check.specs.Checks.{ChecksShape, AreChecksOf}
 use Rattle.host_core.specs.declared.host.HostError.{HostError}
 use Rattle.host_core.specs.declared.host.HostError.TheVariants.{Stopped}
 use Rattle.host_core.specs.Calls.{CountsCall, KeepsHost}
-use Rattle.host_core.specs.Host.{HostShape, HostModel, Outcome, IsSameHost, IsStopped, state_of}
+use Rattle.host_core.specs.Host.{HostShape, HostModel, Outcome, IsSameHost, StepsBy, IsStopped, state_of}
 use Rattle.host_core.specs.Taking.{IsTaking}
 use Rattle.host_core.specs.Turn.{IsTurn}
 use Rattle.host_core.specs.Fits.{HostFits, OutcomeFits, SentFits, TokensFit}
@@ -42,13 +42,13 @@ step_kept code before begun after sent fits state checks same kept = (
 
 pub deliver_kept : (code : CodeShape) (before begun after : HostModel) (from : HostId) (letter : Message)
     (sent : Option (HostId × Message)) → IsSoundCode code → HostFits code before → IsOther code before.me from
-    → TokensFit code letter → state_of begun ≡ state_of before → begun.checks ≡ before.checks → IsSameHost begun after
-    → IsTaking code (state_of begun) from letter (record { state = state_of after; sent = sent })
+    → TokensFit code letter → state_of begun ≡ state_of before → begun.checks ≡ before.checks
+    → StepsBy begun after sent (IsTaking code (state_of begun) from letter)
     → HostFits code after × SentFits code before.me sent
-deliver_kept code before begun after from letter sent sound fits other tokens state checks same step =
+deliver_kept code before begun after from letter sent sound fits other tokens state checks made =
     let outcome : Outcome = record { state = state_of after; sent = sent } in
-    let taking = subst (λ (h : HostShape). IsTaking code h from letter outcome) state step in
-    step_kept code before begun after sent fits state checks same
+    let taking = subst (λ (h : HostShape). IsTaking code h from letter outcome) state made.step in
+    step_kept code before begun after sent fits state checks made.same
     (taking_kept code (state_of before) from letter outcome sound fits.state other tokens taking)
 
 pub turn_call_kept : (code : CodeShape) (before begun after : HostModel) (sent : Option (HostId × Message))

@@ -213,6 +213,21 @@ pub record IsSameHost (before after : HostModel) : Type 0 where
   pub calls : after.calls ≡ before.calls
   pub stopped : after.stopped ≡ before.stopped
 
+-- what no step touches is the same, and this is the state of the host
+pub record Becomes (old new : HostModel) (state : HostShape) : Type 0 where
+  pub same : IsSameHost old new
+  pub state_is : state_of new ≡ state
+
+-- what no step touches is the same, and this is the state of the host with what it sends
+pub record StepsTo (old new : HostModel) (sent : Option (HostId × Message)) (outcome : Outcome) : Type 0 where
+  pub same : IsSameHost old new
+  pub outcome_is : outcome ≡ record { state = state_of new; sent = sent }
+
+-- what no step touches is the same, and the state of the host with what it sends is what such a step leaves
+pub record StepsBy (old new : HostModel) (sent : Option (HostId × Message)) (IsStep : Outcome → Type 0) : Type 0 where
+  pub same : IsSameHost old new
+  pub step : IsStep (record { state = state_of new; sent = sent })
+
 -- A call was counted, and there is room for one more of each thing, and for as many variables as may ride. So no other
 -- count comes to its end.
 pub record IsReady (host : HostModel) : Type 0 where

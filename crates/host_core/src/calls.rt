@@ -6,11 +6,12 @@ ghost use Rattle.host_code.specs.Sound.{IsHost, IsOther, IsSoundCode};
 ghost use Rattle.entry_check.specs.Checks.{AreChecksOf};
 ghost use Rattle.host_core.specs.Calls.{KeepsHost};
 ghost use Rattle.host_core.specs.Fits.{HostFits, SentFits, TokensFit};
-ghost use Rattle.host_core.specs.Host.{state_of, IsReady, IsSameHost, with_running};
+ghost use Rattle.host_core.specs.Host.{state_of, IsReady, Becomes, StepsBy, with_running};
 ghost use Rattle.host_core.specs.Taking.{IsTaking};
 ghost use Rattle.host_core.specs.Turn.{IsTurn, IsRunning, IsOperation, PushesWithin};
 
 use crate::host::{Host, HostError, Sent};
+use crate::subjects::{Element, Handover, Variable};
 use crate::thread::Thread;
 use host_code::{Code, Message, Op};
 use js_base::limits::HOSTS;
@@ -132,42 +133,41 @@ impl Host {
         requires checks { AreChecksOf code.now self.old.me self.old.checks }
         requires from { from.0 < HOSTS }
         requires serials { length self.old.stack.serials ≡ length code.now.entries }
-        ensures ok { OnOk result (IsTaking code.now (state_of self.old) from message.now
-            (record { state = state_of self.new; sent = sent.new })) }
-        ensures err { OnErr result (state_of self.new ≡ state_of self.old) }
+        ensures ok { OnOk result (StepsBy self.old self.new sent.new
+            (IsTaking code.now (state_of self.old) from message.now)) }
+        ensures err { OnErr result (Becomes self.old self.new (state_of self.old)) }
         ensures unsent { OnErr result (sent.new ≡ sent.old) }
-        ensures same { IsSameHost self.old self.new }
     {
         *sent = match *message {
             Message::Get {
                 request,
                 field,
                 index,
-            } => self.take_get(code, from, request, field, index),
+            } => self.take_get(code, from, request, Element { field, index }),
             Message::Set {
                 request,
                 field,
                 index,
                 value,
-            } => self.take_set(code, from, request, field, index, value),
+            } => self.take_set(code, from, request, Element { field, index }, value),
             Message::Forward {
                 request,
                 frame,
                 var,
                 value,
-            } => self.take_forward(code, from, request, frame, var, value),
+            } => self.take_forward(code, from, request, Variable { frame, var }, value),
             Message::Sync {
                 request,
                 frame,
                 entry,
                 token,
-            } => self.take_sync(code, from, request, frame, entry, token),
+            } => self.take_sync(code, from, request, Handover::new(frame, entry, token)),
             Message::Rgoto {
                 frame,
                 entry,
                 token,
             } => {
-                self.take_rgoto(code, from, frame, entry, token);
+                self.take_rgoto(code, from, Handover::new(frame, entry, token));
                 None
             }
             Message::RgotoWith {
@@ -176,7 +176,7 @@ impl Host {
                 token,
                 ref pairs,
             } => {
-                self.take_rgoto_with(code, from, frame, entry, token, pairs);
+                self.take_rgoto_with(code, from, Handover::new(frame, entry, token), pairs);
                 None
             }
             Message::Lgoto { token } => {
@@ -205,12 +205,10 @@ impl Host {
         requires serials { length self.old.stack.serials ≡ length code.now.entries }
         requires sound { IsSoundCode code.now }
         requires me { IsHost code.now self.old.me }
-        ensures ok { OnOk result
-            (IsRunning code.now (state_of self.old) thread (instruction_at code.now self.old.me thread.at)
-            (record { state = state_of self.new; sent = sent.new })) }
-        ensures err { OnErr result (state_of self.new ≡ with_running (state_of self.old) (Some thread)) }
+        ensures ok { OnOk result (StepsBy self.old self.new sent.new
+            (IsRunning code.now (state_of self.old) thread (instruction_at code.now self.old.me thread.at))) }
+        ensures err { OnErr result (Becomes self.old self.new (with_running (state_of self.old) (Some thread))) }
         ensures unsent { OnErr result (sent.new ≡ sent.old) }
-        ensures same { IsSameHost self.old self.new }
     {
         match code.instruction(self.me, thread.at()) {
             Some(instruction) => self.run_operation(code, thread, &instruction.op, sent),
@@ -233,11 +231,10 @@ impl Host {
         requires ready { IsReady self.old }
         requires next { thread.at + 1 < 2 ^ 32 }
         requires entry { PushesWithin (length self.old.stack.serials) op.now }
-        ensures ok { OnOk result (IsOperation code.now (state_of self.old) thread op.now
-            (record { state = state_of self.new; sent = sent.new })) }
-        ensures err { OnErr result (state_of self.new ≡ with_running (state_of self.old) (Some thread)) }
+        ensures ok { OnOk result (StepsBy self.old self.new sent.new
+            (IsOperation code.now (state_of self.old) thread op.now)) }
+        ensures err { OnErr result (Becomes self.old self.new (with_running (state_of self.old) (Some thread))) }
         ensures unsent { OnErr result (sent.new ≡ sent.old) }
-        ensures same { IsSameHost self.old self.new }
     {
         let frame = thread.frame();
         let new_frame = thread.new_frame();

@@ -6,7 +6,7 @@ ghost use Rattle.std.specs.Prelude.{if◌then◌else◌};
 ghost use Rattle.ics_stack.specs.Stack.{top_token};
 ghost use Rattle.host_code.specs.Code.{entry_at};
 ghost use Rattle.host_core.specs.Awaiting.{awaited_shape};
-ghost use Rattle.host_core.specs.Host.{state_of, IsReady, IsSameHost, with_row_written, new_token};
+ghost use Rattle.host_core.specs.Host.{state_of, IsReady, Becomes, with_row_written, new_token};
 ghost use Rattle.host_core.specs.Host.{with_variable_set, with_variables_set};
 ghost use Rattle.host_core.specs.Host.{after_push, after_pop, after_popped, after_entering, after_asking, next_request};
 ghost use Rattle.host_core.specs.Host.{with_one_ignored};
@@ -23,8 +23,7 @@ pub const HALT: EntryId = EntryId(0);
 impl Host {
     /// The element of a field becomes a value, where the field is on this host and the index is in range.
     pub(crate) fn write_element(&mut self, field: FieldId, index: i64, value: i64)
-        ensures state { state_of self.new ≡ with_row_written (state_of self.old) field index value }
-        ensures same { IsSameHost self.old self.new }
+        ensures { Becomes self.old self.new (with_row_written (state_of self.old) field index value) }
     {
         self.stores.set_field(field, index, value);
     }
@@ -32,9 +31,8 @@ impl Host {
     /// A variable of a frame becomes a value.
     pub(crate) fn set_variable(&mut self, frame: FrameId, var: VarId, value: i64)
         requires { 0 < self.old.stores.spare }
-        ensures state { state_of self.new ≡ with_variable_set (state_of self.old) frame var value }
+        ensures becomes { Becomes self.old self.new (with_variable_set (state_of self.old) frame var value) }
         ensures spare { self.old.stores.spare ≤ self.new.stores.spare + 1 }
-        ensures same { IsSameHost self.old self.new }
     {
         self.stores.set_var(frame, var, value);
     }
@@ -42,8 +40,7 @@ impl Host {
     /// Each variable of a frame becomes the value that rode for it, in order.
     pub(crate) fn set_variables(&mut self, frame: FrameId, riders: &[(VarId, i64)])
         requires { length riders.now ≤ self.old.stores.spare }
-        ensures state { state_of self.new ≡ with_variables_set (state_of self.old) frame riders.now }
-        ensures same { IsSameHost self.old self.new }
+        ensures { Becomes self.old self.new (with_variables_set (state_of self.old) frame riders.now) }
     {
         for (var, value) in riders {
             self.set_variable(frame, *var, *value);
@@ -56,17 +53,15 @@ impl Host {
         requires room { 0 < self.old.stack.room }
         requires entry { entry.0 < length self.old.stack.serials }
         ensures token { result ≡ new_token (state_of self.old) entry frame }
-        ensures state { state_of self.new ≡ after_push (state_of self.old) entry frame held }
-        ensures same { IsSameHost self.old self.new }
+        ensures becomes { Becomes self.old self.new (after_push (state_of self.old) entry frame held) }
     {
         self.stack.push(entry, frame, held)
     }
 
     /// A thread starts at an entry in a frame, and holds this token. It is abandoned where the code lacks the entry.
     pub(crate) fn enter(&mut self, code: &Code, entry: EntryId, frame: FrameId, held: Held)
-        ensures state { state_of self.new
-            ≡ after_entering (state_of self.old) (entry_at code.now entry) frame held }
-        ensures same { IsSameHost self.old self.new }
+        ensures { Becomes self.old self.new
+            (after_entering (state_of self.old) (entry_at code.now entry) frame held) }
     {
         match code.entry(entry) {
             Some(there) => self.running = Some(Thread::new(self.alloc, there.at, frame, held)),
@@ -79,8 +74,7 @@ impl Host {
 
     /// The thread of an entry that was taken off the control stack starts, or the program has ended.
     fn enter_popped(&mut self, code: &Code, entry: EntryId, frame: FrameId, held: Held)
-        ensures state { state_of self.new ≡ after_popped code.now (state_of self.old) entry frame held }
-        ensures same { IsSameHost self.old self.new }
+        ensures { Becomes self.old self.new (after_popped code.now (state_of self.old) entry frame held) }
     {
         if entry.0 == HALT.0 {
             held.abandon();
@@ -96,11 +90,10 @@ impl Host {
     pub(crate) fn pop_or_ignore(&mut self, code: &Code, token: Token) -> bool
         requires { IsReady self.old }
         ensures on_top { IsTrue result ↔ (top_token self.old.stack.entries ≡ Some token) }
-        ensures state { state_of self.new
-            ≡ (if result
+        ensures becomes { Becomes self.old self.new
+            (if result
             then after_pop code.now (state_of self.old) self.old.stack.entries
             else with_one_ignored (state_of self.old)) }
-        ensures same { IsSameHost self.old self.new }
     {
         match self.stack.take(token) {
             Ok(pending) => {
@@ -128,9 +121,8 @@ impl Host {
     ) -> RequestId
         requires { IsReady self.old }
         ensures request { result ≡ next_request (state_of self.old) at }
-        ensures state { state_of self.new
-            ≡ after_asking (state_of self.old) at thread (awaited_shape awaited) asked }
-        ensures same { IsSameHost self.old self.new }
+        ensures becomes { Becomes self.old self.new
+            (after_asking (state_of self.old) at thread (awaited_shape awaited) asked) }
     {
         let place = at as usize;
         let count = self.requests.get(place).copied().unwrap_or(0);

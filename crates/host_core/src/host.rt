@@ -4,7 +4,7 @@ ghost use Rattle.std.specs.Prelude.{◌≡◌, ◌<◌, ◌≤◌, ◌↔◌, On
 ghost use Rattle.std.specs.Prelude.{◌+◌};
 ghost use Rattle.jif_tree.specs.Store.{row_of, element_at};
 ghost use Rattle.std.specs.Option.{option_map};
-ghost use Rattle.host_core.specs.Host.{value_in_running, state_of, IsStopped, IsReady, IsSameHost, with_one_ignored};
+ghost use Rattle.host_core.specs.Host.{value_in_running, state_of, IsStopped, IsReady, Becomes, with_one_ignored};
 
 use crate::thread::{Thread, Waiting};
 use capability::KEY_BYTES;
@@ -208,8 +208,7 @@ impl Host {
     /// A request or a token is ignored.
     pub(crate) fn ignore(&mut self)
         requires { IsReady self.old }
-        ensures state { state_of self.new ≡ with_one_ignored (state_of self.old) }
-        ensures same { IsSameHost self.old self.new }
+        ensures { Becomes self.old self.new (with_one_ignored (state_of self.old)) }
     {
         self.ignored += 1;
     }

@@ -15,6 +15,7 @@
 //! - `told`: a host that is played from its journal, and is told whether a token was the right one
 //! - `changes`, `thread`, `values`: the changes of which rows are made, a thread with its token, the value of an
 //!   expression
+//! - `subjects`: what a request is about
 #![tactic(auto)]
 
 mod calls;
@@ -22,6 +23,7 @@ mod changes;
 mod host;
 mod laws;
 mod starts;
+mod subjects;
 mod take_answers;
 mod take_requests;
 mod thread;

@@ -1,10 +1,10 @@
 //! A host before the first event.
 
-ghost use Rattle.std.specs.Prelude.{◌≡◌, ◌≤◌, IfOk, OnOk, All, length, false, replicate};
+ghost use Rattle.std.specs.Prelude.{◌≡◌, ◌≤◌, IfOk, OnOk, OnErr, All, length, false, replicate};
 ghost use Rattle.entry_check.specs.Checks.{AreChecksOf};
 ghost use Rattle.host_code.specs.Sound.{IsHost};
 ghost use Rattle.host_core.specs.Fits.{HostFits};
-ghost use Rattle.host_core.specs.Host.{state_of, IsSameHost};
+ghost use Rattle.host_core.specs.Host.{state_of, Becomes};
 ghost use Rattle.host_core.specs.Start.{host_at_start, idle_host, root_host, last_token};
 
 use crate::changes::HALT;
@@ -82,8 +82,8 @@ impl Host {
     fn begin_program(&mut self, code: &Code) -> Result<(), OutOfMemory>
         requires pushes { self.old.stack.pushes ≤ self.old.calls }
         requires serials { length self.old.stack.serials ≡ length code.now.entries }
-        ensures state { OnOk result (state_of self.new ≡ root_host code.now (state_of self.old)) }
-        ensures same { IsSameHost self.old self.new }
+        ensures ok { OnOk result (Becomes self.old self.new (root_host code.now (state_of self.old))) }
+        ensures err { OnErr result (Becomes self.old self.new (state_of self.old)) }
     {
         let main = code.main();
         self.stack.reserve()?;

@@ -5,7 +5,7 @@ ghost use Rattle.std.specs.Prelude.{Some};
 ghost use Rattle.std.specs.Option.{option_map};
 ghost use Rattle.std.specs.Vec.{vec_len};
 ghost use Rattle.host_core.specs.Awaiting.{awaits, awaited_shape};
-ghost use Rattle.host_core.specs.Host.{state_of, IsReady, IsSameHost, with_temporary, with_token};
+ghost use Rattle.host_core.specs.Host.{state_of, IsReady, Becomes, StepsBy, with_temporary, with_token};
 ghost use Rattle.host_core.specs.Taking.{IsTaking, after_answer};
 
 use crate::host::Host;
@@ -24,10 +24,9 @@ impl Host {
         value: i64,
     ) -> Result<(), OutOfMemory>
         requires ready { IsReady self.old }
-        ensures ok { OnOk result (IsTaking code.now (state_of self.old) from (Message.Value request value)
-            (record { state = state_of self.new; sent = None })) }
-        ensures err { OnErr result (state_of self.new ≡ state_of self.old) }
-        ensures same { IsSameHost self.old self.new }
+        ensures ok { OnOk result (StepsBy self.old self.new None
+            (IsTaking code.now (state_of self.old) from (Message.Value request value))) }
+        ensures err { OnErr result (Becomes self.old self.new (state_of self.old)) }
     {
         let Some(place) = place_of(&self.waiting, Awaited::Value, request, from) else {
             self.ignore();
@@ -41,9 +40,8 @@ impl Host {
     /// The answer to a set or a forward.
     pub(crate) fn take_ack(&mut self, code: &Code, from: HostId, request: RequestId)
         requires ready { IsReady self.old }
-        ensures state { IsTaking code.now (state_of self.old) from (Message.Ack request)
-            (record { state = state_of self.new; sent = None }) }
-        ensures same { IsSameHost self.old self.new }
+        ensures { StepsBy self.old self.new None
+            (IsTaking code.now (state_of self.old) from (Message.Ack request)) }
     {
         match place_of(&self.waiting, Awaited::Ack, request, from) {
             Some(place) => self.wake(place),
@@ -54,9 +52,8 @@ impl Host {
     /// The answer to a sync.
     pub(crate) fn take_token(&mut self, code: &Code, from: HostId, request: RequestId, token: Token)
         requires ready { IsReady self.old }
-        ensures state { IsTaking code.now (state_of self.old) from (Message.Token request token)
-            (record { state = state_of self.new; sent = None }) }
-        ensures same { IsSameHost self.old self.new }
+        ensures { StepsBy self.old self.new None
+            (IsTaking code.now (state_of self.old) from (Message.Token request token)) }
     {
         match place_of(&self.waiting, Awaited::Token, request, from) {
             Some(place) => self.wake_with_token(place, token),
@@ -67,8 +64,7 @@ impl Host {
     /// The thread that waits at a place runs again.
     fn wake(&mut self, place: usize)
         requires { place < length self.old.waiting }
-        ensures state { state_of self.new ≡ after_answer (state_of self.old) (Some place) (λ thread. thread) }
-        ensures same { IsSameHost self.old self.new }
+        ensures { Becomes self.old self.new (after_answer (state_of self.old) (Some place) (λ thread. thread)) }
     {
         let waiting = self.waiting.remove(place);
         self.running = Some(waiting.into_thread());
@@ -77,9 +73,8 @@ impl Host {
     /// The thread that waits at a place runs again, and holds the token.
     fn wake_with_token(&mut self, place: usize, token: Token)
         requires { place < length self.old.waiting }
-        ensures state { state_of self.new
-            ≡ after_answer (state_of self.old) (Some place) (with_token (Some token)) }
-        ensures same { IsSameHost self.old self.new }
+        ensures { Becomes self.old self.new
+            (after_answer (state_of self.old) (Some place) (with_token (Some token))) }
     {
         let waiting = self.waiting.remove(place);
         let mut thread = waiting.into_thread();

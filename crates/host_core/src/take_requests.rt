@@ -3,15 +3,16 @@
 ghost use Rattle.std.specs.Prelude.{◌≡◌, ◌<◌, ◌↔◌, length, IsTrue, None};
 ghost use Rattle.host_code.specs.Riders.{names_of};
 ghost use Rattle.entry_check.specs.Checks.{AreChecksOf, MayRide};
-ghost use Rattle.host_core.specs.Host.{state_of, IsReady, IsSameHost};
+ghost use Rattle.host_core.specs.Host.{state_of, IsReady, StepsBy};
 ghost use Rattle.host_core.specs.Taking.{IsTaking};
 
 use crate::host::{Host, Sent};
+use crate::subjects::{Element, Handover, Variable};
 use capability::{Held, Token};
 use entry_check::Ask;
 use host_code::{Code, Message, Riders};
 use js_base::limits::HOSTS;
-use js_base::{EntryId, FieldId, FrameId, HostId, RequestId, VarId};
+use js_base::{HostId, RequestId, VarId};
 
 impl Host {
     /// The element of a field is asked for.
@@ -20,21 +21,19 @@ impl Host {
         code: &Code,
         from: HostId,
         request: RequestId,
-        field: FieldId,
-        index: i64,
+        element: Element,
     ) -> Sent
         requires ready { IsReady self.old }
         requires checks { AreChecksOf code.now self.old.me self.old.checks }
         requires from { from.0 < HOSTS }
-        ensures state { IsTaking code.now (state_of self.old) from (Message.Get request field index)
-            (record { state = state_of self.new; sent = result }) }
-        ensures same { IsSameHost self.old self.new }
+        ensures { StepsBy self.old self.new result (IsTaking code.now (state_of self.old) from
+            (Message.Get request element.field element.index)) }
     {
-        if !self.checks.may(Ask::Get(field), from) {
+        if !self.checks.may(Ask::Get(element.field), from) {
             self.ignore();
             return None;
         }
-        let value = self.stores.field(field, index);
+        let value = self.stores.field(element.field, element.index);
         Some((from, Message::Value { request, value }))
     }
 
@@ -44,22 +43,20 @@ impl Host {
         code: &Code,
         from: HostId,
         request: RequestId,
-        field: FieldId,
-        index: i64,
+        element: Element,
         value: i64,
     ) -> Sent
         requires ready { IsReady self.old }
         requires checks { AreChecksOf code.now self.old.me self.old.checks }
         requires from { from.0 < HOSTS }
-        ensures state { IsTaking code.now (state_of self.old) from (Message.Set request field index value)
-            (record { state = state_of self.new; sent = result }) }
-        ensures same { IsSameHost self.old self.new }
+        ensures { StepsBy self.old self.new result (IsTaking code.now (state_of self.old) from
+            (Message.Set request element.field element.index value)) }
     {
-        if !self.checks.may(Ask::Set(field), from) {
+        if !self.checks.may(Ask::Set(element.field), from) {
             self.ignore();
             return None;
         }
-        self.write_element(field, index, value);
+        self.write_element(element.field, element.index, value);
         Some((from, Message::Ack { request }))
     }
 
@@ -69,22 +66,20 @@ impl Host {
         code: &Code,
         from: HostId,
         request: RequestId,
-        frame: FrameId,
-        var: VarId,
+        variable: Variable,
         value: i64,
     ) -> Sent
         requires ready { IsReady self.old }
         requires checks { AreChecksOf code.now self.old.me self.old.checks }
         requires from { from.0 < HOSTS }
-        ensures state { IsTaking code.now (state_of self.old) from (Message.Forward request frame var value)
-            (record { state = state_of self.new; sent = result }) }
-        ensures same { IsSameHost self.old self.new }
+        ensures { StepsBy self.old self.new result (IsTaking code.now (state_of self.old) from
+            (Message.Forward request variable.frame variable.var value)) }
     {
-        if !self.checks.may(Ask::Forward(var), from) {
+        if !self.checks.may(Ask::Forward(variable.var), from) {
             self.ignore();
             return None;
         }
-        self.set_variable(frame, var, value);
+        self.set_variable(variable.frame, variable.var, value);
         Some((from, Message::Ack { request }))
     }
 
@@ -94,44 +89,38 @@ impl Host {
         code: &Code,
         from: HostId,
         request: RequestId,
-        frame: FrameId,
-        entry: EntryId,
-        token: Token,
+        handover: Handover,
     ) -> Sent
         requires ready { IsReady self.old }
         requires checks { AreChecksOf code.now self.old.me self.old.checks }
         requires from { from.0 < HOSTS }
         requires serials { length self.old.stack.serials ≡ length code.now.entries }
-        ensures state { IsTaking code.now (state_of self.old) from (Message.Sync request frame entry token)
-            (record { state = state_of self.new; sent = result }) }
-        ensures same { IsSameHost self.old self.new }
+        ensures { StepsBy self.old self.new result (IsTaking code.now (state_of self.old) from
+            (Message.Sync request handover.frame handover.entry handover.token)) }
     {
-        if !self.checks.may(Ask::Enter(entry), from) {
+        if !self.checks.may(Ask::Enter(handover.entry), from) {
             self.ignore();
             return None;
         }
-        let token = self.push_entry(entry, frame, Held::of(token));
+        let token = self.push_entry(handover.entry, handover.frame, Held::of(handover.token));
         Some((from, Message::Token { request, token }))
     }
 
     /// A thread is to start at an entry in a frame, and holds the token.
-    pub(crate) fn take_rgoto(
-        &mut self,
-        code: &Code,
-        from: HostId,
-        frame: FrameId,
-        entry: EntryId,
-        token: Token,
-    )
+    pub(crate) fn take_rgoto(&mut self, code: &Code, from: HostId, handover: Handover)
         requires ready { IsReady self.old }
         requires checks { AreChecksOf code.now self.old.me self.old.checks }
         requires from { from.0 < HOSTS }
-        ensures state { IsTaking code.now (state_of self.old) from (Message.Rgoto frame entry token)
-            (record { state = state_of self.new; sent = None }) }
-        ensures same { IsSameHost self.old self.new }
+        ensures { StepsBy self.old self.new None (IsTaking code.now (state_of self.old) from
+            (Message.Rgoto handover.frame handover.entry handover.token)) }
     {
-        if self.checks.may(Ask::Enter(entry), from) {
-            self.enter(code, entry, frame, Held::of(token));
+        if self.checks.may(Ask::Enter(handover.entry), from) {
+            self.enter(
+                code,
+                handover.entry,
+                handover.frame,
+                Held::of(handover.token),
+            );
         } else {
             self.ignore();
         }
@@ -143,23 +132,24 @@ impl Host {
         &mut self,
         code: &Code,
         from: HostId,
-        frame: FrameId,
-        entry: EntryId,
-        token: Token,
+        handover: Handover,
         riders: &Riders,
     )
         requires ready { IsReady self.old }
         requires checks { AreChecksOf code.now self.old.me self.old.checks }
         requires from { from.0 < HOSTS }
-        ensures state { IsTaking code.now (state_of self.old) from
-            (Message.RgotoWith frame entry token riders.now)
-            (record { state = state_of self.new; sent = None }) }
-        ensures same { IsSameHost self.old self.new }
+        ensures { StepsBy self.old self.new None (IsTaking code.now (state_of self.old) from
+            (Message.RgotoWith handover.frame handover.entry handover.token riders.now)) }
     {
         let pairs = riders.pairs();
-        if self.checks.may(Ask::Enter(entry), from) && self.may_ride(code, from, pairs) {
-            self.set_variables(frame, pairs);
-            self.enter(code, entry, frame, Held::of(token));
+        if self.checks.may(Ask::Enter(handover.entry), from) && self.may_ride(code, from, pairs) {
+            self.set_variables(handover.frame, pairs);
+            self.enter(
+                code,
+                handover.entry,
+                handover.frame,
+                Held::of(handover.token),
+            );
         } else {
             self.ignore();
         }
@@ -182,9 +172,8 @@ impl Host {
     /// The thread of the entry that the token takes off is to start.
     pub(crate) fn take_lgoto(&mut self, code: &Code, from: HostId, token: Token)
         requires ready { IsReady self.old }
-        ensures state { IsTaking code.now (state_of self.old) from (Message.Lgoto token)
-            (record { state = state_of self.new; sent = None }) }
-        ensures same { IsSameHost self.old self.new }
+        ensures { StepsBy self.old self.new None
+            (IsTaking code.now (state_of self.old) from (Message.Lgoto token)) }
     {
         self.pop_or_ignore(code, token);
     }

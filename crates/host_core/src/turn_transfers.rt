@@ -3,12 +3,13 @@
 ghost use Rattle.std.specs.Prelude.{◌≡◌, ◌<◌, ◌+◌, ◌^◌, ◌↔◌, IsTrue, length};
 ghost use Rattle.host_code.specs.Code.{variable_at};
 ghost use Rattle.host_code.specs.Riders.{AreFew};
-ghost use Rattle.host_core.specs.Host.{state_of, IsReady, IsSameHost};
+ghost use Rattle.host_core.specs.Host.{state_of, IsReady, StepsTo, StepsBy};
 ghost use Rattle.host_core.specs.Turn.{after_own_push, after_ask, after_go, after_go_with, after_call, riders_of};
 ghost use Rattle.host_core.specs.Turn.{IsReturning, IsGivingBack};
 ghost use Rattle.host_core.specs.Turn.{MayReturn};
 
 use crate::host::{Host, Sent};
+use crate::subjects::Variable;
 use crate::thread::{Awaited, Thread};
 use capability::Held;
 use host_code::{Code, CodeExpr, Message, RiderVars, Riders};
@@ -20,9 +21,8 @@ impl Host {
         requires ready { IsReady self.old }
         requires next { thread.at + 1 < 2 ^ 32 }
         requires entry { entry.0 < length self.old.stack.serials }
-        ensures state { after_own_push (state_of self.old) thread entry thread.held
-            ≡ record { state = state_of self.new; sent = result } }
-        ensures same { IsSameHost self.old self.new }
+        ensures { StepsTo self.old self.new result
+            (after_own_push (state_of self.old) thread entry thread.held) }
     {
         if let Some(held) = thread.take_held() {
             let frame = thread.frame();
@@ -38,9 +38,8 @@ impl Host {
     pub(crate) fn ask(&mut self, mut thread: Thread, entry: EntryId, on: HostId) -> Sent
         requires ready { IsReady self.old }
         requires next { thread.at + 1 < 2 ^ 32 }
-        ensures state { after_ask (state_of self.old) thread entry on thread.held
-            ≡ record { state = state_of self.new; sent = result } }
-        ensures same { IsSameHost self.old self.new }
+        ensures { StepsTo self.old self.new result
+            (after_ask (state_of self.old) thread entry on thread.held) }
     {
         let Some(held) = thread.take_held() else {
             self.running = Some(thread);
@@ -69,9 +68,8 @@ impl Host {
         entry: EntryId,
         on: HostId,
     ) -> Sent
-        ensures state { after_go (state_of self.old) thread frame entry on thread.held
-            ≡ record { state = state_of self.new; sent = result } }
-        ensures same { IsSameHost self.old self.new }
+        ensures { StepsTo self.old self.new result
+            (after_go (state_of self.old) thread frame entry on thread.held) }
     {
         let Some(held) = thread.take_held() else {
             self.running = Some(thread);
@@ -99,9 +97,8 @@ impl Host {
         on: HostId,
         riders: &RiderVars,
     ) -> Sent
-        ensures state { after_go_with (state_of self.old) thread frame entry on riders.now thread.held
-            ≡ record { state = state_of self.new; sent = result } }
-        ensures same { IsSameHost self.old self.new }
+        ensures { StepsTo self.old self.new result
+            (after_go_with (state_of self.old) thread frame entry on riders.now thread.held) }
     {
         let Some(held) = thread.take_held() else {
             self.running = Some(thread);
@@ -144,9 +141,8 @@ impl Host {
         entry: EntryId,
         on: HostId,
     ) -> Sent
-        ensures state { after_call code.now (state_of self.old) thread entry on
-            ≡ record { state = state_of self.new; sent = result } }
-        ensures same { IsSameHost self.old self.new }
+        ensures { StepsTo self.old self.new result
+            (after_call code.now (state_of self.old) thread entry on) }
     {
         if on.0 != self.me.0 {
             let frame = thread.new_frame();
@@ -169,9 +165,8 @@ impl Host {
     ) -> Sent
         requires ready { IsReady self.old }
         requires next { thread.at + 1 < 2 ^ 32 }
-        ensures state { IsReturning code.now (state_of self.old) thread var value.now
-            (record { state = state_of self.new; sent = result }) }
-        ensures same { IsSameHost self.old self.new }
+        ensures { StepsBy self.old self.new result
+            (IsReturning code.now (state_of self.old) thread var value.now) }
     {
         let Some(token) = thread.token() else {
             self.running = Some(thread);
@@ -186,7 +181,11 @@ impl Host {
             return None;
         }
         if may_return(code, var, token.host) {
-            return self.forward(at, thread, token.frame, var, value, token.host);
+            let variable = Variable {
+                frame: token.frame,
+                var,
+            };
+            return self.forward(at, thread, variable, value, token.host);
         }
         self.running = Some(thread);
         None
@@ -195,9 +194,8 @@ impl Host {
     /// The thread ends, and gives its token back to the host that the token names.
     pub(crate) fn give_back(&mut self, code: &Code, mut thread: Thread) -> Sent
         requires ready { IsReady self.old }
-        ensures state { IsGivingBack code.now (state_of self.old) thread
-            (record { state = state_of self.new; sent = result }) }
-        ensures same { IsSameHost self.old self.new }
+        ensures { StepsBy self.old self.new result
+            (IsGivingBack code.now (state_of self.old) thread) }
     {
         let Some(token) = thread.token() else {
             self.running = Some(thread);

@@ -1,13 +1,14 @@
 //! Turns that read and write fields and variables, make frames, and branch.
 
-ghost use Rattle.std.specs.Prelude.{◌≡◌, ◌<◌, ◌+◌, ◌^◌, IfOk, OnErr, Some};
+ghost use Rattle.std.specs.Prelude.{◌<◌, ◌+◌, ◌^◌, IfOk, OnErr, Some};
 ghost use Rattle.host_code.specs.Code.{field_at};
-ghost use Rattle.host_core.specs.Host.{state_of, IsReady, IsSameHost, with_running};
+ghost use Rattle.host_core.specs.Host.{state_of, IsReady, Becomes, StepsTo, with_running};
 ghost use Rattle.host_core.specs.Turn.{after_read, after_put, after_let, after_forward, after_send, after_frame};
 ghost use Rattle.host_core.specs.Turn.{after_branch};
 
 use crate::changes::count_one;
 use crate::host::{Host, Sent};
+use crate::subjects::Variable;
 use crate::thread::{Awaited, Thread};
 use host_code::{Code, CodeExpr, Message};
 use js_base::{FieldId, FrameId, HostId, OutOfMemory, SiteId, VarId};
@@ -23,11 +24,9 @@ impl Host {
     ) -> Result<Sent, OutOfMemory>
         requires ready { IsReady self.old }
         requires next { thread.at + 1 < 2 ^ 32 }
-        ensures ok { IfOk result (λ sent.
-            after_read (state_of self.old) thread field index.now (field_at code.now field)
-            ≡ record { state = state_of self.new; sent = sent }) }
-        ensures err { OnErr result (state_of self.new ≡ with_running (state_of self.old) (Some thread)) }
-        ensures same { IsSameHost self.old self.new }
+        ensures ok { IfOk result (λ sent. StepsTo self.old self.new sent
+            (after_read (state_of self.old) thread field index.now (field_at code.now field))) }
+        ensures err { OnErr result (Becomes self.old self.new (with_running (state_of self.old) (Some thread))) }
     {
         let Some(there) = code.field(field) else {
             self.running = Some(thread);
@@ -69,9 +68,8 @@ impl Host {
     ) -> Sent
         requires ready { IsReady self.old }
         requires next { thread.at + 1 < 2 ^ 32 }
-        ensures state { after_put (state_of self.old) thread field index.now value.now (field_at code.now field)
-            ≡ record { state = state_of self.new; sent = result } }
-        ensures same { IsSameHost self.old self.new }
+        ensures { StepsTo self.old self.new result
+            (after_put (state_of self.old) thread field index.now value.now (field_at code.now field)) }
     {
         let Some(there) = code.field(field) else {
             self.running = Some(thread);
@@ -111,9 +109,8 @@ impl Host {
     ) -> Sent
         requires ready { IsReady self.old }
         requires next { thread.at + 1 < 2 ^ 32 }
-        ensures state { after_let (state_of self.old) thread frame var value.now
-            ≡ record { state = state_of self.new; sent = result } }
-        ensures same { IsSameHost self.old self.new }
+        ensures { StepsTo self.old self.new result
+            (after_let (state_of self.old) thread frame var value.now) }
     {
         let value = thread.value(&self.stores, value);
         thread.step_cleared();
@@ -132,14 +129,13 @@ impl Host {
     ) -> Sent
         requires ready { IsReady self.old }
         requires next { thread.at + 1 < 2 ^ 32 }
-        ensures state { after_send (state_of self.old) thread frame var to
-            ≡ record { state = state_of self.new; sent = result } }
-        ensures same { IsSameHost self.old self.new }
+        ensures { StepsTo self.old self.new result
+            (after_send (state_of self.old) thread frame var to) }
     {
         let at = thread.at();
         let value = self.stores.var(frame, var);
         thread.step();
-        self.forward(at, thread, frame, var, value, to)
+        self.forward(at, thread, Variable { frame, var }, value, to)
     }
 
     /// A value is forwarded to a host for a variable of a frame. The thread waits as it goes on then.
@@ -147,23 +143,21 @@ impl Host {
         &mut self,
         at: u32,
         later: Thread,
-        frame: FrameId,
-        var: VarId,
+        variable: Variable,
         value: i64,
         to: HostId,
     ) -> Sent
         requires ready { IsReady self.old }
-        ensures state { after_forward (state_of self.old) at later frame var value to
-            ≡ record { state = state_of self.new; sent = result } }
-        ensures same { IsSameHost self.old self.new }
+        ensures { StepsTo self.old self.new result
+            (after_forward (state_of self.old) at later variable.frame variable.var value to) }
     {
         let request = self.wait(at, later, Awaited::Ack, to);
         Some((
             to,
             Message::Forward {
                 request,
-                frame,
-                var,
+                frame: variable.frame,
+                var: variable.var,
                 value,
             },
         ))
@@ -173,9 +167,8 @@ impl Host {
     pub(crate) fn make_frame(&mut self, mut thread: Thread, site: SiteId) -> Sent
         requires ready { IsReady self.old }
         requires next { thread.at + 1 < 2 ^ 32 }
-        ensures state { after_frame (state_of self.old) thread site
-            ≡ record { state = state_of self.new; sent = result } }
-        ensures same { IsSameHost self.old self.new }
+        ensures { StepsTo self.old self.new result
+            (after_frame (state_of self.old) thread site) }
     {
         let place = site.0 as usize;
         let count = self.frames.get(place).copied().unwrap_or(0);
@@ -189,9 +182,8 @@ impl Host {
     /// The thread goes on at the target where the guard is 0, and otherwise at the next instruction.
     pub(crate) fn branch(&mut self, mut thread: Thread, guard: &CodeExpr, target: u32) -> Sent
         requires { thread.at + 1 < 2 ^ 32 }
-        ensures state { after_branch (state_of self.old) thread guard.now target
-            ≡ record { state = state_of self.new; sent = result } }
-        ensures same { IsSameHost self.old self.new }
+        ensures { StepsTo self.old self.new result
+            (after_branch (state_of self.old) thread guard.now target) }
     {
         let guard = thread.value(&self.stores, guard);
         thread.step_cleared();

@@ -13,13 +13,13 @@ returns-in-Ok-clause-keeps c =
     (deliver_kept c.args.code.now c.args.self.now c.begin.new.self c.take.new.self c.args.from c.args.message.now
     c.take.new.sent
     c.code_laws.ensures c.requires.fits c.requires.from c.requires.tokens c.begin.ensures.same c.begin.ensures.checks
-    c.in-Ok.ensures.same c.in-Ok.ensures.ok).0 in
+    c.in-Ok.ensures.ok).0 in
     made_keeps c.args.code.now c.args.self.now c.begin.new.self c.take.new.self fits (search rules) (search rules)
-    c.in-Ok.ensures.same c.in_ok-begin.ensures.stopped
+    c.in-Ok.ensures.ok.same c.in_ok-begin.ensures.stopped
 
 pub returns-in-Ok-clause-sent : goal.returns-in-Ok-clause-sent
 returns-in-Ok-clause-sent c =
     (deliver_kept c.args.code.now c.args.self.now c.begin.new.self c.take.new.self c.args.from c.args.message.now
     c.take.new.sent
     c.code_laws.ensures c.requires.fits c.requires.from c.requires.tokens c.begin.ensures.same c.begin.ensures.checks
-    c.in-Ok.ensures.same c.in-Ok.ensures.ok).1
+    c.in-Ok.ensures.ok).1

@@ -33,10 +33,10 @@ returns-clause-fits c =
     root_fits code idle c.root.ensures.sound (idle_fits code c.args.store.now c.args.key c.args.me c.requires)
     root in
     let state : state_of after ≡ root_host code idle =
-    c.in_ok-begin_program.ensures.state ∙ ap (root_host code) c.in_ok-host.ensures.state in
+    c.in_ok-begin_program.ensures.ok.state_is ∙ ap (root_host code) c.in_ok-host.ensures.state in
     record {
       state = subst (StateFits code) (sym state) fits;
       checks = same_checks code c.args.me after.me host.checks after.checks c.in_ok-host.ensures.checks
-          (c.in_ok-begin_program.ensures.same.me ∙ c.in_ok-host.ensures.new.0)
-          c.in_ok-begin_program.ensures.same.checks;
+          (c.in_ok-begin_program.ensures.ok.same.me ∙ c.in_ok-host.ensures.new.0)
+          c.in_ok-begin_program.ensures.ok.same.checks;
     }

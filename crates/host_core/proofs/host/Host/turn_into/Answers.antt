@@ -14,7 +14,7 @@ returns-in-Ok-clause-ok c =
     let outcome : Outcome = record { state = state_of c.run.new.self; sent = c.run.new.sent } in
     let host = state_of (the_view c.self.inside) in
     let taken =
-    subst (λ (r : Option ThreadShape). IsTurnOf code host r outcome) c.in-Some.ensures.value c.in-Ok.ensures.ok in
+    subst (λ (r : Option ThreadShape). IsTurnOf code host r outcome) c.in-Some.ensures.value c.in-Ok.ensures.ok.step in
     let same : host ≡ state_of c.args.self.now = ap state_of c.self.view_is ∙ c.begin.ensures.same in
     subst (λ (h : HostShape). IsTurn code h outcome) same taken
 
@@ -25,10 +25,10 @@ returns-in-Ok-clause-keeps c =
     c.code_laws.ensures
     c.requires.fits (ap state_of c.self.view_is ∙ c.begin.ensures.same)
     (ap (λ (h : HostModel). h.checks) c.self.view_is ∙ c.begin.ensures.checks)
-    (thread_taken (the_view c.self.inside) c.run.new.self c.take.new.self c.in-Ok.ensures.same)
+    (thread_taken (the_view c.self.inside) c.run.new.self c.take.new.self c.in-Ok.ensures.ok.same)
     (returns-in-Ok-clause-ok c)).0 in
     made_keeps c.args.code.now c.args.self.now (the_view c.self.inside) c.run.new.self fits (search rules) (search rules)
-    (thread_taken (the_view c.self.inside) c.run.new.self c.take.new.self c.in-Ok.ensures.same) c.in_ok-begin.ensures.stopped
+    (thread_taken (the_view c.self.inside) c.run.new.self c.take.new.self c.in-Ok.ensures.ok.same) c.in_ok-begin.ensures.stopped
 
 pub returns-in-Ok-clause-sent : goal.returns-in-Ok-clause-sent
 returns-in-Ok-clause-sent c =
@@ -36,5 +36,5 @@ returns-in-Ok-clause-sent c =
     c.code_laws.ensures
     c.requires.fits (ap state_of c.self.view_is ∙ c.begin.ensures.same)
     (ap (λ (h : HostModel). h.checks) c.self.view_is ∙ c.begin.ensures.checks)
-    (thread_taken (the_view c.self.inside) c.run.new.self c.take.new.self c.in-Ok.ensures.same)
+    (thread_taken (the_view c.self.inside) c.run.new.self c.take.new.self c.in-Ok.ensures.ok.same)
     (returns-in-Ok-clause-ok c)).1
