@@ -1,13 +1,17 @@
 -- What the count keeps so that it goes over no statement again and again.
-use Rattle.std.specs.Prelude.{◌≡◌, ◌<◌, ◌≤◌, ◌↔◌, ℕ, Bool, IsTrue, List, drop, slice_index, slice_get, unwrap_or}
+use Rattle.std.specs.Prelude.{◌≡◌, ◌<◌, ◌≤◌, ◌↔◌, ⊤, ℕ, Bool, IsTrue, Option, Some, None}
+use Rattle.std.specs.Prelude.{List, All, drop, slice_index, slice_get, unwrap_or}
 use Rattle.std.specs.Int.{bit_at}
 use Rattle.js_base.specs.declared.bits.TheConstants.{WORD_BITS}
 use Rattle.js_base.specs.declared.ids.HostId.{HostId}
+use Rattle.js_base.specs.declared.ids.StmtId.{StmtId}
 use Rattle.js_base.specs.declared.ids.VarId.{VarId}
 use Rattle.jif_tree.specs.declared.program.Stmt.{Stmt}
 use Rattle.need_labels.specs.Plan.{first_host}
 use Rattle.msg_cost.specs.declared.kept.Kept.{Kept}
+use Rattle.msg_cost.specs.declared.kept.VariableReaders.{VariableReaders}
 use Rattle.msg_cost.specs.Moves.{PlannedShape, called_end, is_trusted_for_all}
+use Rattle.msg_cost.specs.Pieces.{moved_reads}
 use Rattle.msg_cost.specs.Terms.{reads_on}
 use Rattle.msg_cost.specs.Views.{ids_of}
 
@@ -42,3 +46,20 @@ IsTrustedBetween planned host block first last = (place : ℕ) → first ≤ pla
 abbrev pub AreTrustedTo : PlannedShape → List Stmt → ℕ → List ℕ → Type 0
 AreTrustedTo planned block place ends = (host : HostId) →
     IsTrustedBetween planned host block place (slice_index ends host.0)
+
+-- ---- readers that are kept while a move is tried
+
+-- this is so of the statements that read the variable
+pub record AreReadersOf (planned : PlannedShape) (step : Option StmtId) (x : VarId) (readers : VariableReaders) :
+    Type 0 where
+  pub variable : readers.reading.variable ≡ x
+  pub hosts : IsReadingWord planned x readers.reading.word
+  pub moved : readers.moved ≡ moved_reads planned.needs step x
+
+abbrev pub IsRecent : PlannedShape → Option StmtId → Option VariableReaders → Type 0
+IsRecent planned moved None = ⊤
+IsRecent planned moved (Some readers) = AreReadersOf planned moved readers.reading.variable readers
+
+-- what is kept of the readers of some variables
+abbrev pub AreRecent : PlannedShape → Option StmtId → List (Option VariableReaders) → Type 0
+AreRecent planned moved recent = All (IsRecent planned moved) recent

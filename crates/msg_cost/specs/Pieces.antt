@@ -51,11 +51,20 @@ pub data Piece : Type 0 where
 
 -- ---- what a moved statement touches
 
+-- whether a statement is the moved one
+abbrev pub is_moved : Option StmtId → StmtId → Bool
+is_moved None id = false
+is_moved (Some moved) id = nat_eq id.0 moved.0
+
+-- whether the moved statement reads a variable
+abbrev pub moved_reads : NeedsShape → Option StmtId → VarId → Bool
+moved_reads needs None x = false
+moved_reads needs (Some moved) x =
+    list_any (λ reader. nat_eq reader.0 moved.0) (unwrap_or (slice_get needs.readers x.0) [])
+
 -- it touches what a statement gives to a variable where it is that statement, or reads the variable
 abbrev pub touches : NeedsShape → Option StmtId → StmtId → VarId → Bool
-touches needs None id x = false
-touches needs (Some moved) id x =
-    nat_eq id.0 moved.0 || list_any (λ reader. nat_eq reader.0 moved.0) (unwrap_or (slice_get needs.readers x.0) [])
+touches needs moved id x = is_moved moved id || moved_reads needs moved x
 
 -- the variable to which a statement gives a value that the moved one does not touch
 abbrev pub untouched : NeedsShape → Option StmtId → Given → Option VarId

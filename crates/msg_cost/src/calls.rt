@@ -13,7 +13,7 @@ use crate::kept::Kept;
 use crate::messages::{exchange, message};
 use crate::seated::Seated;
 use crate::tokens::called_home;
-use crate::values::{expr_cost, forwards};
+use crate::values::{expr_cost, forwards, kept_reading};
 use jif_tree::{Expr, params_of};
 use js_base::{HostId, MethodId, VarId};
 
@@ -37,7 +37,8 @@ fn argument_cost(
     for arg in args {
         total = total.saturating_add(expr_cost(planned, weight, host, arg));
         if let [param, more @ ..] = left {
-            let sent = forwards(planned, kept, weight, host, *param, Some(home));
+            let reading = kept_reading(planned, kept, *param);
+            let sent = forwards(planned, reading, weight, host, Some(home));
             total = total.saturating_add(sent);
             left = more;
         }

@@ -1,10 +1,10 @@
 //! What a moved statement touches of what others give, and where a value rides that is given at a place of a block.
 
-ghost use Rattle.std.specs.Prelude.{◌≡◌, ◌≢◌, ◌≤◌, ◌↔◌, false, IsTrue, length, nat_eq};
+ghost use Rattle.std.specs.Prelude.{◌≡◌, ◌≢◌, ◌≤◌, ◌↔◌, ◌||◌, false, IsTrue, length, nat_eq};
 ghost use Rattle.std.specs.List.{list_any};
 ghost use Rattle.msg_cost.specs.Kept.{is_trusted_from};
 ghost use Rattle.msg_cost.specs.Moves.{on};
-ghost use Rattle.msg_cost.specs.Pieces.{touches, carried_at};
+ghost use Rattle.msg_cost.specs.Pieces.{carried_at, is_moved, moved_reads, touches};
 ghost use Rattle.msg_cost.specs.Tables.{KnowsBlock, IsTable};
 ghost use Rattle.msg_cost.specs.Views.{seated_shape, ids_of};
 ghost use Rattle.msg_cost.specs.Walks.{spot_behind};
@@ -24,8 +24,32 @@ use need_labels::Needs;
 pub fn touches(needs: &Needs, moved: Option<StmtId>, statement: StmtId, x: VarId) -> bool
     ensures { result ≡ touches needs.now moved statement x }
 {
+    is_moved(moved, statement) || moved_reads(needs, moved, x)
+}
+
+/// The same where it is known whether the moved statement reads the variable.
+pub fn is_touched(moved: Option<StmtId>, statement: StmtId, reads: bool) -> bool
+    ensures { result ≡ (is_moved moved statement || reads) }
+{
+    is_moved(moved, statement) || reads
+}
+
+/// Whether a statement is the moved one.
+fn is_moved(moved: Option<StmtId>, statement: StmtId) -> bool
+    ensures { result ≡ is_moved moved statement }
+{
     match moved {
-        Some(one) => statement.0 == one.0 || is_among(needs.readers(x), one),
+        Some(one) => statement.0 == one.0,
+        None => false,
+    }
+}
+
+/// Whether the moved statement reads the variable.
+pub fn moved_reads(needs: &Needs, moved: Option<StmtId>, x: VarId) -> bool
+    ensures { result ≡ moved_reads needs.now moved x }
+{
+    match moved {
+        Some(one) => is_among(needs.readers(x), one),
         None => false,
     }
 }

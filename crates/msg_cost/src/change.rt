@@ -17,6 +17,7 @@ ghost use Rattle.msg_cost.specs.Views.{seated_shape, capped};
 ghost use Rattle.msg_cost.specs.Walks.{IsMoved, IsChange};
 
 use crate::index::Index;
+use crate::kept::{RECENT_VARIABLES, RecentReaders};
 use crate::piece::Piece;
 use crate::piece_cost::other_cost;
 use crate::program_cost::program_cost;
@@ -189,8 +190,9 @@ fn row_cost(
     ensures { result ≡ capped (others_cost (seated_shape planned.now) moved (all_pieces row.now)) }
 {
     let mut total: u64 = 0;
+    let mut recent: RecentReaders = [None; RECENT_VARIABLES];
     for piece in row {
-        total = total.saturating_add(other_cost(planned, bodies, moved, piece));
+        total = total.saturating_add(other_cost(planned, bodies, moved, &mut recent, piece));
     }
     total
 }

@@ -4,6 +4,7 @@ ghost use Rattle.std.specs.Prelude.{◌≡◌, [], ◌∷◌, ◌++◌, if◌the
 ghost use Rattle.jif_tree.specs.LabelRules.{method_at};
 ghost use Rattle.jif_tree.specs.Trees.{program_tree};
 ghost use Rattle.msg_cost.specs.Cost.{cost_of};
+ghost use Rattle.msg_cost.specs.Kept.{AreRecent};
 ghost use Rattle.msg_cost.specs.Moves.{called_home, called_end};
 ghost use Rattle.msg_cost.specs.Pieces.{giving, piece_cost, other_cost};
 ghost use Rattle.msg_cost.specs.PieceViews.{givens_of, piece_shape};
@@ -11,14 +12,14 @@ ghost use Rattle.msg_cost.specs.Tables.{AreBodies, KnowsBlock, HasTable};
 ghost use Rattle.msg_cost.specs.Terms.{message, exchange};
 ghost use Rattle.msg_cost.specs.Views.{seated_shape, capped};
 
-use crate::carried::{carried_at, touches};
+use crate::carried::{carried_at, is_touched};
 use crate::ends::listed_end;
-use crate::kept::NOTHING;
+use crate::kept::RecentReaders;
 use crate::messages::{exchange, message};
 use crate::piece::Piece;
 use crate::seated::Seated;
 use crate::tokens::called_home;
-use crate::values::{field_cost, forwards};
+use crate::values::{field_cost, forwards, recent_readers};
 use crate::walk::Walk;
 use js_base::limits::HOSTS;
 use js_base::{HostId, MethodId, StmtId, VarId};
@@ -28,12 +29,15 @@ pub fn other_cost(
     planned: &Seated<'_>,
     bodies: &[[u16; HOSTS]],
     moved: Option<StmtId>,
+    recent: &mut RecentReaders,
     piece: &Piece<'_>,
 ) -> u64
+    requires recent { AreRecent (seated_shape planned.now) moved recent.old }
     requires bodies { AreBodies planned.now.needs.now planned.now.hosts.now
         planned.now.program.now.methods.items bodies.now }
     requires knows { HasTable planned.now.needs.now planned.now.hosts.now piece.now }
-    ensures { result ≡ capped (other_cost (seated_shape planned.now) moved (piece_shape piece.now)) }
+    ensures cost { result ≡ capped (other_cost (seated_shape planned.now) moved (piece_shape piece.now)) }
+    ensures recent { AreRecent (seated_shape planned.now) moved recent.new }
 {
     match piece {
         Piece::Access {
@@ -46,7 +50,7 @@ pub fn other_cost(
             place,
             statement,
             variable,
-        } => giving_cost(planned, moved, walk, *place, *statement, *variable),
+        } => giving_cost(planned, moved, recent, walk, *place, *statement, *variable),
         Piece::Passing {
             weight,
             statement,
@@ -55,7 +59,8 @@ pub fn other_cost(
         } => {
             let host = planned.host_of(*statement);
             let home = called_home(planned, *method);
-            forwards(planned, &NOTHING, *weight, host, *variable, Some(home))
+            let readers = recent_readers(planned, moved, recent, *variable);
+            forwards(planned, readers.reading, *weight, host, Some(home))
         }
         Piece::Calling {
             weight,
@@ -79,21 +84,25 @@ pub fn other_cost(
 fn giving_cost(
     planned: &Seated<'_>,
     moved: Option<StmtId>,
+    recent: &mut RecentReaders,
     walk: &Walk<'_>,
     place: usize,
     statement: StmtId,
     variable: VarId,
 ) -> u64
-    requires { KnowsBlock planned.now.needs.now planned.now.hosts.now walk.now }
-    ensures { result ≡ capped (piece_cost (seated_shape planned.now) moved
+    requires recent { AreRecent (seated_shape planned.now) moved recent.old }
+    requires knows { KnowsBlock planned.now.needs.now planned.now.hosts.now walk.now }
+    ensures cost { result ≡ capped (piece_cost (seated_shape planned.now) moved
         (giving walk.now.weight statement variable walk.now.home (givens_of walk.now.block.now) place)) }
+    ensures recent { AreRecent (seated_shape planned.now) moved recent.new }
 {
-    if !touches(planned.needs, moved, statement, variable) {
+    let readers = recent_readers(planned, moved, recent, variable);
+    if !is_touched(moved, statement, readers.moved) {
         return 0;
     }
     let host = planned.host_of(statement);
     let carried = carried_at(planned, walk, place);
-    forwards(planned, &NOTHING, walk.weight, host, variable, carried)
+    forwards(planned, readers.reading, walk.weight, host, carried)
 }
 
 /// What it costs to call a method, which ends on this host, and to come back.

@@ -3,19 +3,22 @@
 ghost use Rattle.std.specs.Prelude.{◌≡◌, [], ◌∷◌, length, min};
 ghost use Rattle.jif_tree.specs.Trees.{expr_tree};
 ghost use Rattle.msg_cost.specs.Cost.{cost_of};
-ghost use Rattle.msg_cost.specs.Kept.{IsReadingWord, AreReadingWords};
+ghost use Rattle.msg_cost.specs.Kept.{IsReadingWord, AreReadersOf, AreReadingWords, AreRecent};
 ghost use Rattle.msg_cost.specs.declared.kept.TheConstants.{KEPT_VARIABLES};
 ghost use Rattle.msg_cost.specs.Moves.{is_to};
 ghost use Rattle.msg_cost.specs.Terms.{exchange, expr_terms, forwards, given_terms};
 ghost use Rattle.need_labels.specs.Plan.{field_host};
 ghost use Rattle.msg_cost.specs.Views.{seated_shape, capped};
 
-use crate::kept::{KEPT_VARIABLES, Kept};
+use crate::carried::moved_reads;
+use crate::kept::{
+    KEPT_VARIABLES, Kept, RECENT_VARIABLES, ReadingWord, RecentReaders, VariableReaders,
+};
 use crate::messages::exchange;
 use crate::seated::Seated;
 use jif_tree::Expr;
 use js_base::bits::{WORD_BITS, has_bit, with_bit};
-use js_base::{FieldId, HostId, VarId};
+use js_base::{FieldId, HostId, StmtId, VarId};
 
 /// The cost of reading or writing a field.
 pub fn field_cost(planned: &Seated<'_>, weight: u64, host: HostId, field: FieldId) -> u64
@@ -82,15 +85,46 @@ pub fn note_reading(planned: &Seated<'_>, words: &mut [u64]) -> usize
 }
 
 /// The word of a variable, which is looked up where it was noted.
-fn kept_reading(planned: &Seated<'_>, kept: &Kept<'_>, x: VarId) -> u64
+pub fn kept_reading(planned: &Seated<'_>, kept: &Kept<'_>, x: VarId) -> ReadingWord
     requires { AreReadingWords (seated_shape planned.now) kept.now.found kept.now.reading.now }
-    ensures { IsReadingWord (seated_shape planned.now) x result }
+    ensures variable { result.variable ≡ x }
+    ensures word { IsReadingWord (seated_shape planned.now) x result.word }
 {
-    if (x.0 as usize) < kept.found {
+    let word = if (x.0 as usize) < kept.found {
         kept.reading.get(x.0 as usize).copied().unwrap_or(0)
     } else {
         reading_hosts(planned, x)
+    };
+    ReadingWord { variable: x, word }
+}
+
+/// What is so of the readers of a variable, which is looked up where it was kept, and kept otherwise. So a row of many
+/// pieces that speak of one variable goes over its readers once.
+pub fn recent_readers(
+    planned: &Seated<'_>,
+    moved: Option<StmtId>,
+    recent: &mut RecentReaders,
+    x: VarId,
+) -> VariableReaders
+    requires { AreRecent (seated_shape planned.now) moved recent.old }
+    ensures readers { AreReadersOf (seated_shape planned.now) moved x result }
+    ensures recent { AreRecent (seated_shape planned.now) moved recent.new }
+{
+    let place = x.0 as usize % RECENT_VARIABLES;
+    if let Some(known) = recent[place] {
+        if known.reading.variable.0 == x.0 {
+            return known;
+        }
     }
+    let readers = VariableReaders {
+        reading: ReadingWord {
+            variable: x,
+            word: reading_hosts(planned, x),
+        },
+        moved: moved_reads(planned.needs, moved, x),
+    };
+    recent[place] = Some(readers);
+    readers
 }
 
 /// Whether a value rides to this host.
@@ -106,21 +140,19 @@ fn rides_to(carried: Option<HostId>, other: u8) -> bool
 /// The cost of sending a variable's value to each other host that reads it, but for the one to which it rides.
 pub fn forwards(
     planned: &Seated<'_>,
-    kept: &Kept<'_>,
+    reading: ReadingWord,
     weight: u64,
     host: HostId,
-    x: VarId,
     carried: Option<HostId>,
 ) -> u64
-    requires { AreReadingWords (seated_shape planned.now) kept.now.found kept.now.reading.now }
+    requires { IsReadingWord (seated_shape planned.now) reading.variable reading.word }
     ensures { result ≡ capped (cost_of planned.now.hosts.now
-        (forwards (seated_shape planned.now) weight host x carried)) }
+        (forwards (seated_shape planned.now) weight host reading.variable carried)) }
 {
-    let reading = kept_reading(planned, kept, x);
     let count = planned.hosts.hosts().len() as u8;
     let mut total: u64 = 0;
     for other in 0..count {
-        if other != host.0 && has_bit(reading, other) && !rides_to(carried, other) {
+        if other != host.0 && has_bit(reading.word, other) && !rides_to(carried, other) {
             total = total.saturating_add(exchange(planned.hosts, weight, host, HostId(other)));
         }
     }
@@ -141,7 +173,10 @@ pub fn given(
         (given_terms (seated_shape planned.now) weight host gives carried)) }
 {
     match gives {
-        Some(x) => forwards(planned, kept, weight, host, x, carried),
+        Some(x) => {
+            let reading = kept_reading(planned, kept, x);
+            forwards(planned, reading, weight, host, carried)
+        }
         None => 0,
     }
 }

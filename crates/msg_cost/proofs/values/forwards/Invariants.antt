@@ -6,5 +6,5 @@ use Rattle.msg_cost.proofs.values.forwards.Given as goal
 -- the total is the cost of what goes to the hosts so far
 abbrev pub invariant-loop-other : goal.invariant-loop-other
 invariant-loop-other l =
-    Costs l.planned.hosts.now (forwards_below (seated_shape l.planned) l.weight l.host l.fn.x l.fn.carried l.other)
+    Costs l.planned.hosts.now (forwards_below (seated_shape l.planned) l.weight l.host l.reading.variable l.fn.carried l.other)
     l.total
