@@ -1,8 +1,8 @@
 -- The first of what may be there, along lists.
 use Rattle.std.proofs.Common.{◌≡◌, ℕ, zero, suc, ◌+◌, ◌<◌, List, [], ◌∷◌, ◌++◌, map, length, take, get_or, refl, sym, ap, ◌∙◌}
 use Rattle.std.proofs.Common.{add-one, arith}
-use Rattle.std.specs.Prelude.{Bool, ◌||◌, Option, Some, None}
-use Rattle.std.specs.List.{list_any, range_with_len}
+use Rattle.std.specs.Prelude.{Option, Some, None}
+use Rattle.std.specs.List.{range_with_len}
 use Rattle.std.proofs.lemmas.List.{take_more}
 use Rattle.place_reasons.specs.Firsts.{or_first, first_some}
 
@@ -25,11 +25,6 @@ pub first_mapped : {X Y Z : Type 0} (make : Y → Option Z) (f : X → Y) (xs : 
     first_some make (map f xs) ≡ first_some (λ x. make (f x)) xs
 first_mapped make f [] = refl
 first_mapped make f (x ∷ xs) = ap (or_first (make (f x))) (first_mapped make f xs)
-
-pub any_mapped : {X Y : Type 0} (test : Y → Bool) (f : X → Y) (xs : List X) →
-    list_any test (map f xs) ≡ list_any (λ x. test (f x)) xs
-any_mapped test f [] = refl
-any_mapped test f (x ∷ xs) = ap (λ rest. test (f x) || rest) (any_mapped test f xs)
 
 -- with one more item
 pub first_pushed : {X Y : Type 0} (make : X → Option Y) (xs : List X) (x : X) →

@@ -4,7 +4,7 @@ ghost use Rattle.std.specs.Prelude.{◌≡◌, ◌<◌, length, List, map};
 ghost use Rattle.std.specs.List.{list_any};
 ghost use Rattle.js_base.specs.declared.ids.VarId.{VarId};
 ghost use Rattle.principals.specs.ActsFor.{AreDeclared};
-ghost use Rattle.jif_tree.specs.Trees.{BlockTree, expr_tree, block_tree, tree_before};
+ghost use Rattle.jif_tree.specs.Trees.{BlockTree, block_tree, tree_before};
 ghost use Rattle.need_labels.specs.Needs.{label_of, releases};
 ghost use Rattle.place_reasons.specs.declared.reason.Needed.TheVariants as needed;
 ghost use Rattle.place_reasons.specs.Firsts.{or_first, first_some};
@@ -15,11 +15,12 @@ ghost use Rattle.place_reasons.specs.Search.{site_is};
 use crate::pairs::is_trusted_by;
 use crate::reason::Needed;
 use crate::site::HostSite;
-use jif_tree::{Expr, Stmt, StmtKind, begin_label, field_label, params_of, tree_laws};
+use jif_tree::{Stmt, StmtKind, begin_label, field_label, params_of, tree_laws};
 use js_base::{MethodId, PrincipalId, StmtId, VarId};
 use label_lattice::{Label, READERS};
 use label_reasons::acts_for;
 use need_labels::label_of;
+use releasing_statements::releases_itself;
 
 /// For what the host of a statement has to be trusted, and by which statement: that one, or one in it.
 #[derive(Clone, Copy, PartialEq, Eq)]
@@ -146,48 +147,11 @@ fn members_backed(site: &HostSite<'_>, principal: u8, here: StmtId, found: &mut 
     }
 }
 
-/// Whether a value is released in an expression.
-#[cycle(released)]
-fn releases(expr: &Expr) -> bool
-    ensures { result ≡ releases (expr_tree expr.now) }
-{
-    match expr {
-        Expr::Number(_) | Expr::Local(_) | Expr::Scalar(_) => false,
-        Expr::Element(_, index) => releases(index),
-        Expr::Not(operand) => releases(operand),
-        Expr::Negate(operand) => releases(operand),
-        Expr::Binary(_, left, right) => releases(left) || releases(right),
-        Expr::Declassify(_, _) => true,
-        Expr::Endorse(operand, _) => releases(operand),
-    }
-}
-
-/// Whether a value is released in one of some expressions.
-fn some_releases(values: &[Expr]) -> bool
-    ensures { result ≡ list_any (λ value. releases (expr_tree value)) values.now }
-{
-    for value in values {
-        if releases(value) {
-            return true;
-        }
-    }
-    false
-}
-
 /// Whether a value is released in the statement's own expressions.
 fn statement_releases(statement: &Stmt) -> bool
     ensures { (rest : BlockTree) → result ≡ list_any releases (exprs_of (tree_before statement.now rest)) }
 {
-    tree_laws();
-    match &statement.kind {
-        StmtKind::Let { value, .. } => releases(value),
-        StmtKind::SetField { value, .. } => releases(value),
-        StmtKind::SetElement { index, value, .. } => releases(index) || releases(value),
-        StmtKind::If { guard, .. } => releases(guard),
-        StmtKind::While { guard, .. } => releases(guard),
-        StmtKind::Call { args, .. } => some_releases(args),
-        StmtKind::Return { value } => releases(value),
-    }
+    releases_itself(&statement.kind)
 }
 
 /// For what a statement changes itself.

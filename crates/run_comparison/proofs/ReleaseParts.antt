@@ -1,25 +1,20 @@
 -- What a walk of a program collects of releases: of each statement its own, and then those in its blocks.
 use Rattle.std.proofs.Common.{◌≡◌, ℕ, List, [], ◌∷◌, ◌++◌}
 use Rattle.std.proofs.Common.{refl, sym, ap, ◌∙◌}
-use Rattle.std.proofs.Common.{◌||◌, Bool, append_assoc, append-nil, map}
-use Rattle.std.specs.List.{flat_map, list_any}
+use Rattle.std.proofs.Common.{append_assoc, append-nil}
+use Rattle.std.specs.List.{flat_map}
 use Rattle.jif_tree.specs.declared.program.Stmt.{Stmt}
 use Rattle.jif_tree.specs.declared.program.StmtKind.{StmtKind}
 use Rattle.jif_tree.specs.declared.program.StmtKind as kind
 use Rattle.jif_tree.specs.Trees.{Heading, BlockTree, statement_tree, row_tree, block_tree, expr_tree}
 use Rattle.jif_tree.specs.Trees.{head_of}
-use Rattle.run_comparison.specs.Releases.{if_releasing, block_releases}
-use Rattle.run_comparison.specs.ReleasingKinds.{own_exprs, kind_releases}
+use Rattle.releasing_statements.specs.Releases.{if_releasing, block_releases}
+use Rattle.releasing_statements.specs.Kinds.{own_exprs}
+use Rattle.run_comparison.specs.ReleasingKinds.{kind_releases}
 use Rattle.front_end.proofs.BlockParts.{AreNested}
 
 abbrev pub releases_of : Stmt → List ℕ
 releases_of statement = if_releasing statement.id.0 (own_exprs statement.kind) ++ kind_releases statement.kind
-
--- a test of what each is made into
-pub any_of : {X Y : Type 0} (f : X → Y) (test : Y → Bool) (xs : List X) →
-    list_any test (map f xs) ≡ list_any (λ x. test (f x)) xs
-any_of f test [] = refl
-any_of f test (x ∷ xs) = ap (λ (b : Bool). test (f x) || b) (any_of f test xs)
 
 -- a statement without blocks
 plain : (heading : Heading) (what : StmtKind) (rest : BlockTree) →

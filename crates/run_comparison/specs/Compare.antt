@@ -21,7 +21,7 @@ use Rattle.run_comparison.specs.Followed.{Followed, FollowedRun, EventsFollowed}
 use Rattle.front_end.specs.PlacedSources.{PlacedSource}
 use Rattle.split_rules.specs.Releases.{releases_of}
 use Rattle.run_comparison.specs.ReleaseLines.{release_lines}
-use Rattle.run_comparison.specs.Releases.{first_release}
+use Rattle.releasing_statements.specs.Releases.{first_release}
 use Rattle.net_world.specs.Replay.{events_in}
 use Rattle.script_stages.specs.Scripts.{ScriptRead}
 use Rattle.front_end.specs.Stages.{Outcome, given, stopped, DueThen}

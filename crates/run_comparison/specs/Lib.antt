@@ -3,5 +3,4 @@ pub mod Followed
 pub mod FollowedRuns
 pub mod MessageParts
 pub mod ReleaseLines
-pub mod Releases
 pub mod ReleasingKinds

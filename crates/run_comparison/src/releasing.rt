@@ -1,14 +1,14 @@
 //! The statements of a program that release something.
 
-ghost use Rattle.std.specs.List.{list_any};
 ghost use Rattle.std.specs.Prelude.{◌≡◌, ◌++◌, IfOk, OnOk};
-ghost use Rattle.jif_tree.specs.Trees.{block_tree, expr_tree, program_tree};
-ghost use Rattle.need_labels.specs.Needs.{releases};
-ghost use Rattle.run_comparison.specs.Releases as spec;
-ghost use Rattle.run_comparison.specs.ReleasingKinds.{kind_releases, own_exprs};
+ghost use Rattle.jif_tree.specs.Trees.{block_tree, program_tree};
+ghost use Rattle.releasing_statements.specs.Kinds.{own_exprs};
+ghost use Rattle.releasing_statements.specs.Releases as spec;
+ghost use Rattle.run_comparison.specs.ReleasingKinds.{kind_releases};
 
-use jif_tree::{Expr, Program, Stmt, StmtKind};
+use jif_tree::{Program, Stmt, StmtKind};
 use js_base::OutOfMemory;
+use releasing_statements::releases_itself;
 use std::alloc::Global;
 
 /// The number of the first statement whose own expressions hold a `declassify`, and 0 where there is none.
@@ -59,38 +59,4 @@ fn push_own(found: &mut Vec<u32>, statement: &Stmt) -> Result<(), OutOfMemory>
         found.push(statement.id.0)?;
     }
     Ok(())
-}
-
-/// Whether one of a statement's own expressions holds a `declassify`.
-fn releases_itself(what: &StmtKind) -> bool
-    ensures { result ≡ list_any releases (own_exprs what.now) }
-{
-    match what {
-        StmtKind::Let { value, .. }
-        | StmtKind::SetField { value, .. }
-        | StmtKind::Return { value } => releases(value),
-        StmtKind::SetElement { index, value, .. } => releases(index) || releases(value),
-        StmtKind::If { guard, .. } | StmtKind::While { guard, .. } => releases(guard),
-        StmtKind::Call { args, .. } => some_releases(args),
-    }
-}
-
-/// Whether one of these expressions holds a `declassify`.
-fn some_releases(exprs: &[Expr]) -> bool
-    ensures { result ≡ list_any (λ expr. releases (expr_tree expr)) exprs.now }
-{
-    exprs.iter().any(|expr| releases(expr))
-}
-
-/// Whether an expression holds a `declassify`.
-fn releases(expr: &Expr) -> bool
-    ensures { result ≡ releases (expr_tree expr.now) }
-{
-    match expr {
-        Expr::Number(_) | Expr::Local(_) | Expr::Scalar(_) => false,
-        Expr::Element(_, index) => releases(index),
-        Expr::Binary(_, left, right) => releases(left) || releases(right),
-        Expr::Not(operand) | Expr::Negate(operand) | Expr::Endorse(operand, _) => releases(operand),
-        Expr::Declassify(_, _) => true,
-    }
 }

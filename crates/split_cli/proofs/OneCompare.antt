@@ -18,7 +18,7 @@ use Rattle.run_comparison.specs.Followed.{Followed, IsKept, hidden, prompt, unti
 use Rattle.run_comparison.specs.Followed.{FollowedRun, refused}
 use Rattle.run_comparison.specs.ReleaseLines.{release_lines}
 use Rattle.front_end.specs.PlacedSources.{PlacedSource}
-use Rattle.run_comparison.specs.Releases.{first_release}
+use Rattle.releasing_statements.specs.Releases.{first_release}
 use Rattle.net_world.specs.Replay.{events_in}
 use Rattle.script_stages.specs.Scripts.{event_refused, ScriptRead}
 use Rattle.front_end.specs.Stages.{DueThen}

@@ -7,7 +7,7 @@ use Rattle.jif_tree.specs.Trees.{ExprTree, BlockTree, done, set_local, set_field
 use Rattle.jif_tree.specs.Trees.{give_back, MethodTree, ProgramTree}
 use Rattle.need_labels.specs.Needs.{releases}
 use Rattle.split_shades.specs.Sites.{IsKeptBack, IsSilentBlock, ReleasesNothing}
-use Rattle.run_comparison.specs.Releases.{if_releasing, block_releases, method_releases, program_releases}
+use Rattle.releasing_statements.specs.Releases.{if_releasing, block_releases, method_releases, program_releases}
 
 -- ---- lists
 

@@ -29,7 +29,7 @@ use Rattle.run_comparison.specs.Followed.{Followed, FollowedRun, IsKept, hidden,
 use Rattle.run_comparison.specs.Followed.{followed, refused}
 use Rattle.run_comparison.specs.ReleaseLines.{release_lines}
 use Rattle.front_end.specs.PlacedSources.{PlacedSource, PlacedSources}
-use Rattle.run_comparison.specs.Releases.{first_release}
+use Rattle.releasing_statements.specs.Releases.{first_release}
 use Rattle.net_world.specs.Replay.{events_in}
 use Rattle.script_stages.specs.Scripts.{event_refused, ScriptRead, read}
 use Rattle.front_end.specs.Stages.{given, stopped}

@@ -30,7 +30,7 @@ ghost use Rattle.split_words.specs.Commands.{Compare, Drive, IsMadeCount, Make, 
 ghost use Rattle.split_cli.specs.Due.{Due, IsDue};
 ghost use Rattle.split_cli.specs.Headline.{IsFaithful, IsFaithfulDrive, IsPlacedAs, IsPrivate};
 ghost use Rattle.split_cli.specs.Headline.{OfFourFiles, OfThreeFiles};
-ghost use Rattle.run_comparison.specs.Releases.{program_releases};
+ghost use Rattle.releasing_statements.specs.Releases.{program_releases};
 ghost use Rattle.front_end.specs.Text.{lines_text};
 
 use event_text::script_laws;

@@ -1,10 +1,9 @@
-use Rattle.std.proofs.Common.{sym, ◌∙◌}
-use Rattle.jif_tree.specs.Trees.{expr_tree}
+use Rattle.std.proofs.Common.{◌∙◌, sym, ap}
+use Rattle.std.specs.List.{list_any}
+use Rattle.jif_tree.specs.Trees.{ExprTree}
 use Rattle.need_labels.specs.Needs.{releases}
-use Rattle.place_reasons.proofs.Firsts.{any_mapped}
+use Rattle.place_reasons.proofs.Numbered.{exprs_are}
 use Rattle.place_reasons.proofs.backed.statement_releases.Goals as goal
 
-pub returns-in-Call : goal.returns-in-Call
-returns-in-Call c rest =
-    rw c.in-Call.is ((rw c.deref.ensures.value at c.some_releases.ensures)
-    ∙ sym (any_mapped releases expr_tree c.in-Call.args.items))
+pub returns : goal.returns
+returns c rest = c.releases_itself.ensures ∙ ap (list_any releases) (sym (exprs_are c.args.statement.now rest))

@@ -4,7 +4,7 @@ use Rattle.js_base.specs.declared.status.Status.TheVariants.{Done, Differ}
 use Rattle.run_comparison.specs.Compare.{Compared, agree, differ, differ_text}
 use Rattle.front_end.specs.PlacedShapes.{PlacedModel, placed_shape}
 use Rattle.run_comparison.specs.ReleaseLines.{release_lines}
-use Rattle.run_comparison.specs.Releases.{first_release}
+use Rattle.releasing_statements.specs.Releases.{first_release}
 use Rattle.front_end.specs.SourceShapes.{SourceModel}
 use Rattle.front_end.specs.Verdicts.{VerdictShape, Print}
 use Rattle.run_comparison.proofs.comparing.compared.Goals as goal

@@ -1,8 +1,9 @@
 use Rattle.std.proofs.Common.{List, refl, ap}
 use Rattle.jif_tree.specs.Trees.{block_tree}
 use Rattle.jif_tree.specs.declared.program.Stmt.{Stmt}
-use Rattle.run_comparison.specs.Releases.{if_releasing, block_releases}
-use Rattle.run_comparison.specs.ReleasingKinds.{own_exprs, kind_releases}
+use Rattle.releasing_statements.specs.Releases.{if_releasing, block_releases}
+use Rattle.releasing_statements.specs.Kinds.{own_exprs}
+use Rattle.run_comparison.specs.ReleasingKinds.{kind_releases}
 use Rattle.front_end.proofs.BlockParts.{if_parts, while_parts, parts_more, whole_parts}
 use Rattle.run_comparison.proofs.ReleaseParts.{releases_of, releases_are, releases_nest}
 use Rattle.run_comparison.proofs.releasing.+found.Goals as goal

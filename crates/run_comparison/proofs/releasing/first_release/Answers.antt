@@ -4,7 +4,7 @@ use Rattle.std.specs.Prelude.{unwrap_or}
 use Rattle.jif_tree.specs.declared.program.Method.{Method}
 use Rattle.jif_tree.specs.declared.program.Stmt.{Stmt}
 use Rattle.jif_tree.specs.Trees.{block_tree, method_tree}
-use Rattle.run_comparison.specs.Releases.{block_releases, method_releases}
+use Rattle.releasing_statements.specs.Releases.{block_releases, method_releases}
 use Rattle.front_end.proofs.BlockParts.{parts_more, program_parts}
 use Rattle.run_comparison.proofs.releasing.first_release.Goals as goal
 

@@ -2,7 +2,7 @@ use Rattle.std.proofs.Common.{◌≡◌, take}
 use Rattle.std.specs.List.{flat_map}
 use Rattle.jif_tree.specs.declared.program.Method.{Method}
 use Rattle.jif_tree.specs.Trees.{method_tree}
-use Rattle.run_comparison.specs.Releases.{method_releases}
+use Rattle.releasing_statements.specs.Releases.{method_releases}
 use Rattle.run_comparison.proofs.releasing.first_release.Given as goal
 
 -- those of the methods so far were added

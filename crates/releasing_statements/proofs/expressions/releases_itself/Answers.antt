@@ -4,9 +4,9 @@ use Rattle.jif_tree.specs.declared.program.Expr.{Expr}
 use Rattle.jif_tree.specs.declared.program.StmtKind.{StmtKind}
 use Rattle.jif_tree.specs.Trees.{expr_tree}
 use Rattle.need_labels.specs.Needs.{releases}
-use Rattle.run_comparison.specs.ReleasingKinds.{own_exprs}
-use Rattle.run_comparison.proofs.ReleaseParts.{any_of}
-use Rattle.run_comparison.proofs.releasing.releases_itself.Goals as goal
+use Rattle.releasing_statements.specs.Kinds.{own_exprs}
+use Rattle.releasing_statements.proofs.MarkParts.{any_of}
+use Rattle.releasing_statements.proofs.expressions.releases_itself.Goals as goal
 
 pub returns-in-Call : goal.returns-in-Call
 returns-in-Call c =
