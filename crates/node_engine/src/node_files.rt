@@ -34,6 +34,13 @@ pub struct ReadyNode {
     pub seals: Seals,
 }
 
+/// A file of keys that was loaded, with its name.
+#[derive(Clone, Copy)]
+struct LoadedKeys<'a> {
+    name: &'a str,
+    loaded: &'a Loaded,
+}
+
 /// The node that options ask for, before it begins.
 pub fn node_for<F: Files>(
     alloc: Global,
@@ -101,7 +108,8 @@ fn sealed_node<F: Files>(
     let [source, hosts, start, keys] = loaded.as_slice() else {
         unreachable!();
     };
-    sealed_of_loaded(alloc, options, name, source, hosts, start, keys)
+    let keys = LoadedKeys { name, loaded: keys };
+    sealed_of_loaded(alloc, options, source, hosts, start, keys)
 }
 
 /// Its name.
@@ -167,23 +175,23 @@ fn plain_of_loaded(
     })
 }
 
-/// The node of files that were loaded, with the seals of the last of them, which has this name.
+/// The node of files that were loaded, with the seals of a file of keys.
 fn sealed_of_loaded(
     alloc: Global,
     options: &Options<'_>,
-    name: &str,
     source: &Loaded,
     hosts: &Loaded,
     start: &Loaded,
-    keys: &Loaded,
+    keys: LoadedKeys<'_>,
 ) -> Result<ReadyNode, Stop>
     ensures due { (c h s k : List ℕ) → IsLoaded (most_of (source_name options.now.source)) c source.now →
-        IsLoaded HOSTS_BYTES h hosts.now → IsLoaded SCRIPT_BYTES s start.now → IsLoaded SEALS_BYTES k keys.now →
-        EndsAs ready_node (Then (NodeStarts (asked_shape options.now) c h s) (Sealed (Some name.now) k)) result }
+        IsLoaded HOSTS_BYTES h hosts.now → IsLoaded SCRIPT_BYTES s start.now →
+        IsLoaded SEALS_BYTES k keys.entry.loaded.now →
+        EndsAs ready_node (Then (NodeStarts (asked_shape options.now) c h s) (Sealed (Some keys.entry.name.now) k)) result }
     ensures started { IfOk result (λ node. IsStarted node.start) }
 {
     let start = node_of_loaded(alloc, options, source, hosts, start)?;
-    with_seals(alloc, name, start, keys)
+    with_seals(alloc, keys.name, start, keys.loaded)
 }
 
 /// A node with the seals that a file of this name gives it.
