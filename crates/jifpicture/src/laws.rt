@@ -1,66 +1,99 @@
-//! The laws of the picture, and of what is due.
+//! The laws of the picture of a program, and of what is due.
 
-ghost use Rattle.std.specs.Prelude.{◌≡◌, ◌≢◌, ◌<◌, ◌+◌, ◌++◌, ◌∷◌, [], ℕ, List, Option, Some, None, All, codes};
-ghost use Rattle.std.specs.Prelude.{length, map, slice_get};
-ghost use Rattle.std.specs.Fmt.{decimal};
-ghost use Rattle.std.specs.List.{range_with_len};
-ghost use Rattle.host_decl.specs.Hosts.{HostShape};
-ghost use Rattle.jif_tree.specs.Trees.{FieldTree};
+ghost use Rattle.std.specs.Prelude.{◌≡◌, ◌≢◌, ◌<◌, ◌↔◌, ◌∷◌, [], ℕ, List, Option, Some, None, All, Bool, true, codes};
+ghost use Rattle.std.specs.Prelude.{filter, length, map, slice_get, slice_index};
+ghost use Rattle.std.specs.List.{Contains, filter_map, flat_map, range_with_len};
+ghost use Rattle.std.specs.Str.{chars};
 ghost use Rattle.js_base.specs.Counts.{last_count};
-ghost use Rattle.need_labels.specs.Plan.{PlanShape, field_host, statement_host};
+ghost use Rattle.label_lattice.specs.Printed.{printed_label};
+ghost use Rattle.host_decl.specs.Hosts.{HostShape};
+ghost use Rattle.jif_tree.specs.Numbering.{statement_lines, statement_numbers};
+ghost use Rattle.jif_tree.specs.Trees.{FieldTree};
+ghost use Rattle.host_code.specs.Code.{CodeFieldShape, field_at};
 ghost use Rattle.front_end.specs.Loads.{FilesChange};
+ghost use Rattle.front_end.specs.PlacedCode.{code_of};
+ghost use Rattle.front_end.specs.PlacedSources.{PlacedSource, PlacedSources};
+ghost use Rattle.front_end.specs.Stages.{given};
 ghost use Rattle.front_end.specs.Verdicts.{VerdictShape, no_such_file};
-ghost use Rattle.jifpicture.specs.Arrows.{SheetShape, code_arrows};
-ghost use Rattle.jifpicture.specs.Boxes.{box_text, field_boxes, host_boxes, statement_boxes};
+ghost use Rattle.releasing_statements.specs.Releases.{program_releases};
+ghost use Rattle.statement_texts.specs.Statements.{program_texts};
+ghost use Rattle.statement_texts.specs.Texts.{StatementTextShape};
+ghost use Rattle.plan_ways.specs.Asks.{apart, code_requests, is_asked, request_of};
+ghost use Rattle.plan_ways.specs.declared.ends.Way.{Way};
+ghost use Rattle.plan_picture.specs.Boxes.{head_of, head_text, place_of, statement_of, statement_text};
+ghost use Rattle.plan_picture.specs.Columns.{has_part};
+ghost use Rattle.plan_picture.specs.Paths.{Grid};
+ghost use Rattle.plan_picture.specs.Rows.{field_row, rows_of};
+ghost use Rattle.plan_picture.specs.Sheets.{SheetShape};
+ghost use Rattle.plan_picture.specs.Texts.{field_label};
+ghost use Rattle.plan_picture.specs.declared.boxes.Place.{Place};
+ghost use Rattle.plan_picture.specs.declared.rows.Row.{Row};
 ghost use Rattle.jifpicture.specs.Due.{Due, IsDue, usage};
-ghost use Rattle.jifpicture.specs.Layout.{row_number};
-ghost use Rattle.jifpicture.specs.declared.layout.Row.TheVariants.{Head, OfField, OfStatement};
+ghost use Rattle.jifpicture.specs.Picture.{sheet_of};
+ghost use Rattle.jifpicture.specs.Standing.{IsDeclaredAs, field_in, statement_in};
+ghost use Rattle.jifpicture.specs.Staying.{may_stay};
 
 use front_end::source_laws;
+use host_decl::host_file_laws;
+use jif_parse::named_laws;
+use jif_resolve::program_laws;
+use plan_picture::plan_laws;
+use plan_ways::way_laws;
+use releasing_statements::release_laws;
+use statement_texts::text_laws;
 
-/// Laws of the picture and of what is due, for who reads the one or reasons about the other. The call does nothing.
+/// Laws of the picture of a program and of what is due, for who reads the one or reasons about the other. The call does
+/// nothing.
 pub fn picture_laws()
-    // Each host has one box, in its own column and in the row of names.
-    ensures hosts { (hosts : List HostShape) (number : ℕ) (host : HostShape) → slice_get hosts number ≡ Some host →
-        slice_get (host_boxes 0 hosts) number ≡ Some (record {
-          class = codes "host";
-          host = record { 0 = number };
-          row = Head;
-          label = host.name;
-        }) }
-    ensures as_many_hosts { (hosts : List HostShape) → length (host_boxes 0 hosts) ≡ length hosts }
+    // Each host has a head, with its name and its label, in its own column and in the first row.
+    ensures hosts { (placed : PlacedSource) (grid : Grid) (rows : List Row) (number : ℕ) (host : HostShape) →
+        slice_get placed.source.file.hosts number ≡ Some host →
+        head_of (sheet_of placed) grid rows number
+        ≡ head_text (chars host.name) (chars (printed_label placed.source.file.principals host.label))
+        (has_part (record { 0 = number }) rows) (place_of grid (record { 0 = number }) 0 44) }
+    ensures as_many_hosts { (placed : PlacedSource) →
+        length (sheet_of placed).code.hosts ≡ length placed.source.file.hosts }
 
-    // Each field has one box, with its name, in the column of its host.
-    ensures fields { (plan : PlanShape) (fields : List FieldTree) (number : ℕ) (field : FieldTree) →
-        slice_get fields number ≡ Some field →
-        slice_get (field_boxes plan 0 fields) number ≡ Some (record {
-          class = codes "field";
-          host = field_host plan (record { 0 = number });
-          row = OfField (record { 0 = number });
-          label = field.name;
-        }) }
-    ensures as_many_fields { (plan : PlanShape) (fields : List FieldTree) →
-        length (field_boxes plan 0 fields) ≡ length fields }
+    // Each field has a row, in the column of its host, and its box says how it is declared, with its label.
+    ensures fields { (placed : PlacedSource) (number : ℕ) (field : FieldTree) →
+        slice_get placed.source.tree.fields number ≡ Some field →
+        (slice_get (rows_of (sheet_of placed)) number ≡ Some (field_row (sheet_of placed) number))
+        × ((shown : CodeFieldShape) × (field_at (sheet_of placed).code (record { 0 = number }) ≡ Some shown)
+        × IsDeclaredAs field shown)
+        × (field_label (sheet_of placed) (record { 0 = number })
+        ≡ chars (printed_label placed.source.file.principals field.label)) }
+    ensures as_many_fields { (placed : PlacedSource) →
+        length (sheet_of placed).code.fields ≡ length placed.source.tree.fields }
 
-    // Each statement has one box, with its number and its line, in the column of its host.
-    ensures statements { (plan : PlanShape) (lines : List ℕ) (number line : ℕ) → slice_get lines number ≡ Some line →
-        slice_get (statement_boxes plan 0 lines) number ≡ Some (record {
-          class = codes "statement";
-          host = statement_host plan (record { 0 = number });
-          row = OfStatement (record { 0 = number });
-          label = decimal number ++ (codes " line " ++ decimal line);
-        }) }
-    ensures as_many_statements { (plan : PlanShape) (lines : List ℕ) →
-        length (statement_boxes plan 0 lines) ≡ length lines }
+    // Each statement has a row, by `statements` of `plan_laws`, and its box shows its text by the tree.
+    ensures texts { (program hosts : List ℕ) (placed : PlacedSource) → PlacedSources program hosts (given placed) →
+        (sheet_of placed).texts ≡ program_texts placed.source.file.principals placed.source.tree }
+    ensures as_many_statements { (program hosts : List ℕ) (placed : PlacedSource) →
+        PlacedSources program hosts (given placed) →
+        length (sheet_of placed).texts ≡ length (statement_numbers placed.source.tree) }
 
-    // The boxes of fields and statements stand in the rows 1, 2, 3 and so on, below the names of the hosts. So no two
-    // boxes cover each other.
-    ensures rows { (plan : PlanShape) (fields : List FieldTree) (lines : List ℕ) →
-        map (λ box. row_number (length fields) box.row) (field_boxes plan 0 fields ++ statement_boxes plan 0 lines)
-        ≡ range_with_len 1 (length fields + length lines) }
+    // Each of them has one row, in the order of the numbers.
+    ensures each_field { (sheet : SheetShape) →
+        filter_map field_in (rows_of sheet) ≡ range_with_len 0 (length sheet.code.fields) }
+    ensures each_statement { (sheet : SheetShape) →
+        filter_map statement_in (rows_of sheet) ≡ range_with_len 0 (length sheet.texts) }
 
-    // An arrow leads from a host to another one.
-    ensures apart { (sheet : SheetShape) → All (λ arrow. arrow.asked.to.0 ≢ arrow.from.0) (code_arrows sheet) }
+    // The box of a statement has a mark exactly where one of its own expressions releases a value.
+    ensures released { (program hosts : List ℕ) (placed : PlacedSource) (number : ℕ) (text : StatementTextShape)
+        (room : ℕ) (place : Place) → PlacedSources program hosts (given placed) →
+        slice_get (sheet_of placed).texts number ≡ Some text →
+        (mark : Bool) × ((mark ≡ true) ↔ Contains (program_releases placed.source.tree) number)
+        × (statement_of (sheet_of placed) (record { 0 = number }) room place
+        ≡ statement_text text number (slice_index (statement_lines placed.source.tree) number) mark room place) }
+
+    // The ways are what the instructions of the code ask for, one for each, from and to their hosts, beside results
+    // and tokens that are given back, and but for those that would begin and end in one row.
+    ensures asks { (placed : PlacedSource) → (asked : List Way)
+        × (map request_of asked ≡ code_requests (code_of placed) placed.plan)
+        × (filter is_asked (sheet_of placed).ways ≡ flat_map apart asked) }
+    // A way leads from a host to another, but for calls and what comes back from them.
+    ensures between { (placed : PlacedSource) →
+        All (λ way. way.from.0 ≡ way.to.0 → may_stay way ≡ true) (sheet_of placed).ways }
 
     // For words and files that tell what they hold one verdict is due, after one number of loads.
     ensures one_verdict { (words : List (List ℕ)) (holds : List ℕ → Option (List ℕ))
@@ -78,21 +111,17 @@ pub fn picture_laws()
     ensures some_verdict { (words : List (List ℕ)) (held : Option (List ℕ → Option (List ℕ))) →
         (number : ℕ) × (verdict : VerdictShape) × Due words held number verdict }
 
-    // Worked: the box of a field on the second host, where there are two fields.
-    ensures worked_box { box_text 2 (record {
-      class = codes "field";
-      host = record { 0 = 1 };
-      row = OfField (record { 0 = 0 });
-      label = codes "a";
-    })
-        ≡ codes "<svg class='field' x='" ++ (decimal 270 ++ (codes "' y='" ++ (decimal 146
-        ++ (codes "' width='180' height='24'><title>a</title>"
-        ++ codes "<rect x='1' y='1' width='178' height='22'/><text x='8' y='16'>a</text></svg>\n")))) }
-
     // Worked: no words are due the usage line after no load, and where no file is held, two are due the line that the
     // program is absent, after one load.
     ensures worked_no_words { (held : Option (List ℕ → Option (List ℕ))) → Due [] held 0 usage }
     ensures worked_absent { Due (codes "P" ∷ codes "H" ∷ []) (Some (λ name. None)) 1 (no_such_file (codes "P")) }
 {
     source_laws();
+    host_file_laws();
+    named_laws();
+    program_laws();
+    plan_laws();
+    way_laws();
+    release_laws();
+    text_laws();
 }

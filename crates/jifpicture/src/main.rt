@@ -1,34 +1,24 @@
-//! Draws where the parts of a program stand that computes over the secrets of several parties, and what its hosts ask
-//! of each other.
+//! Draws where the parts of a program stand that computes over the secrets of several parties, and how control and
+//! values go between its hosts.
 //!
-//! **Promises.** The picture has a box for each host, field and statement, where the plan has it, and an arrow for each
-//! message that an instruction asks for.
+//! **Promises.** The picture of the plan that `check` finds: a box for each host, field and statement, where the plan
+//! has it, an arrow for each message that an instruction asks for, and a mark at each statement that releases something.
 //!
-//! **Begin** with `specs/Picture.antt`.
+//! **Begin** with `specs/Picture.antt`; `plan_picture` says how the picture looks.
 //!
 //! **Stays.** It refuses what `check` refuses, in the same words.
 //!
 //! It stands on `front_end` alone, so that its proof need not wait for that of `split_cli`. What is due is put out by
-//! `answers` of `front_end`, as that of `jifsplit` is. Each loop keeps that what was written and what the rest of the
-//! list gives make the whole (`proofs/Walks`), so the row at which an arrow begins is an argument of the definition and
-//! needs no fact of its own.
+//! `answers` of `front_end`, as that of `jifsplit` is.
 //!
-//! - `layout`: columns and rows
-//! - `kind`: the kinds of messages, with their strokes and words
-//! - `boxes`: the boxes of hosts, fields and statements
-//! - `arrows`: what instructions ask of other hosts
-//! - `picture`: the whole text
+//! - `picture`: what the picture is drawn by, and its text
 //! - `due`: what is due for two words: the files, as `check` reads them, and the picture
 //! - `top`: the public call: puts out what is due
-//! - `laws`: where boxes stand; one thing is due, and some thing is
+//! - `laws`: what stands in the picture of a program; one thing is due, and some thing is
 #![tactic(auto)]
 
-mod arrows;
-mod boxes;
 mod due;
-mod kind;
 mod laws;
-mod layout;
 mod picture;
 mod top;
 

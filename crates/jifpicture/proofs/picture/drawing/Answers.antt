@@ -1,12 +1,14 @@
-use Rattle.std.proofs.Common.{map}
-use Rattle.jif_tree.specs.Trees.{field_tree}
-use Rattle.jifpicture.specs.Arrows.{sheet_shape}
-use Rattle.jifpicture.proofs.Drawings.{pieces_joined}
+use Rattle.std.proofs.Common.{map, ap, ◌∙◌}
+use Rattle.jif_tree.specs.Trees.{program_tree}
+use Rattle.statement_texts.specs.Texts.{statement_text_shape}
+use Rattle.plan_ways.specs.Whole.{plan_ways_shape}
+use Rattle.jifpicture.proofs.Sheets.{drawn_is}
 use Rattle.jifpicture.proofs.picture.drawing.Goals as goal
 
 pub returns : goal.returns
 returns c =
-    pieces_joined (sheet_shape c.args.sheet.now) c.args.hosts.now (map field_tree c.args.fields.now) c.args.lines.now
-    _ _ _ _ _ _ _ _ (rw c.new-text.ensures.bytes at c.in_ok-push_first.ensures) c.in_ok-push_str.ensures.bytes
-    c.in_ok-push_lanes.ensures c.in_ok-push_arrows.ensures c.in_ok-push_hosts.ensures c.in_ok-push_fields.ensures
-    c.in_ok-push_statements.ensures c.in_ok-push_str-2.ensures.bytes
+    drawn_is (program_tree c.args.program.now) c.args.code.now c.args.plan.now c.args.principals.now c.args.cost _ _ _
+    (plan_ways_shape c.in_ok-ways.ways) _ _
+    (ap (map statement_text_shape) c.deref.ensures.value ∙ c.in_ok-texts.ensures)
+    (c.deref-2.ensures.value ∙ c.in_ok-lines.ensures) (c.deref-3.ensures.value ∙ c.in_ok-released.ensures)
+    c.in_ok-ways.ensures c.new-text.ensures.bytes c.in_ok-push_plan.ensures

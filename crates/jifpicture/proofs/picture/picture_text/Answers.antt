@@ -1,15 +1,10 @@
-use Rattle.std.proofs.Common.{◌≡◌, ◌∙◌, ap, arith, length, rules, vec_len}
+use Rattle.std.proofs.Common.{◌≡◌, ◌∙◌, ap}
 use Rattle.host_decl.specs.Hosts.{HostsShape}
 use Rattle.jif_tree.specs.Trees.{program_tree}
-use Rattle.front_end.specs.PlacedShapes.{PlacedModel}
+use Rattle.front_end.specs.PlacedShapes.{PlacedModel, placed_shape}
 use Rattle.front_end.specs.SourceShapes.{SourceModel}
-use Rattle.jifpicture.proofs.Drawings.{picture_drawn}
-use Rattle.front_end.proofs.LineCounts.{few_lines}
+use Rattle.jifpicture.proofs.Sheets.{picture_drawn}
 use Rattle.jifpicture.proofs.picture.picture_text.Goals as goal
-
-pub drawing-requires-clause-lines : goal.drawing-requires-clause-lines
-drawing-requires-clause-lines c =
-    let few = few_lines (program_tree c.source.inside.checked.program) c.source.invariant.read.within in search rules
 
 pub returns : goal.returns
 returns c =
@@ -20,12 +15,10 @@ returns c =
       allowed = c.placed.inside.allowed;
       plan = c.placed.inside.plan;
     } in
-    let placed : PlacedModel = with_source source in
-    let same : placed ≡ c.args.placed.now = ap with_source c.source.view_is ∙ c.placed.view_is in
-    let program = source.checked.program in
-    let fields : vec_len program.fields ≡ length program.fields.items = omega arith in
-    picture_drawn c.drawing.result placed c.args.placed.now c.in_ok-code.code c.len-count.result
-    c.hosts-rows.result.now c.deref.result.now c.deref-2.result.now same c.in_ok-code.ensures
-    (c.len-count.ensures ∙ fields)
-    (c.hosts-rows.ensures.hosts ∙ ap (λ (h : HostsShape). h.hosts) c.hosts-hosts.ensures) c.deref.ensures.value
-    (c.deref-2.ensures.value ∙ c.in_ok-lines.ensures) c.drawing.ensures
+    let same : with_source source ≡ c.args.placed.now = ap with_source c.source.view_is ∙ c.placed.view_is in
+    picture_drawn c.drawing.result (placed_shape c.args.placed.now) (program_tree source.checked.program)
+    c.in_ok-code.code c.placed.inside.plan c.principals.result.now c.cost.result
+    (ap (λ (p : PlacedModel). program_tree p.source.checked.program) same) c.in_ok-code.ensures
+    (ap (λ (p : PlacedModel). p.plan) same)
+    (c.principals.ensures.principals ∙ ap (λ (h : HostsShape). h.principals) c.hosts-hosts.ensures)
+    c.cost.ensures c.drawing.ensures
