@@ -1,0 +1,9 @@
+pub mod BarLaws
+pub mod Charts
+pub mod ColumnLaws
+pub mod LegendLaws
+pub mod ListedRows
+pub mod Moments
+pub mod PlaceLaws
+pub mod Stands
+pub mod Walks

@@ -1,0 +1,14 @@
+use Rattle.std.proofs.Common.{ℕ, refl}
+use Rattle.run_chart.specs.Heads.{life_of, lives_text}
+use Rattle.run_chart.specs.Columns.{column_at}
+use Rattle.run_chart.specs.Sheets.{ChartHostShape, chart_host_shape}
+use Rattle.run_chart.proofs.Walks.{shape_written}
+use Rattle.run_chart.proofs.heads.push_lives.Goals as goal
+
+pub loop-number-preserved : goal.loop-number-preserved
+loop-number-preserved c =
+    shape_written chart_host_shape (lives_text c.args.from c.args.to c.args.columns.now)
+    (λ (n : ℕ) (host : ChartHostShape). life_of c.args.from c.args.to (column_at c.args.columns.now n) host.misbehaves)
+    (λ n y ys. refl) c.args.hosts.now c.loop-number.number _ c.index-hosts-number.result _ _ _ c.loop-number-test.true
+    c.index-hosts-number.is c.loop-number.invariant
+    (rw c.column_at-column.ensures at c.in_ok-push_life_of.ensures)

@@ -1,0 +1,15 @@
+pub mod Arrows
+pub mod Bars
+pub mod Chart
+pub mod Columns
+pub mod Events
+pub mod Foot
+pub mod Grids
+pub mod Heads
+pub mod Legend
+pub mod Listed
+pub mod Rows
+pub mod Samples
+pub mod Sheets
+pub mod Texts
+pub mod Threads
