@@ -2,13 +2,14 @@
 //! values go between its hosts.
 //!
 //! **Promises.** The picture of the plan that `check` finds: a box for each host, field and statement, where the plan
-//! has it, an arrow for each message that an instruction asks for, and a mark at each statement that releases something.
+//! has it, an arrow for each message that an instruction asks for, and a mark at each statement that releases
+//! something.
 //!
 //! **Begin** with `specs/Picture.antt`; `plan_picture` says how the picture looks.
 //!
 //! **Stays.** It refuses what `check` refuses, in the same words.
 //!
-//! It stands on `front_end` alone, so that its proof need not wait for that of `split_cli`. What is due is put out by
+//! It does not stand on `split_cli`, so that its proof need not wait for that one. What is due is put out by
 //! `answers` of `front_end`, as that of `jifsplit` is.
 //!
 //! - `picture`: what the picture is drawn by, and its text
