@@ -9,8 +9,8 @@ use Rattle.host_code.specs.declared.message.Message.{Message}
 use Rattle.host_code.specs.declared.message.Message.TheVariants as message
 use Rattle.host_code.specs.Thread.{Awaited, WaitingShape}
 use Rattle.host_code.specs.Thread.Awaited.{value_of_field, acknowledgement, token_of_entry}
-use Rattle.host_core.specs.Host.{HostShape}
-use Rattle.host_core.specs.Taking.{Passes, place_of_awaiting}
+use Rattle.host_core.specs.Host.{HostState}
+use Rattle.host_core.specs.Taking.{PassesCheck, place_of_awaiting}
 use Rattle.net_world.specs.Fits.{ShapeFits, IsStateOf}
 use Rattle.net_world.specs.Flying.{Flight}
 use Rattle.net_world.specs.World.{WorldShape, state_at}
@@ -20,13 +20,13 @@ use Rattle.seen_world.specs.Eyes.{Eyes, sees_at}
 use Rattle.seen_world.specs.Points.{AsksAt, WaitsWell, HostKeeps, IsAskedBy, IsInFlight, PointsHold}
 use Rattle.seen_world.proofs.SeenPlaces.{some_is}
 use Rattle.agreement.specs.Leads.{waits, Hides, IsMailOf, FliesTo, HeldAt, Leads}
-use Rattle.agreement.specs.Views.{View, Spot, flies_open}
+use Rattle.agreement.specs.Views.{LowView, Spot, flies_open}
 use Rattle.agreement.proofs.AnswersTaken.{found_waiting}
 use Rattle.agreement.proofs.Ends.{own_waiting}
 use Rattle.agreement.proofs.HiddenTakes.{holder_flies, no_request}
 
 -- the thread is found that waits for it
-waits_found : (eyes : Eyes) (state : HostShape) (host from : HostId) (waiting : WaitingShape) (flight : Flight)
+waits_found : (eyes : Eyes) (state : HostState) (host from : HostId) (waiting : WaitingShape) (flight : Flight)
     (awaited : Awaited) (request : RequestId) → HostKeeps eyes state.me state →
     Hides eyes (waits host waiting from state.me flight) [] state.me (record state { entries = [] }) →
     AsksAt eyes state.me request.at awaited from → Some request ≡ Some waiting.request → from ≡ waiting.asked →
@@ -42,11 +42,11 @@ waits_found eyes state host from waiting flight awaited request keeps hides asks
     (some_is number) asked in
     subst IsSome (sym found.is) refl
 
-waiting_passes : (eyes : Eyes) (state : HostShape) (host from : HostId) (waiting : WaitingShape) (flight : Flight)
+waiting_passes : (eyes : Eyes) (state : HostState) (host from : HostId) (waiting : WaitingShape) (flight : Flight)
     (said : Message) → HostKeeps eyes state.me state →
     Hides eyes (waits host waiting from state.me flight) [] state.me (record state { entries = [] }) →
     IsAskedBy eyes from state.me said → IsMailOf host waiting from state.me said → IsSome (number_answered said) →
-    Passes eyes.code state from said
+    PassesCheck eyes.code state from said
 waiting_passes eyes state host from waiting flight (message.Value request value) keeps hides asks (inr mail) answers =
     waits_found eyes state host from waiting flight value_of_field request keeps hides asks mail.0 mail.1 mail.2
 waiting_passes eyes state host from waiting flight (message.Ack request) keeps hides asks (inr mail) answers =
@@ -88,11 +88,11 @@ flying_none eyes to (message.Value request value) spot goes answers = absurd goe
 flying_none eyes to (message.Ack request) spot goes answers = absurd goes
 flying_none eyes to (message.Token request token) spot goes answers = absurd goes
 
-at_me : (eyes : Eyes) (world : WorldShape) (from : HostId) (place : ℕ) (flight : Flight) (state : HostShape)
-    (shown : View) → PointsHold eyes world → HostKeeps eyes state.me state →
+at_me : (eyes : Eyes) (world : WorldShape) (from : HostId) (place : ℕ) (flight : Flight) (state : HostState)
+    (shown : LowView) → PointsHold eyes world → HostKeeps eyes state.me state →
     slice_get (world.flying from state.me) place ≡ Some flight → state_at world state.me ≡ Some state →
     sees_at eyes flight.label ≡ false → IsSome (number_answered flight.message) → Leads eyes world shown →
-    Passes eyes.code state from flight.message
+    PassesCheck eyes.code state from flight.message
 at_me eyes world from place flight state shown points own there here hidden answers leads =
     let me = state.me in
     let keeps = leads.keeps in
@@ -113,10 +113,10 @@ at_me eyes world from place flight state shown points own there here hidden answ
     ]
 
 pub answer_passes : (eyes : Eyes) (world : WorldShape) (from to : HostId) (place : ℕ) (flight : Flight)
-    (state : HostShape) (shown : View) → ShapeFits eyes.code world → PointsHold eyes world →
+    (state : HostState) (shown : LowView) → ShapeFits eyes.code world → PointsHold eyes world →
     slice_get (world.flying from to) place ≡ Some flight → state_at world to ≡ Some state →
     sees_at eyes flight.label ≡ false → IsSome (number_answered flight.message) → Leads eyes world shown →
-    Passes eyes.code state from flight.message
+    PassesCheck eyes.code state from flight.message
 answer_passes eyes world from to place flight state shown fits points there here hidden answers leads =
     let fit : IsStateOf eyes.code to state =
     subst (λ one. IfSome one (IsStateOf eyes.code to)) here (fits.states to) in

@@ -19,19 +19,19 @@ use Rattle.host_code.specs.Code.{CodeShape, part_of, instruction_at}
 use Rattle.host_code.specs.Thread.{ThreadShape, Awaited, WaitingShape}
 use Rattle.host_code.specs.Thread.Awaited.{value_of_field, acknowledgement, token_of_entry}
 use Rattle.host_core.specs.Awaiting.{is_same_answer, awaits}
-use Rattle.host_core.specs.Host.{HostShape}
+use Rattle.host_core.specs.Host.{HostState}
 use Rattle.host_core.specs.Taking.{place_of_awaiting, after_answer}
 use Rattle.net_world.specs.Flying.{Flight}
 use Rattle.split_shades.specs.ShadedCode.{IsShadedOp}
-use Rattle.split_shades.specs.Shades.{Ahead, Meets}
+use Rattle.split_shades.specs.Shades.{Ahead, MeetsShade}
 use Rattle.token_laws.proofs.Tests.{itself}
 use Rattle.seen_world.specs.Eyes.{Eyes, AreEyes, is_open}
-use Rattle.seen_world.specs.Points.{IsAt, AsksFor, AsksAt, WaitsWell}
+use Rattle.seen_world.specs.Points.{IsInstructionAt, AsksFor, AsksAt, WaitsWell}
 use Rattle.seen_world.proofs.SeenPlaces.{some_is}
 use Rattle.seen_world.proofs.TakesKept.{same_place, awaits_at}
 use Rattle.seen_world.proofs.TurnsKept.{meets_next}
-use Rattle.agreement.specs.Leads.{runs, waits, Link, hidden_waiting, Owes}
-use Rattle.agreement.specs.Views.{View, at, Owed, running_view, waits_open}
+use Rattle.agreement.specs.Leads.{runs, waits, HiddenEntry, hidden_waiting, Owes}
+use Rattle.agreement.specs.Views.{LowView, at, OwedInView, running_view, waits_open}
 use Rattle.agreement.proofs.Ends.{Ends, nothing_seen, unseen_runs}
 use Rattle.agreement.proofs.Exits.{within_of}
 use Rattle.agreement.proofs.Lists.{not_left, left_removed, only_taken, only_there}
@@ -91,13 +91,13 @@ same_awaited eyes host place one other on from first second =
 -- it goes on unseen, and what is owed stays
 record Behind (eyes : Eyes) (me : HostId) (place : ℕ) : Type 0 where
   hidden : is_open eyes me (place + 1) ≡ false
-  owes : (links : List Link) (owed : Owed) (frame : FrameId) (token : Token) →
+  owes : (links : List HiddenEntry) (owed : OwedInView) (frame : FrameId) (token : Token) →
       Owes eyes (at me place frame token) links owed → Owes eyes (at me (place + 1) frame token) links owed
 
 deep_behind : (eyes : Eyes) (me : HostId) (place : ℕ) (there : Instr) (next : Ahead) → AreEyes eyes →
     instruction_at eyes.code me place ≡ Some there → is_open eyes me place ≡ false →
     place + 1 < length (part_of eyes.code me) → (eyes.shades.at me place).guard ≡ None →
-    Meets next (eyes.shades.at me (suc place)) → next.block ≡ (eyes.shades.at me place).block →
+    MeetsShade next (eyes.shades.at me (suc place)) → next.block ≡ (eyes.shades.at me place).block →
     Behind eyes me place
 deep_behind eyes me place there next are is hidden within unguarded meets block =
     let deep = deep_of eyes are me place there is unguarded hidden in
@@ -148,7 +148,7 @@ behind_asking eyes me place there (op.Branch guard target) awaited on are is hid
 -- ---- the thread that waits
 
 -- The thread for which an answer is on its way, which is the only one that waits unseen, is the one that is found.
-pub record Found (eyes : Eyes) (state : HostShape) (waiting : WaitingShape) (awaited : Awaited) (request : RequestId)
+pub record Found (eyes : Eyes) (state : HostState) (waiting : WaitingShape) (awaited : Awaited) (request : RequestId)
     (from : HostId) : Type 0 where
   pub place : ℕ
   pub is : place_of_awaiting state awaited request from ≡ Some place
@@ -180,7 +180,7 @@ answer_awaited waiting awaited request from kind number asked =
     all_true true false c d one two three four = absurd (false≢true two)
     all_true false b c d one two three four = absurd (false≢true one)
 
-pub found_waiting : (eyes : Eyes) (state : HostShape) (from : HostId) (waiting : WaitingShape) (awaited : Awaited)
+pub found_waiting : (eyes : Eyes) (state : HostState) (from : HostId) (waiting : WaitingShape) (awaited : Awaited)
     (request : RequestId) → hidden_waiting eyes state.me state.waiting ≡ waiting ∷ [] →
     ((place : ℕ) (one : WaitingShape) → slice_get state.waiting place ≡ Some one → WaitsWell eyes state.me one) →
     AsksAt eyes state.me request.at awaited from → request ≡ waiting.request → from ≡ waiting.asked →
@@ -217,8 +217,8 @@ found_waiting eyes state from waiting awaited request only each asks number aske
 
 -- ---- the thread goes on
 
-pub answer_ends : (eyes : Eyes) (state : HostShape) (from : HostId) (waiting : WaitingShape) (flight : Flight)
-    (links : List Link) (before token : Token) (owed : Owed) (now shown : View) (awaited : Awaited)
+pub answer_ends : (eyes : Eyes) (state : HostState) (from : HostId) (waiting : WaitingShape) (flight : Flight)
+    (links : List HiddenEntry) (before token : Token) (owed : OwedInView) (now shown : LowView) (awaited : Awaited)
     (request : RequestId) (answered : ThreadShape → ThreadShape) →
     Taken eyes state (waits state.me waiting from state.me flight) links
     (at state.me waiting.request.at waiting.thread.frame before) owed now shown from flight → before ≡ token →
@@ -234,7 +234,7 @@ answer_ends eyes state from waiting flight links before token owed now shown awa
     place frame held within =
     let me = state.me in
     let thread = answered waiting.thread in
-    let new : HostShape = record state {
+    let new : HostState = record state {
       running = option_map (λ (one : WaitingShape). answered one.thread) (slice_get state.waiting found.place);
       waiting = remove state.waiting found.place;
     } in
@@ -292,7 +292,7 @@ answer_ends eyes state from waiting flight links before token owed now shown awa
       };
     })
   where
-    are_shaded : (it : Op) (at_it : IsAt eyes state.me waiting.request.at it) →
+    are_shaded : (it : Op) (at_it : IsInstructionAt eyes state.me waiting.request.at it) →
         IsShadedOp eyes.scene eyes.shades state.me waiting.request.at it
     are_shaded it at_it =
         subst (IsShadedOp eyes.scene eyes.shades state.me waiting.request.at) at_it.2

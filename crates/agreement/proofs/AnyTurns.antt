@@ -21,7 +21,7 @@ use Rattle.host_code.specs.Code.{CodeShape, CodeFieldShape, instruction_at, fiel
 use Rattle.host_code.specs.Sound.{OperationFits}
 use Rattle.host_code.specs.Thread.{ThreadShape}
 use Rattle.host_core.specs.Fits.{RunningFits, TokenFits}
-use Rattle.host_core.specs.Host.{HostShape, with_running}
+use Rattle.host_core.specs.Host.{HostState, with_running}
 use Rattle.host_core.specs.Turn.{MayReturn, PassesWith, IsTurnOf, IsRunning}
 use Rattle.event_text.specs.declared.event.Event.{Event}
 use Rattle.event_text.specs.declared.event.Event.TheVariants.{Turn}
@@ -39,7 +39,7 @@ use Rattle.seen_world.proofs.SeenPlaces.{some_is}
 use Rattle.agreement.specs.Asking.{AsksElsewhere, RunsAsking}
 use Rattle.agreement.specs.Handing.{handed, RunsHanding}
 use Rattle.agreement.specs.Leads.{Agree}
-use Rattle.agreement.specs.Turns.{ChangesAlone, RunsAlone}
+use Rattle.agreement.specs.Turns.{ChangesAlone, RunsAtInstruction}
 use Rattle.agreement.proofs.AskingsAgree.{asks_agree}
 use Rattle.agreement.proofs.Places.{instruction_within}
 use Rattle.agreement.proofs.SeenAgree.{state_me, turn_agrees, hands_agree}
@@ -79,7 +79,7 @@ sends_away : (me to : HostId) (said : Message) → (to.0 == me.0) ≡ false →
     (on : HostId) × (sent : Message) × ((if to.0 == me.0 then None else letter to said) ≡ Some (on, sent))
 sends_away me to said apart = (to, said, rw apart refl)
 
-return_kind : (code : CodeShape) (host : HostShape) (token : Token) (x : VarId) (value : List Node) (passes : Bool) →
+return_kind : (code : CodeShape) (host : HostState) (token : Token) (x : VarId) (value : List Node) (passes : Bool) →
     (IsTrue passes ↔ PassesWith code host (op.Ret x value) (Some token)) →
     ((token.host ≡ host.me) ⊎ (¬ MayReturn code (variable_at code x) token.host))
     ⊎ ((token.host ≢ host.me) × MayReturn code (variable_at code x) token.host)
@@ -95,7 +95,7 @@ return_kind code host token x value passes checks = elim (host_or_not token.host
     by true one other apart = inr (apart, one refl (λ same. apart (same_id token.host host.me same)))
     by false one other apart = inl (inr (λ may. false≢true (other (λ same. may))))
 
-operation_kind : (code : CodeShape) (host : HostShape) (thread : ThreadShape) (token : Token) (count : ℕ) (it : Op)
+operation_kind : (code : CodeShape) (host : HostState) (thread : ThreadShape) (token : Token) (count : ℕ) (it : Op)
     (passes : Bool) → OperationFits code host.me count it → (IsTrue passes ↔ PassesWith code host it (Some token)) →
     Kind code host.variables host.me thread token it
 operation_kind code host thread token count (op.Read field index) passes fits checks =
@@ -139,7 +139,7 @@ operation_kind code host thread token count op.Back passes fits checks = elim (h
 pub turn_kind : (eyes : Eyes) (rows : List declared_hosts.HostShape) (bad : ℕ) (store : List (List ℤ))
     (events : List Event) (world after : WorldShape) (host : HostId) →
     IsReached eyes.code rows bad store events world → IsStep eyes.code world (Turn host) after →
-    RunsAlone eyes.code world host ⊎ (RunsHanding eyes.code world host ⊎ RunsAsking eyes.code world host)
+    RunsAtInstruction eyes.code world host ⊎ (RunsHanding eyes.code world host ⊎ RunsAsking eyes.code world host)
 turn_kind eyes rows bad store events world after host reach step =
     let code = eyes.code in
     let old = step.state in
@@ -276,18 +276,18 @@ hands_asks code variables me thread token other op.Back to said is asks = asks
 hands_asks code variables me thread token other it to said is asks = cc
 
 -- a host runs one thread, at one instruction
-one_run : (code : CodeShape) (world : WorldShape) (host : HostId) (one other : HostShape) (thread twin : ThreadShape)
+one_run : (code : CodeShape) (world : WorldShape) (host : HostId) (one other : HostState) (thread twin : ThreadShape)
     (there mine : Instr) → state_at world host ≡ Some one → state_at world host ≡ Some other →
     one.running ≡ Some thread → other.running ≡ Some twin → instruction_at code host thread.at ≡ Some there →
     instruction_at code host twin.at ≡ Some mine → (thread ≡ twin) × (there ≡ mine)
 one_run code world host one other thread twin there mine is_one is_other runs runs_other is is_mine =
     let state : one ≡ other = some_is (sym is_one ∙ is_other) in
-    let same : thread ≡ twin = some_is (sym runs ∙ ap (λ (s : HostShape). s.running) state ∙ runs_other) in
+    let same : thread ≡ twin = some_is (sym runs ∙ ap (λ (s : HostState). s.running) state ∙ runs_other) in
     (same, some_is (sym is ∙ ap (λ (t : ThreadShape). instruction_at code host t.at) same ∙ is_mine))
 
 pub kinds_apart : (code : CodeShape) (world : WorldShape) (host : HostId) →
-    (¬ (RunsAlone code world host × RunsHanding code world host))
-    × (¬ (RunsAlone code world host × RunsAsking code world host))
+    (¬ (RunsAtInstruction code world host × RunsHanding code world host))
+    × (¬ (RunsAtInstruction code world host × RunsAsking code world host))
     × (¬ (RunsHanding code world host × RunsAsking code world host))
 kinds_apart code world host = (
   λ both.

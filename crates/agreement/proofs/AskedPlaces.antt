@@ -12,11 +12,11 @@ use Rattle.host_code.specs.declared.instruction.Op.TheVariants as op
 use Rattle.host_code.specs.Thread.{Awaited, WaitingShape}
 use Rattle.host_code.specs.Thread.Awaited.{value_of_field, acknowledgement, token_of_entry}
 use Rattle.host_core.specs.Awaiting.{is_same_answer, awaits}
-use Rattle.host_core.specs.Host.{HostShape}
+use Rattle.host_core.specs.Host.{HostState}
 use Rattle.host_core.specs.Taking.{place_of_awaiting}
 use Rattle.split_shades.specs.Basis.{read_label}
 use Rattle.split_shades.specs.ShadedCode.{IsShadedOp}
-use Rattle.split_shades.specs.Shades.{Ahead, Meets}
+use Rattle.split_shades.specs.Shades.{Ahead, MeetsShade}
 use Rattle.seen_world.specs.Eyes.{Eyes, AreEyes, is_open}
 use Rattle.seen_world.specs.Points.{AsksFor, AsksAt, WaitsWell, HostKeeps}
 use Rattle.seen_world.proofs.TakesKept.{waits_at, same_place}
@@ -46,7 +46,7 @@ pub given_token : token_of_entry ≢ value_of_field
 given_token same = absurd (cc)
 
 clears_behind : (eyes : Eyes) (me : HostId) (place : ℕ) (awaited : Awaited) (next : Ahead) →
-    Meets next (eyes.shades.at me (suc place)) → next.block ≡ (eyes.shades.at me place).block → next.temps ≡ [] →
+    MeetsShade next (eyes.shades.at me (suc place)) → next.block ≡ (eyes.shades.at me place).block → next.temps ≡ [] →
     awaited ≢ value_of_field → BehindAsking eyes me place awaited
 clears_behind eyes me place awaited next meets block temps apart =
     let meet = meets_next eyes me place next meets in
@@ -118,7 +118,7 @@ same_kind token_of_entry value_of_field request from same = absurd (false≢true
 same_kind token_of_entry acknowledgement request from same = absurd (false≢true same)
 
 -- where nothing waits unseen, a test of who is awaited finds the same in what is seen
-pub awaiting_seen : (eyes : Eyes) (state : HostShape) (shown : HostView) (awaited : Awaited) (request : RequestId)
+pub awaiting_seen : (eyes : Eyes) (state : HostState) (shown : HostView) (awaited : Awaited) (request : RequestId)
     (from : HostId) → hidden_waiting eyes state.me state.waiting ≡ [] → ShowsHost eyes state.me state shown →
     place_of_awaiting (host_checked state.me shown) awaited request from
     ≡ place_of_awaiting state awaited request from
@@ -128,7 +128,7 @@ awaiting_seen eyes state shown awaited request from none shows =
     ∙ position_mapped (awaits awaited request from) (waiter_view eyes state.me) state.waiting
 
 -- The thread that an answer comes to waits at a place that may be seen, and is seen waiting there.
-pub record Woken (eyes : Eyes) (state : HostShape) (shown : HostView) (awaited : Awaited) (request : RequestId)
+pub record Woken (eyes : Eyes) (state : HostState) (shown : HostView) (awaited : Awaited) (request : RequestId)
     (from : HostId) : Type 0 where
   pub place : ℕ
   pub is : place_of_awaiting state awaited request from ≡ Some place
@@ -142,7 +142,7 @@ pub record Woken (eyes : Eyes) (state : HostShape) (shown : HostView) (awaited :
   pub seen_there : slice_get shown.waiting place ≡ Some (waiter_view eyes state.me waiting)
   pub behind : BehindAsking eyes state.me waiting.request.at awaited
 
-pub woken_at : (eyes : Eyes) (state : HostShape) (shown : HostView) (awaited : Awaited) (request : RequestId)
+pub woken_at : (eyes : Eyes) (state : HostState) (shown : HostView) (awaited : Awaited) (request : RequestId)
     (from : HostId) → AreEyes eyes → HostKeeps eyes state.me state → hidden_waiting eyes state.me state.waiting ≡ [] →
     ShowsHost eyes state.me state shown → IsSome (place_of_awaiting state awaited request from) →
     Woken eyes state shown awaited request from

@@ -11,7 +11,7 @@ use Rattle.net_world.specs.Flying.{Flight}
 use Rattle.token_laws.specs.TokenExamples.{small, host_id, a_field, first_request, second_token}
 use Rattle.agreement.specs.Asking.{AsksElsewhere, carried_index, SeenAsking}
 use Rattle.agreement.specs.AskingExamples.{asked_for}
-use Rattle.agreement.specs.Views.{View}
+use Rattle.agreement.specs.Views.{LowView}
 use Rattle.agreement.specs.Worked.{small_eyes, a_variable, runs_at, came_to, seven}
 use Rattle.agreement.proofs.AskingsAgree.{asking_once}
 use Rattle.agreement.proofs.WorkedViews.{more_runs}
@@ -68,7 +68,7 @@ asks_for_more seen =
     let same = asking_once small_eyes (came_to 1) (host_id 0) (carried_index (pos 0)) (asked_for (pos 0))
     (asked_for (pos 7)) asks_once seen in
     let never : pos 0 ≡ pos 7 =
-    ap (λ (v : View). first_index (v.flying (host_id 0) (host_id 1))) same in
+    ap (λ (v : LowView). first_index (v.flying (host_id 0) (host_id 1))) same in
     absurd (cc)
 
 -- it waits, and does not run on

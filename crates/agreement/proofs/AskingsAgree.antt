@@ -12,7 +12,7 @@ use Rattle.host_code.specs.declared.instruction.Op.TheVariants as op
 use Rattle.host_code.specs.Code.{instruction_at}
 use Rattle.host_code.specs.Sound.{IsSoundCode, IsHost, OperationFits}
 use Rattle.host_code.specs.Thread.{ThreadShape}
-use Rattle.host_core.specs.Host.{HostShape, value_in_thread, next_request}
+use Rattle.host_core.specs.Host.{HostState, value_in_thread, next_request}
 use Rattle.event_text.specs.declared.event.Event.{Event}
 use Rattle.event_text.specs.declared.event.Event.TheVariants.{Turn}
 use Rattle.net_world.specs.Fits.{ShapeFits}
@@ -29,7 +29,7 @@ use Rattle.agreement.specs.Asking.{host_waiting, SeenAsking}
 use Rattle.agreement.specs.Handing.{sent_view}
 use Rattle.agreement.specs.Leads.{Leads, Agree}
 use Rattle.agreement.specs.Turns.{Carried, carried_value}
-use Rattle.agreement.specs.Views.{View, masked, sees_variable, sees_read, with_host}
+use Rattle.agreement.specs.Views.{LowView, masked, sees_variable, sees_read, with_host}
 use Rattle.agreement.proofs.CarriedSame.{Twins, ReleaseAlike, masks_same, read_sees, index_same, operation_same}
 use Rattle.agreement.proofs.Lists.{each_same}
 use Rattle.agreement.proofs.ReleasedTurns.{turns_release}
@@ -41,7 +41,7 @@ use Rattle.agreement.proofs.SeenLeads.{Calm, calm_open}
 
 -- ---- one view
 
-pub asking_once : (eyes : Eyes) (now : View) (host : HostId) (carried : Carried) (first second : View) →
+pub asking_once : (eyes : Eyes) (now : LowView) (host : HostId) (carried : Carried) (first second : LowView) →
     SeenAsking eyes now host carried first → SeenAsking eyes now host carried second → first ≡ second
 asking_once eyes now host carried first second one two =
     let thread : two.thread ≡ one.thread = same_first two.thread one.thread (sym two.running ∙ one.running) in
@@ -56,7 +56,7 @@ asking_once eyes now host carried first second one two =
     some_is (sym two.asks_so ∙ ap (λ (t : ThreadShape). asks t two.token two.instruction.op) thread
     ∙ ap (λ (k : Token). asks one.thread k two.instruction.op) token
     ∙ ap (λ (i : Instr). asks one.thread one.token i.op) there ∙ one.asks_so) in
-    let seen : ThreadShape → Question → ℕ → View = λ t q label.
+    let seen : ThreadShape → Question → ℕ → LowView = λ t q label.
     sent_view (with_host now host (host_waiting shown (request_shown shown t.at) q)) host q.to
     (record { message = q.said; label = label }) (eyes.bad q.to) in
     one.seen
@@ -66,7 +66,7 @@ asking_once eyes now host carried first second one two =
 
 -- ---- what is carried
 
-asking_same : (eyes : Eyes) (me : HostId) (one other : HostShape) (thread twin : ThreadShape) (count : ℕ) (it : Op) →
+asking_same : (eyes : Eyes) (me : HostId) (one other : HostState) (thread twin : ThreadShape) (count : ℕ) (it : Op) →
     AreEyes eyes → Twins eyes me one other thread twin → is_open eyes me thread.at ≡ true →
     IsShadedOp eyes.scene eyes.shades me thread.at it → OperationFits eyes.code me count it →
     ReleaseAlike one other thread twin (eyes.shades.at me thread.at).released →
@@ -92,7 +92,7 @@ asking_same eyes me one other thread twin count it are same seen law fits releas
 -- ---- two worlds
 
 -- the other asks alike
-asking_too : (eyes : Eyes) (one other after : WorldShape) (now : View) (host : HostId) → ShapeFits eyes.code one →
+asking_too : (eyes : Eyes) (one other after : WorldShape) (now : LowView) (host : HostId) → ShapeFits eyes.code one →
     ShapeFits eyes.code other → Calm eyes one now → Calm eyes other now → RunsAsking eyes.code one host →
     IsStep eyes.code other (Turn host) after → RunsAsking eyes.code other host
 asking_too eyes one other after now host fits fits_other calm calm_other run step =
@@ -111,7 +111,7 @@ asking_too eyes one other after now host fits fits_other calm calm_other run ste
       asks = run.asks;
     }
 
-calm_asking : (eyes : Eyes) (one other : WorldShape) (now : View) (host : HostId)
+calm_asking : (eyes : Eyes) (one other : WorldShape) (now : LowView) (host : HostId)
     (run : RunsAsking eyes.code one host) (twin : RunsAsking eyes.code other host) → AreEyes eyes →
     IsSoundCode eyes.code →
     map (value_in_thread run.state run.thread) (eyes.shades.at host run.thread.at).released

@@ -12,17 +12,18 @@ use Rattle.host_code.specs.declared.code_expr.Node.{Node}
 use Rattle.host_code.specs.declared.instruction.Instr.{Instr}
 use Rattle.host_code.specs.declared.instruction.Op.TheVariants as op
 use Rattle.host_code.specs.Thread.{ThreadShape}
-use Rattle.host_core.specs.Host.{HostShape, with_running, after_clearing, value_in_thread}
+use Rattle.host_core.specs.Host.{HostState, with_running, after_clearing, value_in_thread}
 use Rattle.host_core.specs.Turn.{after_branch, with_thread}
 use Rattle.split_shades.specs.ShadedCode.{IsShadedOp}
-use Rattle.split_shades.specs.Shades.{Begun, Ahead, Meets}
-use Rattle.split_shades.specs.Shading.{Divides}
+use Rattle.split_shades.specs.Shades.{Begun, Ahead, MeetsShade}
+use Rattle.split_shades.specs.Shading.{DividesInShade}
 use Rattle.token_laws.proofs.Tests.{itself, different}
 use Rattle.seen_world.specs.Eyes.{Eyes, is_open, is_deep}
 use Rattle.seen_world.proofs.SeenPlaces.{block_seen}
 use Rattle.seen_world.proofs.TurnsKept.{meets_next}
-use Rattle.agreement.specs.Leads.{nobody, runs, Link, Owes}
-use Rattle.agreement.specs.Views.{View, HostView, ShowsHost, nowhere, at, Owed, nothing, goes_on, gives, Completed}
+use Rattle.agreement.specs.Leads.{nobody, runs, HiddenEntry, Owes}
+use Rattle.agreement.specs.Views.{LowView, HostView, ShowsHost, nowhere, at, OwedInView, nothing, goes_on, gives}
+use Rattle.agreement.specs.Views.{Completed}
 use Rattle.agreement.specs.Views.{exit_of}
 use Rattle.agreement.specs.Views.{masked_all, running_view, with_host, host_with_thread, thread_out}
 use Rattle.agreement.specs.Views as view
@@ -39,7 +40,7 @@ none_masked eyes [] = refl
 none_masked eyes (label ∷ labels) = refl
 
 -- what is seen of a host on which a thread comes to a place that may be seen, with no temporaries
-pub shown_out : (eyes : Eyes) (host : HostId) (new : HostShape) (shown : HostView) (place : ℕ) (frame : FrameId)
+pub shown_out : (eyes : Eyes) (host : HostId) (new : HostState) (shown : HostView) (place : ℕ) (frame : FrameId)
     (token : Token) → ShowsHost eyes host (with_running new None) shown →
     new.running ≡ Some (thread_out place frame token) → is_open eyes host place ≡ true →
     ShowsHost eyes host new (host_with_thread shown (thread_out place frame token))
@@ -61,10 +62,10 @@ shown_out eyes host new shown place frame token shows is seen = record {
         ∙ ap (λ ts. record (thread_out place frame token) { temporaries = ts } ∷ [])
         (none_masked eyes (eyes.shades.at host place).temps)
 
-pub own_view : (now : View) (host : HostId) (shown : HostView) → (with_host now host shown).hosts host ≡ shown
+pub own_view : (now : LowView) (host : HostId) (shown : HostView) → (with_host now host shown).hosts host ≡ shown
 own_view now host shown = ap (λ (b : Bool). if b then shown else now.hosts host) (itself host.0)
 
-pub other_view : (now : View) (host other : HostId) (shown : HostView) → other.0 ≢ host.0 →
+pub other_view : (now : LowView) (host other : HostId) (shown : HostView) → other.0 ≢ host.0 →
     (with_host now host shown).hosts other ≡ now.hosts other
 other_view now host other shown apart =
     ap (λ (b : Bool). if b then shown else now.hosts other) (different other.0 host.0 apart)
@@ -72,7 +73,7 @@ other_view now host other shown apart =
 -- ---- the end of a loop
 
 -- in a block that may be seen the chain is empty, and it is owed that it goes on at the place behind
-owed_out : (eyes : Eyes) (links : List Link) (owed : Owed) (host : HostId) (place : ℕ) (frame : FrameId)
+owed_out : (eyes : Eyes) (links : List HiddenEntry) (owed : OwedInView) (host : HostId) (place : ℕ) (frame : FrameId)
     (token : Token) → is_deep eyes host place ≡ false → Owes eyes (at host place frame token) links owed →
     (links ≡ []) × (owed ≡ goes_on host (exit_of eyes host place) frame token)
 owed_out eyes [] owed host place frame token shallow owes = (
@@ -81,8 +82,9 @@ owed_out eyes [] owed host place frame token shallow owes = (
 )
 owed_out eyes (link ∷ links) owed host place frame token shallow owes = absurd (false≢true (sym shallow ∙ owes.0))
 
-comes_out : (eyes : Eyes) (old : HostShape) (thread : ThreadShape) (links : List Link) (token : Token) (owed : Owed)
-    (now shown : View) (label target : ℕ) → Unseen eyes old thread links token owed now shown →
+comes_out : (eyes : Eyes) (old : HostState) (thread : ThreadShape) (links : List HiddenEntry) (token : Token)
+    (owed : OwedInView)
+    (now shown : LowView) (label target : ℕ) → Unseen eyes old thread links token owed now shown →
     (eyes.shades.at old.me thread.at).calls ≡ false → is_deep eyes old.me thread.at ≡ false →
     exit_of eyes old.me thread.at ≡ target → is_open eyes old.me target ≡ true →
     Ends eyes old.me (runs old.me thread) links now shown label
@@ -145,13 +147,14 @@ comes_out eyes old thread links token owed now shown label target run calls shal
 -- ---- branches
 
 -- both ways of a branch are in blocks that may not be seen
-if_ends : (eyes : Eyes) (old : HostShape) (thread : ThreadShape) (links : List Link) (token : Token) (owed : Owed)
-    (now shown : View) (label : ℕ) (there : Instr) (guard : List Node) (target : ℕ) (next other : Ahead) (zero_is :
+if_ends : (eyes : Eyes) (old : HostState) (thread : ThreadShape) (links : List HiddenEntry) (token : Token)
+    (owed : OwedInView)
+    (now shown : LowView) (label : ℕ) (there : Instr) (guard : List Node) (target : ℕ) (next other : Ahead) (zero_is :
     Bool) →
     Unseen eyes old thread links token owed now shown → IsHere eyes old thread there →
     (eyes.shades.at old.me thread.at).guard ≡ None →
-    Divides eyes.scene (eyes.shades.at old.me thread.at) guard None next other →
-    Meets next (eyes.shades.at old.me (suc thread.at)) → Meets other (eyes.shades.at old.me target) →
+    DividesInShade eyes.scene (eyes.shades.at old.me thread.at) guard None next other →
+    MeetsShade next (eyes.shades.at old.me (suc thread.at)) → MeetsShade other (eyes.shades.at old.me target) →
     EndsIn eyes old thread links now shown label (if zero_is
     then with_thread (with_running old None) (record (after_clearing thread) { at = target })
     else with_thread (with_running old None) (after_clearing thread))
@@ -178,12 +181,13 @@ abbrev begun_with : Label → Option ℕ → Begun
 begun_with pc guard = record { pc = pc; guard = guard }
 
 -- a loop goes on, or it goes on behind the loop
-loop_ends : (eyes : Eyes) (old : HostShape) (thread : ThreadShape) (links : List Link) (token : Token) (owed : Owed)
-    (now shown : View) (label : ℕ) (there : Instr) (guard : List Node) (target : ℕ) (next other : Ahead) (loop : ℕ)
+loop_ends : (eyes : Eyes) (old : HostState) (thread : ThreadShape) (links : List HiddenEntry) (token : Token)
+    (owed : OwedInView)
+    (now shown : LowView) (label : ℕ) (there : Instr) (guard : List Node) (target : ℕ) (next other : Ahead) (loop : ℕ)
     (zero_is : Bool) → Unseen eyes old thread links token owed now shown → IsHere eyes old thread there →
     (eyes.shades.at old.me thread.at).calls ≡ false → (eyes.shades.at old.me thread.at).guard ≡ Some loop →
-    Divides eyes.scene (eyes.shades.at old.me thread.at) guard (Some loop) next other →
-    Meets next (eyes.shades.at old.me (suc thread.at)) → Meets other (eyes.shades.at old.me target) →
+    DividesInShade eyes.scene (eyes.shades.at old.me thread.at) guard (Some loop) next other →
+    MeetsShade next (eyes.shades.at old.me (suc thread.at)) → MeetsShade other (eyes.shades.at old.me target) →
     target ≡ eyes.shades.exits old.me loop →
     EndsIn eyes old thread links now shown label (if zero_is
     then with_thread (with_running old None) (record (after_clearing thread) { at = target })
@@ -220,8 +224,8 @@ loop_ends eyes old thread links token owed now shown label there guard target ne
     (begun_on eyes old thread later links token owed now shown label there next run is meets
     (ap (λ (it : Ahead). it.block) parts.1) begun refl refl refl)
 
-pub branch_ends : (eyes : Eyes) (old : HostShape) (thread : ThreadShape) (links : List Link) (token : Token)
-    (owed : Owed) (now shown : View) (label : ℕ) (there : Instr) (guard : List Node) (target : ℕ) →
+pub branch_ends : (eyes : Eyes) (old : HostState) (thread : ThreadShape) (links : List HiddenEntry) (token : Token)
+    (owed : OwedInView) (now shown : LowView) (label : ℕ) (there : Instr) (guard : List Node) (target : ℕ) →
     Unseen eyes old thread links token owed now shown → IsHere eyes old thread there →
     IsShadedOp eyes.scene eyes.shades old.me thread.at (op.Branch guard target) →
     EndsIn eyes old thread links now shown label (after_branch (with_running old None) thread guard target)
@@ -229,7 +233,7 @@ branch_ends eyes old thread links token owed now shown label there guard target 
     by (eyes.shades.at old.me thread.at).guard refl law.3 law.6
   where
     by : (loop : Option ℕ) → (eyes.shades.at old.me thread.at).guard ≡ loop →
-        Divides eyes.scene (eyes.shades.at old.me thread.at) guard loop law.0 law.1 →
+        DividesInShade eyes.scene (eyes.shades.at old.me thread.at) guard loop law.0 law.1 →
         IfSome loop (λ own. target ≡ eyes.shades.exits old.me own) →
         EndsIn eyes old thread links now shown label (after_branch (with_running old None) thread guard target)
     by None none parts exits =

@@ -22,7 +22,7 @@ use Rattle.host_code.specs.declared.instruction.Op.TheVariants as op
 use Rattle.host_code.specs.Code.{variable_at, field_at}
 use Rattle.host_code.specs.Sound.{NodeFits, ExpressionFits, IsVariable, IsField, OperationFits}
 use Rattle.host_code.specs.Thread.{ThreadShape}
-use Rattle.host_core.specs.Host.{HostShape, value_in_thread, next_request}
+use Rattle.host_core.specs.Host.{HostState, value_in_thread, next_request}
 use Rattle.host_core.specs.Values.{temporary_at, value_of_nodes}
 use Rattle.msg_cost.proofs.Bounds.{all_left, all_right}
 use Rattle.need_labels.specs.Needs.{label_of}
@@ -33,13 +33,13 @@ use Rattle.split_rules.proofs.SeenLabels.{flows_both, flows_first, flows_second}
 use Rattle.split_rules.proofs.WalkedMoves.{at_last}
 use Rattle.split_shades.specs.Basis.{value_label, read_label}
 use Rattle.split_shades.specs.ShadedCode.{IsShadedOp}
-use Rattle.split_shades.specs.Shading.{reads_tell, Keeps, Divides}
+use Rattle.split_shades.specs.Shading.{reads_tell, KeepsInShade, DividesInShade}
 use Rattle.split_shades.proofs.BasisLabels.{flows_self, bottom_flows}
 use Rattle.split_shades.proofs.ShadedValues.{told_many}
 use Rattle.seen_world.specs.Eyes.{Eyes, AreEyes, sees_at, is_open, is_deep}
 use Rattle.seen_world.proofs.TurnsKept.{meets_next}
 use Rattle.agreement.specs.Turns.{carried_value, carried_in}
-use Rattle.agreement.specs.Values.{IsSeen, HoldAlike}
+use Rattle.agreement.specs.Values.{IsValueSeen, HoldAlike}
 use Rattle.agreement.specs.Views.{masked, masked_all, last_seen, sees_field, sees_variable, sees_read}
 use Rattle.agreement.proofs.Places.{variable_unseen, field_unseen}
 use Rattle.agreement.proofs.SeenOperations.{read_seen}
@@ -53,7 +53,7 @@ HaveSameValues variables others temps held operands =
     AllByRecursion (λ nodes. value_of_nodes variables temps nodes ≡ value_of_nodes others held nodes) operands
 
 -- two threads release the same by these operands
-abbrev pub ReleaseAlike : HostShape → HostShape → ThreadShape → ThreadShape → List (List Node) → Type 0
+abbrev pub ReleaseAlike : HostState → HostState → ThreadShape → ThreadShape → List (List Node) → Type 0
 ReleaseAlike one other thread twin operands =
     HaveSameValues (one.variables thread.frame) (other.variables twin.frame) thread.temporaries twin.temporaries
     operands
@@ -188,7 +188,7 @@ hold_alike eyes are pc count variables others temps held labels alike (endorsed 
 -- ---- what is carried
 
 -- Two threads of a host show the same at one place.
-pub record Twins (eyes : Eyes) (me : HostId) (one other : HostShape) (thread twin : ThreadShape) : Type 0 where
+pub record Twins (eyes : Eyes) (me : HostId) (one other : HostState) (thread twin : ThreadShape) : Type 0 where
   pub me_one : one.me ≡ me
   pub me_other : other.me ≡ me
   pub place : twin.at ≡ thread.at
@@ -201,7 +201,7 @@ pub record Twins (eyes : Eyes) (me : HostId) (one other : HostShape) (thread twi
   pub variables : (frame : FrameId) (x : VarId) → sees_variable eyes x ≡ true →
       one.variables frame x ≡ other.variables frame x
 
-twins_alike : (eyes : Eyes) (me : HostId) (one other : HostShape) (thread twin : ThreadShape) →
+twins_alike : (eyes : Eyes) (me : HostId) (one other : HostState) (thread twin : ThreadShape) →
     Twins eyes me one other thread twin →
     Alike eyes (eyes.shades.at me thread.at).temps (one.variables thread.frame) (other.variables twin.frame)
     thread.temporaries twin.temporaries
@@ -212,14 +212,14 @@ twins_alike eyes me one other thread twin same = record {
 }
 
 -- a value over some of the temporaries
-part_same : (eyes : Eyes) (me : HostId) (one other : HostShape) (thread twin : ThreadShape) (count : ℕ)
+part_same : (eyes : Eyes) (me : HostId) (one other : HostState) (thread twin : ThreadShape) (count : ℕ)
     (value : ExprTree) (nodes : List Node) (front back : List Label) (first : ℕ) → AreEyes eyes →
     Twins eyes me one other thread twin → nodes ≡ nodes_of first value →
     (eyes.shades.at me thread.at).temps
     ≡ front ++ (reads_tell eyes.scene (eyes.shades.at me thread.at).pc value ++ back) →
     length front ≡ first → ExpressionFits eyes.code count nodes →
     ReleaseAlike one other thread twin (released_by first value) →
-    IsSeen eyes (eyes.shades.at me thread.at).pc value →
+    IsValueSeen eyes (eyes.shades.at me thread.at).pc value →
     value_in_thread one thread nodes ≡ value_in_thread other twin nodes
 part_same eyes me one other thread twin count value nodes front back first are same is lies many fits releases seen =
     let here = eyes.shades.at me thread.at in
@@ -233,11 +233,11 @@ part_same eyes me one other thread twin count value nodes front back first are s
     ∙ sym (ap (value_in_thread other twin) is)
 
 -- a value over all temporaries
-kept_same : (eyes : Eyes) (me : HostId) (one other : HostShape) (thread twin : ThreadShape) (count : ℕ)
+kept_same : (eyes : Eyes) (me : HostId) (one other : HostState) (thread twin : ThreadShape) (count : ℕ)
     (nodes : List Node) (label : Label) → AreEyes eyes → Twins eyes me one other thread twin →
     ExpressionFits eyes.code count nodes →
     ReleaseAlike one other thread twin (eyes.shades.at me thread.at).released →
-    Keeps eyes.scene (eyes.shades.at me thread.at) nodes label → eyes.sees label ≡ true →
+    KeepsInShade eyes.scene (eyes.shades.at me thread.at) nodes label → eyes.sees label ≡ true →
     value_in_thread one thread nodes ≡ value_in_thread other twin nodes
 kept_same eyes me one other thread twin count nodes label are same fits releases keeps seen =
     let here = eyes.shades.at me thread.at in
@@ -273,10 +273,10 @@ field_label_seen eyes are field seen =
 
 -- ---- each instruction
 
-let_same : (eyes : Eyes) (me : HostId) (one other : HostShape) (thread twin : ThreadShape) (count : ℕ)
+let_same : (eyes : Eyes) (me : HostId) (one other : HostState) (thread twin : ThreadShape) (count : ℕ)
     (x : VarId) (value : List Node) → AreEyes eyes → Twins eyes me one other thread twin →
     ExpressionFits eyes.code count value → ReleaseAlike one other thread twin (eyes.shades.at me thread.at).released →
-    Keeps eyes.scene (eyes.shades.at me thread.at) value (label_of eyes.scene.basis.labelled x) →
+    KeepsInShade eyes.scene (eyes.shades.at me thread.at) value (label_of eyes.scene.basis.labelled x) →
     carried_value (masked (sees_variable eyes x) (value_in_thread one thread value))
     ≡ carried_value (masked (sees_variable eyes x) (value_in_thread other twin value))
 let_same eyes me one other thread twin count x value are same fits releases keeps =
@@ -285,7 +285,7 @@ let_same eyes me one other thread twin count x value are same fits releases keep
     kept_same eyes me one other thread twin count value (label_of eyes.scene.basis.labelled x) are same fits releases
     keeps (variable_label_seen eyes are x seen)))
 
-put_same : (eyes : Eyes) (me : HostId) (one other : HostShape) (thread twin : ThreadShape) (count : ℕ)
+put_same : (eyes : Eyes) (me : HostId) (one other : HostState) (thread twin : ThreadShape) (count : ℕ)
     (field : FieldId) (index value : List Node) → AreEyes eyes → Twins eyes me one other thread twin →
     IsShadedOp eyes.scene eyes.shades me thread.at (op.Put field index value) →
     ExpressionFits eyes.code count index → ExpressionFits eyes.code count value →
@@ -324,7 +324,7 @@ seen_not : (b : Bool) → not (not b) ≡ true → b ≡ true
 seen_not true is = refl
 seen_not false is = absurd (false≢true is)
 
-branch_same : (eyes : Eyes) (me : HostId) (one other : HostShape) (thread twin : ThreadShape) (count : ℕ)
+branch_same : (eyes : Eyes) (me : HostId) (one other : HostState) (thread twin : ThreadShape) (count : ℕ)
     (guard : List Node) (target : ℕ) → AreEyes eyes → Twins eyes me one other thread twin →
     is_open eyes me thread.at ≡ true →
     IsShadedOp eyes.scene eyes.shades me thread.at (op.Branch guard target) →
@@ -346,7 +346,7 @@ branch_same eyes me one other thread twin count guard target are same seen law f
     ∙ sym (ap (λ (b : Bool). carried_value (masked b others)) second)
   where
     by : (loop : Option ℕ) →
-        Divides eyes.scene (eyes.shades.at me thread.at) guard loop law.0 law.1 →
+        DividesInShade eyes.scene (eyes.shades.at me thread.at) guard loop law.0 law.1 →
         eyes.sees (eyes.shades.at me (thread.at + 1)).block ≡ true →
         value_in_thread one thread guard ≡ value_in_thread other twin guard
     by None parts block =
@@ -357,7 +357,7 @@ branch_same eyes me one other thread twin count guard target are same seen law f
         parts.0 seen
 
 -- whether what is read may be seen is the same of both
-pub read_sees : (eyes : Eyes) (me : HostId) (one other : HostShape) (thread twin : ThreadShape) →
+pub read_sees : (eyes : Eyes) (me : HostId) (one other : HostState) (thread twin : ThreadShape) →
     Twins eyes me one other thread twin →
     sees_read eyes one.me (next_request one thread.at) ≡ sees_read eyes other.me (next_request other twin.at)
 read_sees eyes me one other thread twin same =
@@ -369,7 +369,7 @@ abbrev read_at : Eyes → HostId → ℕ → FieldId → ExprTree → Label
 read_at eyes me place field index =
     read_label eyes.scene.basis (eyes.shades.at me place).pc (record { field = field; index = index })
 
-label_of_read : (eyes : Eyes) (me : HostId) (one other : HostShape) (thread twin : ThreadShape) (field : FieldId)
+label_of_read : (eyes : Eyes) (me : HostId) (one other : HostState) (thread twin : ThreadShape) (field : FieldId)
     (index : List Node) → Twins eyes me one other thread twin →
     (law : IsShadedOp eyes.scene eyes.shades me thread.at (op.Read field index)) →
     sees_read eyes other.me (next_request other twin.at) ≡ true →
@@ -380,7 +380,7 @@ label_of_read eyes me one other thread twin field index same law seen =
     ∙ read_sees eyes me one other thread twin same ∙ seen
 
 -- which element is asked for
-pub index_same : (eyes : Eyes) (me : HostId) (one other : HostShape) (thread twin : ThreadShape) (count : ℕ)
+pub index_same : (eyes : Eyes) (me : HostId) (one other : HostState) (thread twin : ThreadShape) (count : ℕ)
     (field : FieldId) (index : List Node) → AreEyes eyes → Twins eyes me one other thread twin →
     IsShadedOp eyes.scene eyes.shades me thread.at (op.Read field index) → ExpressionFits eyes.code count index →
     ReleaseAlike one other thread twin (eyes.shades.at me thread.at).released →
@@ -398,7 +398,7 @@ index_same eyes me one other thread twin count field index are same law fits rel
     (are.below asked (read_at eyes me thread.at field reads.index) (flows_second own asked)
     (label_of_read eyes me one other thread twin field index same law seen))
 
-read_same : (eyes : Eyes) (me : HostId) (one other : HostShape) (thread twin : ThreadShape) (count : ℕ)
+read_same : (eyes : Eyes) (me : HostId) (one other : HostState) (thread twin : ThreadShape) (count : ℕ)
     (field : FieldId) (index : List Node) → AreEyes eyes → Twins eyes me one other thread twin →
     IsShadedOp eyes.scene eyes.shades me thread.at (op.Read field index) → IsField eyes.code field →
     ExpressionFits eyes.code count index → ReleaseAlike one other thread twin (eyes.shades.at me thread.at).released →
@@ -418,7 +418,7 @@ read_same eyes me one other thread twin count field index are same law within fi
     ∙ ap (element_at (row_of other.rows field.0))
     (index_same eyes me one other thread twin count field index are same law fits releases seen)))
 
-pub operation_same : (eyes : Eyes) (me : HostId) (one other : HostShape) (thread twin : ThreadShape) (count : ℕ)
+pub operation_same : (eyes : Eyes) (me : HostId) (one other : HostState) (thread twin : ThreadShape) (count : ℕ)
     (it : Op) → AreEyes eyes → Twins eyes me one other thread twin → is_open eyes me thread.at ≡ true →
     IsShadedOp eyes.scene eyes.shades me thread.at it →
     OperationFits eyes.code me count it → ReleaseAlike one other thread twin (eyes.shades.at me thread.at).released →

@@ -7,14 +7,15 @@ use Rattle.std.proofs.lemmas.Bool.Decides.{eqb_tells}
 use Rattle.js_base.specs.declared.ids.HostId.{HostId}
 use Rattle.capability.specs.declared.token.Token.{Token}
 use Rattle.host_code.specs.Thread.{ThreadShape}
-use Rattle.host_core.specs.Host.{HostShape}
+use Rattle.host_core.specs.Host.{HostState}
 use Rattle.net_world.specs.World.{WorldShape, state_at}
 use Rattle.net_world.proofs.Present.{same_id}
 use Rattle.seen_world.specs.Eyes.{Eyes, AreEyes, is_open, is_deep, is_hidden, sees_level}
 use Rattle.seen_world.proofs.SeenPlaces.{block_under}
-use Rattle.agreement.specs.Comes.{ComesTo, Comes, HasCome}
-use Rattle.agreement.specs.Leads.{Holder, nobody, runs, runs_on, waits_on, hidden_running, Hides, IsOwedWell, Leads}
-use Rattle.agreement.specs.Views.{Owed, View, ShowsHost, nowhere, at, nothing, goes_on, gives, owed_at}
+use Rattle.agreement.specs.Comes.{ComesIntoView, Comes, HasCome}
+use Rattle.agreement.specs.Leads.{UnseenHolder, nobody, runs, runs_on, waits_on, hidden_running, Hides, IsOwedWell}
+use Rattle.agreement.specs.Leads.{Leads}
+use Rattle.agreement.specs.Views.{OwedInView, LowView, ShowsHost, nowhere, at, nothing, goes_on, gives, owed_at}
 use Rattle.agreement.specs.Views.{exit_of}
 use Rattle.agreement.specs.Views.{Completed, thread_view, with_host, host_with_thread, running_view}
 use Rattle.agreement.proofs.Branches.{own_view, other_view}
@@ -23,10 +24,10 @@ use Rattle.agreement.proofs.Steps.{runs_apart}
 use Rattle.agreement.proofs.ViewLaws.{completed_once, deep_owes}
 
 -- a fact for the host of the thread, and one for the others
-either_host : (P : HostId → HostShape → Type 0) (world : WorldShape) (me : HostId) (state : HostShape) →
+either_host : (P : HostId → HostState → Type 0) (world : WorldShape) (me : HostId) (state : HostState) →
     state_at world me ≡ Some state → P me state →
-    ((host : HostId) (other : HostShape) → state_at world host ≡ Some other → host.0 ≢ me.0 → P host other) →
-    (host : HostId) (other : HostShape) → state_at world host ≡ Some other → P host other
+    ((host : HostId) (other : HostState) → state_at world host ≡ Some other → host.0 ≢ me.0 → P host other) →
+    (host : HostId) (other : HostState) → state_at world host ≡ Some other → P host other
 either_host P world me state there own others host other is = elim (eqb_tells host.0 me.0) [
   | inl same ↦
       let one : host ≡ me = same_id host me same.1 in
@@ -37,11 +38,11 @@ either_host P world me state there own others host other is = elim (eqb_tells ho
 ]
 
 -- what goes on unseen on each host is this thread, or nothing
-come_hides : (eyes : Eyes) (world : WorldShape) (me : HostId) (state : HostShape) (thread : ThreadShape)
-    (token : Token) (view : View) (holder : Holder) → HasCome eyes world me state thread token view →
+come_hides : (eyes : Eyes) (world : WorldShape) (me : HostId) (state : HostState) (thread : ThreadShape)
+    (token : Token) (view : LowView) (holder : UnseenHolder) → HasCome eyes world me state thread token view →
     hidden_running eyes me state.running ≡ runs_on holder me →
     ((host : HostId) → host.0 ≢ me.0 → runs_on holder host ≡ None) → ((host : HostId) → waits_on holder host ≡ []) →
-    (host : HostId) (other : HostShape) → state_at world host ≡ Some other → Hides eyes holder [] host other
+    (host : HostId) (other : HostState) → state_at world host ≡ Some other → Hides eyes holder [] host other
 come_hides eyes world me state thread token view holder come hidden none calm =
     either_host (Hides eyes holder []) world me state come.there (record {
       running = hidden;
@@ -55,8 +56,8 @@ come_hides eyes world me state thread token view holder come hidden none calm =
 
 -- ---- it may be seen
 
-open_comes : (eyes : Eyes) (world : WorldShape) (me : HostId) (state : HostShape) (thread : ThreadShape)
-    (token : Token) (view after : View) → HasCome eyes world me state thread token view →
+open_comes : (eyes : Eyes) (world : WorldShape) (me : HostId) (state : HostState) (thread : ThreadShape)
+    (token : Token) (view after : LowView) → HasCome eyes world me state thread token view →
     is_open eyes me thread.at ≡ true →
     after ≡ with_host view me (host_with_thread (view.hosts me) (thread_view eyes me thread.at thread)) →
     Leads eyes world after
@@ -107,8 +108,8 @@ open_comes eyes world me state thread token view after come seen is =
 
 -- whoever may see the entry whose token is held may see the block, so in a block that may not be seen the host of the
 -- token obeys
-come_well : (eyes : Eyes) (world : WorldShape) (me : HostId) (state : HostShape) (thread : ThreadShape)
-    (token : Token) (view : View) → AreEyes eyes → HasCome eyes world me state thread token view → (deep : Bool) →
+come_well : (eyes : Eyes) (world : WorldShape) (me : HostId) (state : HostState) (thread : ThreadShape)
+    (token : Token) (view : LowView) → AreEyes eyes → HasCome eyes world me state thread token view → (deep : Bool) →
     is_deep eyes me thread.at ≡ deep →
     IsOwedWell eyes (if deep then gives token else goes_on me (exit_of eyes me thread.at) thread.frame token)
 come_well eyes world me state thread token view are come true deep =
@@ -125,8 +126,8 @@ come_well eyes world me state thread token view are come true deep =
     (obeys, plain)
 come_well eyes world me state thread token view are come false shallow = come.shown
 
-hidden_comes : (eyes : Eyes) (world : WorldShape) (me : HostId) (state : HostShape) (thread : ThreadShape)
-    (token : Token) (view after : View) → AreEyes eyes → HasCome eyes world me state thread token view →
+hidden_comes : (eyes : Eyes) (world : WorldShape) (me : HostId) (state : HostState) (thread : ThreadShape)
+    (token : Token) (view after : LowView) → AreEyes eyes → HasCome eyes world me state thread token view →
     is_open eyes me thread.at ≡ false →
     Completed eyes (owed_at eyes (at me thread.at thread.frame token)) view after → Leads eyes world after
 hidden_comes eyes world me state thread token view after are come hidden completed =
@@ -166,39 +167,39 @@ hidden_comes eyes world me state thread token view after are come hidden complet
       completed = completed;
     }
 
-pub comes_leads : (eyes : Eyes) (world : WorldShape) (me : HostId) (state : HostShape) (thread : ThreadShape)
-    (token : Token) (view after : View) → AreEyes eyes → HasCome eyes world me state thread token view →
+pub comes_leads : (eyes : Eyes) (world : WorldShape) (me : HostId) (state : HostState) (thread : ThreadShape)
+    (token : Token) (view after : LowView) → AreEyes eyes → HasCome eyes world me state thread token view →
     Comes eyes view me thread token after → Leads eyes world after
 comes_leads eyes world me state thread token view after are come comes = by (is_open eyes me thread.at) refl comes
   where
-    by : (seen : Bool) → is_open eyes me thread.at ≡ seen → ComesTo eyes view me thread token seen after →
+    by : (seen : Bool) → is_open eyes me thread.at ≡ seen → ComesIntoView eyes view me thread token seen after →
         Leads eyes world after
     by true seen is = open_comes eyes world me state thread token view after come seen is
     by false hidden is = hidden_comes eyes world me state thread token view after are come hidden is
 
 -- ---- what is seen then
 
-pub comes_once : (eyes : Eyes) (view : View) (host : HostId) (thread : ThreadShape) (token : Token)
-    (first second : View) → Comes eyes view host thread token first → Comes eyes view host thread token second →
+pub comes_once : (eyes : Eyes) (view : LowView) (host : HostId) (thread : ThreadShape) (token : Token)
+    (first second : LowView) → Comes eyes view host thread token first → Comes eyes view host thread token second →
     first ≡ second
 comes_once eyes view host thread token first second one two = by (is_open eyes host thread.at) one two
   where
-    by : (seen : Bool) → ComesTo eyes view host thread token seen first →
-        ComesTo eyes view host thread token seen second → first ≡ second
+    by : (seen : Bool) → ComesIntoView eyes view host thread token seen first →
+        ComesIntoView eyes view host thread token seen second → first ≡ second
     by true comes also = comes ∙ sym also
     by false comes also =
         completed_once eyes (owed_at eyes (at host thread.at thread.frame token)) view first second comes also
 
 -- in blocks that may not be seen what is seen then does not depend on the place
-pub deep_comes : (eyes : Eyes) (view : View) (host other : HostId) (thread later : ThreadShape) (token : Token)
-    (first second : View) → is_open eyes host thread.at ≡ false → is_open eyes other later.at ≡ false →
+pub deep_comes : (eyes : Eyes) (view : LowView) (host other : HostId) (thread later : ThreadShape) (token : Token)
+    (first second : LowView) → is_open eyes host thread.at ≡ false → is_open eyes other later.at ≡ false →
     is_deep eyes host thread.at ≡ true → is_deep eyes other later.at ≡ true →
     Comes eyes view host thread token first → Comes eyes view other later token second → first ≡ second
 deep_comes eyes view host other thread later token first second hidden hidden_later deep deep_later one two =
-    let comes : ComesTo eyes view host thread token false first =
-    subst (λ (b : Bool). ComesTo eyes view host thread token b first) hidden one in
-    let also : ComesTo eyes view other later token false second =
-    subst (λ (b : Bool). ComesTo eyes view other later token b second) hidden_later two in
+    let comes : ComesIntoView eyes view host thread token false first =
+    subst (λ (b : Bool). ComesIntoView eyes view host thread token b first) hidden one in
+    let also : ComesIntoView eyes view other later token false second =
+    subst (λ (b : Bool). ComesIntoView eyes view other later token b second) hidden_later two in
     completed_once eyes (owed_at eyes (at other later.at later.frame token)) view first second
-    (subst (λ (o : Owed). Completed eyes o view first)
+    (subst (λ (o : OwedInView). Completed eyes o view first)
     (deep_owes eyes host other thread.at later.at thread.frame later.frame token deep deep_later) comes) also

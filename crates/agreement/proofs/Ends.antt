@@ -8,17 +8,18 @@ use Rattle.capability.specs.declared.token.Token.{Token}
 use Rattle.host_code.specs.declared.message.Message.{Message}
 use Rattle.host_code.specs.Sound.{IsSoundCode}
 use Rattle.host_code.specs.Thread.{ThreadShape, Awaited, WaitingShape}
-use Rattle.host_core.specs.Host.{HostShape, Outcome, with_running, next_request, after_asking}
+use Rattle.host_core.specs.Host.{HostState, Outcome, with_running, next_request, after_asking}
 use Rattle.net_world.specs.Flying.{Flight}
 use Rattle.token_laws.specs.Requests.{number_asked}
 use Rattle.token_laws.proofs.Tests.{itself}
 use Rattle.seen_world.specs.Eyes.{Eyes, AreEyes, is_open}
 use Rattle.seen_world.specs.Points.{RunsWell, HostKeeps}
 use Rattle.agreement.specs.Changes.{StaysSeen}
-use Rattle.agreement.specs.Leads.{Holder, runs, waits, flies, runs_on, waits_on, flies_on, Link, links_on}
+use Rattle.agreement.specs.Leads.{UnseenHolder, runs, waits, flies, runs_on, waits_on, flies_on, HiddenEntry, links_on}
 use Rattle.agreement.specs.Leads.{hidden_running}
 use Rattle.agreement.specs.Leads.{hidden_waiting, Hides, FliesTo, token_with, Owes, IsOwedWell}
-use Rattle.agreement.specs.Views.{View, ShowsHost, Spot, at, Owed, Completed, running_view, waits_open, is_shown}
+use Rattle.agreement.specs.Views.{LowView, ShowsHost, Spot, at, OwedInView, Completed, running_view, waits_open}
+use Rattle.agreement.specs.Views.{is_shown}
 use Rattle.agreement.proofs.Lists.{left_last, kept_last, index_apart}
 use Rattle.agreement.proofs.Steps.{Leaves, runs_apart, waits_apart}
 use Rattle.agreement.proofs.ViewLaws.{still_shows, unseen_thread}
@@ -26,20 +27,21 @@ use Rattle.agreement.proofs.ViewLaws.{still_shows, unseen_thread}
 -- ---- what ends so
 
 -- what is in flight unseen is what the step sends
-abbrev pub Sends : HostId → ℕ → Option (HostId × Message) → Holder → Type 0
+abbrev pub Sends : HostId → ℕ → Option (HostId × Message) → UnseenHolder → Type 0
 Sends me label None later = (i j : HostId) → flies_on later i j ≡ []
 Sends me label (Some it) later = (i j : HostId) → flies_on later i j
     ≡ (if i.0 == me.0 && j.0 == it.0.0 then record { message = it.1; label = label } ∷ [] else [])
 
-pub record Ends (eyes : Eyes) (me : HostId) (holder : Holder) (links : List Link) (now shown : View) (label : ℕ)
+pub record Ends (eyes : Eyes) (me : HostId) (holder : UnseenHolder) (links : List HiddenEntry) (now shown : LowView)
+    (label : ℕ)
     (outcome : Outcome) : Type 0 where
-  pub later : Holder
+  pub later : UnseenHolder
   pub sends : Sends me label outcome.sent later
   pub leaves : Leaves eyes me holder links now shown outcome.state later
 
 -- A thread runs unseen on a host, and nothing else goes on unseen.
-pub record Unseen (eyes : Eyes) (old : HostShape) (thread : ThreadShape) (links : List Link) (token : Token)
-    (owed : Owed) (now shown : View) : Type 0 where
+pub record Unseen (eyes : Eyes) (old : HostState) (thread : ThreadShape) (links : List HiddenEntry) (token : Token)
+    (owed : OwedInView) (now shown : LowView) : Type 0 where
   pub are : AreEyes eyes
   pub sound : IsSoundCode eyes.code
   pub obeys : eyes.bad old.me ≡ false
@@ -60,8 +62,8 @@ nothing_seen eyes host running thread is hidden =
     ap (running_view eyes host) is ∙ unseen_thread eyes host thread hidden
 
 -- what is seen of the host of such a thread, where it leaves what may be seen
-pub shows_then : (eyes : Eyes) (old new : HostShape) (thread : ThreadShape) (links : List Link) (token : Token)
-    (owed : Owed) (now shown : View) → Unseen eyes old thread links token owed now shown →
+pub shows_then : (eyes : Eyes) (old new : HostState) (thread : ThreadShape) (links : List HiddenEntry) (token : Token)
+    (owed : OwedInView) (now shown : LowView) → Unseen eyes old thread links token owed now shown →
     StaysSeen eyes old.me old new → running_view eyes old.me new.running ≡ [] →
     filter (is_shown eyes) new.entries ≡ filter (is_shown eyes) old.entries →
     ShowsHost eyes old.me new (now.hosts old.me)
@@ -85,8 +87,8 @@ unseen_runs eyes host running thread is hidden =
     ap (hidden_running eyes host) is ∙ ap (λ (b : Bool). if b then None else Some thread) hidden
     ∙ sym (own_running host thread)
 
-pub goes_on_unseen : (eyes : Eyes) (old new : HostShape) (thread later : ThreadShape) (links : List Link)
-    (token : Token) (owed : Owed) (now shown : View) (label : ℕ) →
+pub goes_on_unseen : (eyes : Eyes) (old new : HostState) (thread later : ThreadShape) (links : List HiddenEntry)
+    (token : Token) (owed : OwedInView) (now shown : LowView) (label : ℕ) →
     Unseen eyes old thread links token owed now shown → new.running ≡ Some later → new.entries ≡ old.entries →
     hidden_waiting eyes old.me new.waiting ≡ [] → StaysSeen eyes old.me old new → later.held ≡ Some token →
     is_open eyes old.me later.at ≡ false → Owes eyes (at old.me later.at later.frame token) links owed →
@@ -124,8 +126,9 @@ goes_on_unseen eyes old new thread later links token owed now shown label run is
 
 -- ---- it waits
 
-pub waits_unseen : (eyes : Eyes) (old : HostShape) (thread later : ThreadShape) (links : List Link) (token : Token)
-    (owed : Owed) (now shown : View) (label : ℕ) (awaited : Awaited) (asked : HostId) (said : Message) →
+pub waits_unseen : (eyes : Eyes) (old : HostState) (thread later : ThreadShape) (links : List HiddenEntry)
+    (token : Token)
+    (owed : OwedInView) (now shown : LowView) (label : ℕ) (awaited : Awaited) (asked : HostId) (said : Message) →
     Unseen eyes old thread links token owed now shown → later.frame ≡ thread.frame →
     number_asked said ≡ Some (next_request (with_running old None) thread.at) →
     token_with said later.held ≡ Some token →
@@ -184,8 +187,8 @@ waits_unseen eyes old thread later links token owed now shown label awaited aske
 
 -- ---- it hands control over
 
-pub hands_unseen : (eyes : Eyes) (old : HostShape) (thread : ThreadShape) (links : List Link) (token : Token)
-    (owed : Owed) (now shown : View) (label : ℕ) (to : HostId) (said : Message) (spot : Spot) →
+pub hands_unseen : (eyes : Eyes) (old : HostState) (thread : ThreadShape) (links : List HiddenEntry) (token : Token)
+    (owed : OwedInView) (now shown : LowView) (label : ℕ) (to : HostId) (said : Message) (spot : Spot) →
     Unseen eyes old thread links token owed now shown → FliesTo eyes to said spot → Owes eyes spot links owed →
     Ends eyes old.me (runs old.me thread) links now shown label
     (record { state = with_running old None; sent = Some (to, said) })

@@ -12,19 +12,20 @@ use Rattle.ics_stack.specs.Stack.{top_token}
 use Rattle.host_code.specs.declared.code.Entry.{Entry}
 use Rattle.host_code.specs.Code.{halt, entry_at}
 use Rattle.host_code.specs.Thread.{ThreadShape}
-use Rattle.host_core.specs.Host.{HostShape, with_one_ignored, with_running, thread_at, after_entering}
+use Rattle.host_core.specs.Host.{HostState, with_one_ignored, with_running, thread_at, after_entering}
 use Rattle.host_core.specs.Host.{after_pop}
 use Rattle.net_world.proofs.Present.{same_id}
-use Rattle.split_shades.specs.Shades.{Meets, ahead_of}
+use Rattle.split_shades.specs.Shades.{MeetsShade, ahead_of}
 use Rattle.token_laws.proofs.HeldLaws.{all_at}
 use Rattle.token_laws.proofs.Tests.{itself, different, number_same}
 use Rattle.seen_world.specs.Eyes.{Eyes, AreEyes, is_open, is_deep, is_hidden}
 use Rattle.seen_world.specs.Points.{StandsWell}
 use Rattle.seen_world.proofs.SeenPlaces.{some_is}
-use Rattle.agreement.specs.Leads.{Holder, nobody, runs, runs_on, waits_on, Link, links_on, hidden_running}
+use Rattle.agreement.specs.Leads.{UnseenHolder, nobody, runs, runs_on, waits_on, HiddenEntry, links_on, hidden_running}
 use Rattle.agreement.specs.Leads.{hidden_waiting, IsLink, Owes}
 use Rattle.agreement.specs.Leads.{IsOwedWell}
-use Rattle.agreement.specs.Views.{View, HostView, ShowsHost, nowhere, at, given_back, Owed, nothing, goes_on, gives}
+use Rattle.agreement.specs.Views.{LowView, HostView, ShowsHost, nowhere, at, given_back, OwedInView, nothing, goes_on}
+use Rattle.agreement.specs.Views.{gives}
 use Rattle.agreement.specs.Views.{Completed, GivenBack, exit_of, is_shown, with_host, host_with_thread, thread_out}
 use Rattle.agreement.specs.Views.{thread_popped, host_popped, running_view}
 use Rattle.agreement.proofs.Branches.{shown_out, own_view, other_view}
@@ -35,8 +36,9 @@ use Rattle.agreement.proofs.Places.{stands_at}
 use Rattle.agreement.proofs.Steps.{runs_apart}
 
 -- A token is given back to a host on which nothing runs, and nothing else goes on unseen.
-pub record Given (eyes : Eyes) (bare : HostShape) (holder : Holder) (links : List Link) (token : Token) (owed : Owed)
-    (now shown : View) : Type 0 where
+pub record Given (eyes : Eyes) (bare : HostState) (holder : UnseenHolder) (links : List HiddenEntry) (token : Token)
+    (owed : OwedInView)
+    (now shown : LowView) : Type 0 where
   pub are : AreEyes eyes
   pub rests : bare.running ≡ None
   pub stands : All (StandsWell eyes bare.me) bare.entries
@@ -52,7 +54,8 @@ pub record Given (eyes : Eyes) (bare : HostShape) (holder : Holder) (links : Lis
 
 -- ---- nothing goes on unseen any more
 
-out_leaves : (eyes : Eyes) (bare new : HostShape) (holder : Holder) (token : Token) (owed : Owed) (now shown : View)
+out_leaves : (eyes : Eyes) (bare new : HostState) (holder : UnseenHolder) (token : Token) (owed : OwedInView)
+    (now shown : LowView)
     (label : ℕ) (shown_here : HostView) → Given eyes bare holder [] token owed now shown →
     ((thread : ThreadShape) → new.running ≡ Some thread → is_open eyes bare.me thread.at ≡ true) →
     hidden_waiting eyes bare.me new.waiting ≡ [] → new.entries ≡ filter (is_shown eyes) new.entries →
@@ -88,7 +91,7 @@ out_leaves eyes bare new holder token owed now shown label shown_here given seen
     none (Some thread) is = ap (λ (b : Bool). if b then None else Some thread) (seen thread is)
 
 -- a host is seen as before
-pub same_view : (now : View) (host : HostId) → with_host now host (now.hosts host) ≡ now
+pub same_view : (now : LowView) (host : HostId) → with_host now host (now.hosts host) ≡ now
 same_view now host = λ i. record now { hosts = λ other. each other (other.0 == host.0) refl i }
   where
     each : (other : HostId) (b : Bool) → (other.0 == host.0) ≡ b →
@@ -99,7 +102,7 @@ same_view now host = λ i. record now { hosts = λ other. each other (other.0 ==
     each other false same = ap (λ (b : Bool). if b then now.hosts host else now.hosts other) same
 
 -- what is changed of a host twice is as changed last
-view_again : (now : View) (host : HostId) (first : HostView) (change : HostView → HostView) →
+view_again : (now : LowView) (host : HostId) (first : HostView) (change : HostView → HostView) →
     with_host (with_host now host first) host (change ((with_host now host first).hosts host))
     ≡ with_host now host (change first)
 view_again now host first change = λ i. record now { hosts = λ other. each other (other.0 == host.0) i }
@@ -113,7 +116,8 @@ view_again now host first change = λ i. record now { hosts = λ other. each oth
 -- ---- no hidden entry is on the host
 
 -- the stack is seen whole
-seen_whole : (eyes : Eyes) (bare : HostShape) (holder : Holder) (token : Token) (owed : Owed) (now shown : View) →
+seen_whole : (eyes : Eyes) (bare : HostState) (holder : UnseenHolder) (token : Token) (owed : OwedInView)
+    (now shown : LowView) →
     Given eyes bare holder [] token owed now shown → GivenBack eyes now token bare.entries shown
 seen_whole eyes bare holder token owed now shown given =
     let all : (now.hosts token.host).entries ≡ bare.entries =
@@ -122,14 +126,14 @@ seen_whole eyes bare holder token owed now shown given =
     (subst (λ o. Completed eyes o now shown) (sym given.owes) given.completed)
 
 -- it was not that of the top entry, and nothing more is seen
-given_other : (eyes : Eyes) (now shown : View) (token : Token) (entries : List StackEntry) →
+given_other : (eyes : Eyes) (now shown : LowView) (token : Token) (entries : List StackEntry) →
     GivenBack eyes now token entries shown → top_token entries ≢ Some token → shown ≡ now
 given_other eyes now shown token [] back other = back
 given_other eyes now shown token (top ∷ below) (inl same) other = absurd (other (ap Some same.0))
 given_other eyes now shown token (top ∷ below) (inr apart) other = apart.1
 
 -- the top entry is taken off, and what is seen is that its thread goes on
-given_top : (eyes : Eyes) (now shown : View) (token : Token) (host : HostId) (top : StackEntry)
+given_top : (eyes : Eyes) (now shown : LowView) (token : Token) (host : HostId) (top : StackEntry)
     (below : List StackEntry) → GivenBack eyes now token (top ∷ below) shown → top_token (top ∷ below) ≡ Some token →
     token.host ≡ host → shown ≡ with_host now host (host_popped eyes host top below (now.hosts host))
 given_top eyes now shown token host top below (inl same) is host_is =
@@ -139,7 +143,7 @@ given_top eyes now shown token host top below (inr apart) is host_is =
     absurd (apart.0 one)
 
 -- what is seen of the host without the top entry
-shows_below : (eyes : Eyes) (host : HostId) (bare : HostShape) (shown : HostView) (below : List StackEntry) →
+shows_below : (eyes : Eyes) (host : HostId) (bare : HostState) (shown : HostView) (below : List StackEntry) →
     ShowsHost eyes host bare shown → bare.running ≡ None → below ≡ filter (is_shown eyes) below →
     ShowsHost eyes host (with_running (record bare { entries = below }) None) (record shown { entries = below })
 shows_below eyes host bare shown below shows rests kept = record {
@@ -154,7 +158,7 @@ shows_below eyes host bare shown below shows rests kept = record {
   requests = shows.requests;
 }
 
-shows_halted : (eyes : Eyes) (host : HostId) (state : HostShape) (shown : HostView) →
+shows_halted : (eyes : Eyes) (host : HostId) (state : HostState) (shown : HostView) →
     ShowsHost eyes host (with_running state None) shown →
     ShowsHost eyes host (record state { running = None; halted = true }) shown
 shows_halted eyes host state shown shows = record {
@@ -169,7 +173,7 @@ shows_halted eyes host state shown shows = record {
   requests = shows.requests;
 }
 
-pub shows_ignored : (eyes : Eyes) (host : HostId) (state : HostShape) (shown : HostView) →
+pub shows_ignored : (eyes : Eyes) (host : HostId) (state : HostState) (shown : HostView) →
     ShowsHost eyes host state shown →
     ShowsHost eyes host (with_one_ignored state) shown
 shows_ignored eyes host state shown shows = record {
@@ -201,7 +205,7 @@ popped_on eyes host top found there shown is other =
     else host_with_thread shown (thread_out (exit_of eyes host there.at) top.frame top.kept)) other
 
 -- an entry that may be seen, of the stack whose token was given back
-record Popped (eyes : Eyes) (bare : HostShape) (now shown : View) (top : StackEntry) (below : List StackEntry) :
+record Popped (eyes : Eyes) (bare : HostState) (now shown : LowView) (top : StackEntry) (below : List StackEntry) :
     Type 0 where
   stand : StandsWell eyes bare.me top
   hidden : is_hidden eyes top.entry.0 ≡ false
@@ -210,7 +214,8 @@ record Popped (eyes : Eyes) (bare : HostShape) (now shown : View) (top : StackEn
   shows : ShowsHost eyes bare.me (with_running (record bare { entries = below }) None)
       (record (now.hosts bare.me) { entries = below })
 
-popped : (eyes : Eyes) (bare : HostShape) (holder : Holder) (token : Token) (owed : Owed) (now shown : View)
+popped : (eyes : Eyes) (bare : HostState) (holder : UnseenHolder) (token : Token) (owed : OwedInView)
+    (now shown : LowView)
     (top : StackEntry) (below : List StackEntry) → Given eyes bare holder [] token owed now shown →
     bare.entries ≡ top ∷ below → top_token bare.entries ≡ Some token → Popped eyes bare now shown top below
 popped eyes bare holder token owed now shown top below given are is_top =
@@ -226,7 +231,8 @@ popped eyes bare holder token owed now shown top below given are is_top =
     }
 
 -- its thread goes on at the guard of a loop, which may not be seen
-pops_guard : (eyes : Eyes) (bare : HostShape) (holder : Holder) (token : Token) (owed : Owed) (now shown : View)
+pops_guard : (eyes : Eyes) (bare : HostState) (holder : UnseenHolder) (token : Token) (owed : OwedInView)
+    (now shown : LowView)
     (label : ℕ) (top : StackEntry) (below : List StackEntry) (there : Entry) →
     Given eyes bare holder [] token owed now shown → Popped eyes bare now shown top below →
     (top.entry.0 == halt.0) ≡ false → entry_at eyes.code top.entry ≡ Some there →
@@ -246,8 +252,8 @@ pops_guard eyes bare holder token owed now shown label top below there given pop
     λ same. apart (let make : ℕ → EntryId = λ n. record { 0 = n } in ap make same) in
     let host_is : there.host ≡ me =
     subst (λ found. IsSomeAnd found (λ (one : Entry). one.host ≡ me)) is pop.stand.on_host in
-    let meets : Meets (ahead_of pop.stand.shade) (eyes.shades.at me there.at) =
-    subst (λ (h : HostId). Meets (ahead_of pop.stand.shade) (eyes.shades.at h there.at)) host_is
+    let meets : MeetsShade (ahead_of pop.stand.shade) (eyes.shades.at me there.at) =
+    subst (λ (h : HostId). MeetsShade (ahead_of pop.stand.shade) (eyes.shades.at h there.at)) host_is
     (stands_at eyes given.are top.entry.0 there pop.stand.shade number is pop.stand.is) in
     let seen : eyes.sees pop.stand.shade.block ≡ true = pop.stand.block pop.hidden apart in
     let shallow : is_deep eyes me there.at ≡ false = ap not (ap eyes.sees meets.block ∙ seen) in
@@ -293,7 +299,8 @@ pops_guard eyes bare holder token owed now shown label top below there given pop
     }
 
 -- its thread comes into the open
-pops_out : (eyes : Eyes) (bare : HostShape) (holder : Holder) (token : Token) (owed : Owed) (now shown : View)
+pops_out : (eyes : Eyes) (bare : HostState) (holder : UnseenHolder) (token : Token) (owed : OwedInView)
+    (now shown : LowView)
     (label : ℕ) (top : StackEntry) (below : List StackEntry) (there : Entry) →
     Given eyes bare holder [] token owed now shown → Popped eyes bare now shown top below →
     (top.entry.0 == halt.0) ≡ false → entry_at eyes.code top.entry ≡ Some there →
@@ -315,7 +322,8 @@ pops_out eyes bare holder token owed now shown label top below there given pop o
     ∙ ap (λ (n : ℕ). host_with_thread here (thread_out n top.frame top.kept)) (exit_open eyes me there.at seen)))
 
 -- it ends, or nothing stands there
-pops_none : (eyes : Eyes) (bare new : HostShape) (holder : Holder) (token : Token) (owed : Owed) (now shown : View)
+pops_none : (eyes : Eyes) (bare new : HostState) (holder : UnseenHolder) (token : Token) (owed : OwedInView)
+    (now shown : LowView)
     (label : ℕ) (top : StackEntry) (below : List StackEntry) → Given eyes bare holder [] token owed now shown →
     Popped eyes bare now shown top below → new.running ≡ None → new.waiting ≡ bare.waiting → new.entries ≡ below →
     ShowsHost eyes bare.me new (record (now.hosts bare.me) { entries = below }) →
@@ -328,7 +336,8 @@ pops_none eyes bare new holder token owed now shown label top below given pop re
     (entries ∙ pop.kept ∙ ap (filter (is_shown eyes)) (sym entries)) shows
     (pop.is ∙ ap (with_host now bare.me) none)
 
-pops : (eyes : Eyes) (bare : HostShape) (holder : Holder) (token : Token) (owed : Owed) (now shown : View) (label : ℕ)
+pops : (eyes : Eyes) (bare : HostState) (holder : UnseenHolder) (token : Token) (owed : OwedInView)
+    (now shown : LowView) (label : ℕ)
     (top : StackEntry) (below : List StackEntry) (is_halt : Bool) (found : Option Entry) →
     Given eyes bare holder [] token owed now shown → Popped eyes bare now shown top below →
     (top.entry.0 == halt.0) ≡ is_halt → entry_at eyes.code top.entry ≡ found →
@@ -361,8 +370,9 @@ pops eyes bare holder token owed now shown label top below false (Some there) gi
 -- ---- a hidden entry is on the host
 
 -- the last entry of the chain is on top of the stack of its host
-record Top (eyes : Eyes) (bare : HostShape) (link : Link) (links : List Link) (token : Token) (there : Entry)
-    (owed : Owed) : Type 0 where
+record Top (eyes : Eyes) (bare : HostState) (link : HiddenEntry) (links : List HiddenEntry) (token : Token)
+    (there : Entry)
+    (owed : OwedInView) : Type 0 where
   below : List StackEntry
   entries : bare.entries ≡ link.entry ∷ below
   rest : below ≡ links_on bare.me links ++ filter (is_shown eyes) below
@@ -372,8 +382,9 @@ record Top (eyes : Eyes) (bare : HostShape) (link : Link) (links : List Link) (t
   is_link : IsLink eyes link there
   owes : Owes eyes (at bare.me there.at link.entry.frame link.entry.kept) links owed
 
-top_of : (eyes : Eyes) (bare : HostShape) (holder : Holder) (link : Link) (links : List Link) (token : Token)
-    (owed : Owed) (now shown : View) → (given : Given eyes bare holder (link ∷ links) token owed now shown) →
+top_of : (eyes : Eyes) (bare : HostState) (holder : UnseenHolder) (link : HiddenEntry) (links : List HiddenEntry)
+    (token : Token)
+    (owed : OwedInView) (now shown : LowView) → (given : Given eyes bare holder (link ∷ links) token owed now shown) →
     Top eyes bare link links token given.owes.2.0 owed
 top_of eyes bare holder link links token owed now shown given =
     let me = bare.me in
@@ -410,8 +421,9 @@ no_halt eyes are entry hidden = elim (cases_Bool (entry.0 == halt.0)) [
 ]
 
 -- the thread of the last entry of the chain goes on unseen
-pops_hidden : (eyes : Eyes) (bare : HostShape) (holder : Holder) (link : Link) (links : List Link) (token : Token)
-    (owed : Owed) (now shown : View) (label : ℕ) (there : Entry) →
+pops_hidden : (eyes : Eyes) (bare : HostState) (holder : UnseenHolder) (link : HiddenEntry) (links : List HiddenEntry)
+    (token : Token)
+    (owed : OwedInView) (now shown : LowView) (label : ℕ) (there : Entry) →
     Given eyes bare holder (link ∷ links) token owed now shown →
     (top : Top eyes bare link links token there owed) → Ends eyes bare.me holder (link ∷ links) now shown label
     (record {
@@ -468,11 +480,12 @@ pops_hidden eyes bare holder link links token owed now shown label there given t
 
 -- ---- both
 
-abbrev GivenEnds : Eyes → HostShape → Holder → List Link → View → View → ℕ → HostShape → Type 0
+abbrev GivenEnds : Eyes → HostState → UnseenHolder → List HiddenEntry → LowView → LowView → ℕ → HostState → Type 0
 GivenEnds eyes bare holder links now shown label state =
     Ends eyes bare.me holder links now shown label (record { state = state; sent = None })
 
-seen_passes : (eyes : Eyes) (bare : HostShape) (holder : Holder) (token : Token) (owed : Owed) (now shown : View)
+seen_passes : (eyes : Eyes) (bare : HostState) (holder : UnseenHolder) (token : Token) (owed : OwedInView)
+    (now shown : LowView)
     (label : ℕ) (entries : List StackEntry) → Given eyes bare holder [] token owed now shown →
     bare.entries ≡ entries → top_token bare.entries ≡ Some token →
     GivenEnds eyes bare holder [] now shown label (after_pop eyes.code bare entries)
@@ -484,8 +497,9 @@ seen_passes eyes bare holder token owed now shown label (top ∷ below) given ar
     given
     (popped eyes bare holder token owed now shown top below given are is_top) refl refl
 
-pub given_ends : (eyes : Eyes) (bare : HostShape) (holder : Holder) (links : List Link) (token : Token) (owed : Owed)
-    (now shown : View) (label : ℕ) (passes : Bool) → Given eyes bare holder links token owed now shown →
+pub given_ends : (eyes : Eyes) (bare : HostState) (holder : UnseenHolder) (links : List HiddenEntry) (token : Token)
+    (owed : OwedInView)
+    (now shown : LowView) (label : ℕ) (passes : Bool) → Given eyes bare holder links token owed now shown →
     (passes ≡ true → top_token bare.entries ≡ Some token) → (top_token bare.entries ≡ Some token → passes ≡ true) →
     GivenEnds eyes bare holder links now shown label
     (if passes then after_pop eyes.code bare bare.entries else with_one_ignored bare)
@@ -500,7 +514,7 @@ given_ends eyes bare holder [] token owed now shown label false given is_top pas
 given_ends eyes bare holder (link ∷ links) token owed now shown label true given is_top passes =
     let top = top_of eyes bare holder link links token owed now shown given in
     let there = given.owes.2.0 in
-    let b : HostShape = record bare { entries = top.below } in
+    let b : HostState = record bare { entries = top.below } in
     let on : after_pop eyes.code bare bare.entries
     ≡ with_running b (Some (thread_at there link.entry.frame link.entry.kept)) =
     ap (after_pop eyes.code bare) top.entries

@@ -12,12 +12,12 @@ use Rattle.token_laws.proofs.Walks.{fits_there, one_more}
 use Rattle.seen_world.specs.Eyes.{Eyes, AreEyes, Watches}
 use Rattle.seen_world.proofs.PointsKept.{points_kept}
 use Rattle.agreement.specs.Leads.{Leads, Agree}
-use Rattle.agreement.specs.Views.{View}
+use Rattle.agreement.specs.Views.{LowView}
 use Rattle.agreement.proofs.HiddenTakes.{take_leads}
 use Rattle.agreement.proofs.HiddenTurns.{turn_leads}
 
 pub event_leads : (eyes : Eyes) (rows : List declared_hosts.HostShape) (bad : ℕ) (store : List (List ℤ))
-    (events : List Event) (world after : WorldShape) (event : Event) (shown : View) → AreEyes eyes →
+    (events : List Event) (world after : WorldShape) (event : Event) (shown : LowView) → AreEyes eyes →
     Watches eyes (world_at_start eyes.code rows bad store) → IsReached eyes.code rows bad store events world →
     IsStep eyes.code world event after → IsSecret eyes.code world event → Leads eyes world shown →
     Leads eyes after shown
@@ -44,7 +44,7 @@ pub no_event : {A : Type 0} (event : Event) (others : List Event) → [] ≡ eve
 no_event event others is = absurd (cc)
 
 pub run_leads : (eyes : Eyes) (rows : List declared_hosts.HostShape) (bad : ℕ) (store : List (List ℤ))
-    (events : List Event) (world : WorldShape) (later : List Event) (after : WorldShape) (shown : View) →
+    (events : List Event) (world : WorldShape) (later : List Event) (after : WorldShape) (shown : LowView) →
     AreEyes eyes → Watches eyes (world_at_start eyes.code rows bad store) →
     IsReached eyes.code rows bad store events world → IsSeenRun eyes.code world later [] after →
     Leads eyes world shown → Leads eyes after shown

@@ -18,8 +18,8 @@ use Rattle.host_code.specs.Thread.Awaited.{value_of_field, acknowledgement, toke
 use Rattle.entry_check.specs.declared.ask.Ask.TheVariants as ask
 use Rattle.entry_check.specs.Checks.{May}
 use Rattle.host_core.specs.Fits.{StateFits, WaitingFits}
-use Rattle.host_core.specs.Host.{HostShape, Outcome, with_variables_set, with_temporary, with_token, after_entering}
-use Rattle.host_core.specs.Taking.{Passes, IsTaking, after_taking, after_answer, place_of_awaiting}
+use Rattle.host_core.specs.Host.{HostState, Outcome, with_variables_set, with_temporary, with_token, after_entering}
+use Rattle.host_core.specs.Taking.{PassesCheck, IsTaking, after_taking, after_answer, place_of_awaiting}
 use Rattle.event_text.specs.declared.event.Event.TheVariants.{Take}
 use Rattle.net_world.specs.Fits.{ShapeFits}
 use Rattle.net_world.specs.Flying.{Flight, with_flights}
@@ -30,7 +30,7 @@ use Rattle.token_laws.proofs.HeldLaws.{all_at}
 use Rattle.token_laws.proofs.Riding.{riding_is}
 use Rattle.token_laws.proofs.Tests.{parts_same, number_same}
 use Rattle.seen_world.specs.Eyes.{Eyes, AreEyes, Watches, sees_at}
-use Rattle.seen_world.specs.Points.{AsksAt, WaitsWell, HostKeeps, IsAskedBy, FliesWell, IsLabelledAs, IsRequest}
+use Rattle.seen_world.specs.Points.{AsksAt, WaitsWell, HostKeeps, IsAskedBy, FliesWell, IsLabelledAs, IsCheckedByLabels}
 use Rattle.seen_world.specs.Points.{IsInFlight}
 use Rattle.seen_world.specs.Points.{SetsHidden, IsDeepEntry, EntersHidden, PointsHold}
 use Rattle.seen_world.proofs.Answered.{answer_carries}
@@ -41,10 +41,11 @@ use Rattle.seen_world.proofs.SecretSets.{flight_sets, flight_enters}
 use Rattle.seen_world.proofs.SecretTurns.{held_by}
 use Rattle.seen_world.proofs.SeenWorlds.{take_secret}
 use Rattle.seen_world.proofs.TakesKept.{on_me}
-use Rattle.agreement.specs.Leads.{Holder, nobody, runs, waits, flies, flies_on, Link, IsMailOf, token_with, FliesTo}
+use Rattle.agreement.specs.Leads.{UnseenHolder, nobody, runs, waits, flies, flies_on, HiddenEntry, IsMailOf, token_with}
+use Rattle.agreement.specs.Leads.{FliesTo}
 use Rattle.agreement.specs.Leads.{HeldAt}
 use Rattle.agreement.specs.Leads.{Leads}
-use Rattle.agreement.specs.Views.{View, Spot, at, Owed, sees_variable, flies_open}
+use Rattle.agreement.specs.Views.{LowView, Spot, at, OwedInView, sees_variable, flies_open}
 use Rattle.agreement.proofs.AnswersTaken.{found_waiting, answer_ends}
 use Rattle.agreement.proofs.Ends.{Ends, own_waiting}
 use Rattle.agreement.proofs.HiddenTurns.{ends_leads}
@@ -56,7 +57,7 @@ use Rattle.agreement.proofs.Takes.{riders_stay, asking, sync_ends}
 -- ---- who it is that goes on unseen
 
 -- a message in flight belongs to a thread that waits unseen, or hands control over unseen
-abbrev pub FliesUnseen : Holder → HostId → HostId → Flight → Type 0
+abbrev pub FliesUnseen : UnseenHolder → HostId → HostId → Flight → Type 0
 FliesUnseen holder from to flight =
     ((host : HostId) × (waiting : WaitingShape) × (holder ≡ waits host waiting from to flight))
     ⊎ (holder ≡ flies from to flight)
@@ -80,7 +81,7 @@ same_flight p flights place from to i j flight one A make is there passes =
         ∙ ap (make i j) (sym third)
     by false same none = absurd (kept_some p flights place flight there passes none)
 
-pub holder_flies : (holder : Holder) (p : Flight → Bool) (flights : List Flight) (place : ℕ) (from to : HostId)
+pub holder_flies : (holder : UnseenHolder) (p : Flight → Bool) (flights : List Flight) (place : ℕ) (from to : HostId)
     (flight : Flight) → filter p flights ≡ flies_on holder from to → slice_get flights place ≡ Some flight →
     p flight ≡ true → FliesUnseen holder from to flight
 holder_flies nobody p flights place from to flight is there passes =
@@ -91,28 +92,29 @@ holder_flies (waits host waiting i j one) p flights place from to flight is ther
     inl (
       host,
       waiting,
-      same_flight p flights place i j from to flight one Holder (waits host waiting) is there passes,
+      same_flight p flights place i j from to flight one UnseenHolder (waits host waiting) is there passes,
     )
 holder_flies (flies i j one) p flights place from to flight is there passes =
-    inr (same_flight p flights place i j from to flight one Holder flies is there passes)
+    inr (same_flight p flights place i j from to flight one UnseenHolder flies is there passes)
 
 -- ---- a thread that waits unseen
 
 -- what is known of what the message says
-record Says (eyes : Eyes) (state : HostShape) (from : HostId) (label : ℕ) (said : Message) : Type 0 where
+record Says (eyes : Eyes) (state : HostState) (from : HostId) (label : ℕ) (said : Message) : Type 0 where
   asked : IsAskedBy eyes from state.me said
   labelled : IsLabelledAs eyes from state.me said label
   sets : SetsHidden eyes said
   enters : EntersHidden eyes said
-  passes : IsRequest said → Passes eyes.code state from said
+  passes : IsCheckedByLabels said → PassesCheck eyes.code state from said
 
 pub no_request : {A : Type 0} (one : RequestId) → None ≡ Some one → A
 no_request one is = absurd (cc)
 
 -- a message passes its check
-passed : (eyes : Eyes) (state : HostShape) (holder : Holder) (links : List Link) (now shown : View) (label : ℕ)
-    (from : HostId) (said : Message) (passes : Bool) → (IsTrue passes ↔ Passes eyes.code state from said) →
-    Passes eyes.code state from said →
+passed : (eyes : Eyes) (state : HostState) (holder : UnseenHolder) (links : List HiddenEntry) (now shown : LowView)
+    (label : ℕ)
+    (from : HostId) (said : Message) (passes : Bool) → (IsTrue passes ↔ PassesCheck eyes.code state from said) →
+    PassesCheck eyes.code state from said →
     Ends eyes state.me holder links now shown label (after_taking eyes.code state from said true) →
     Ends eyes state.me holder links now shown label (after_taking eyes.code state from said passes)
 passed eyes state holder links now shown label from said passes checks holds ends =
@@ -120,16 +122,16 @@ passed eyes state holder links now shown label from said passes checks holds end
     (sym (checks.1 holds)) ends
 
 -- an answer comes to the thread that waits for it
-answered : (eyes : Eyes) (state : HostShape) (host from : HostId) (waiting : WaitingShape) (flight : Flight)
-    (links : List Link) (before token : Token) (owed : Owed) (now shown : View) (awaited : Awaited)
+answered : (eyes : Eyes) (state : HostState) (host from : HostId) (waiting : WaitingShape) (flight : Flight)
+    (links : List HiddenEntry) (before token : Token) (owed : OwedInView) (now shown : LowView) (awaited : Awaited)
     (request : RequestId) (said : Message) (passes : Bool) (goes : ThreadShape → ThreadShape) →
     Taken eyes state (waits host waiting from state.me flight) links
     (at host waiting.request.at waiting.thread.frame before) owed now shown from flight →
     StateFits eyes.code state → AsksAt eyes state.me request.at awaited from → Some request ≡ Some waiting.request →
     from ≡ waiting.asked → state.me ≡ host → before ≡ token → (goes waiting.thread).at ≡ waiting.thread.at →
     (goes waiting.thread).frame ≡ waiting.thread.frame → (goes waiting.thread).held ≡ Some token →
-    (IsTrue passes ↔ Passes eyes.code state from said) →
-    (IsSome (place_of_awaiting state awaited request from) → Passes eyes.code state from said) →
+    (IsTrue passes ↔ PassesCheck eyes.code state from said) →
+    (IsSome (place_of_awaiting state awaited request from) → PassesCheck eyes.code state from said) →
     record { state = after_answer state (place_of_awaiting state awaited request from) goes; sent = None }
     ≡ after_taking eyes.code state from said true →
     Ends eyes state.me (waits host waiting from state.me flight) links now shown flight.label
@@ -160,12 +162,13 @@ answered eyes state host from waiting flight links before token owed now shown a
     (subst (λ (h : HostId). Ends eyes me (waits h waiting from me flight) links now shown flight.label
     (after_taking eyes.code state from said true)) own ends)
 
-waits_ends : (eyes : Eyes) (state : HostShape) (host from : HostId) (waiting : WaitingShape) (flight : Flight)
-    (links : List Link) (token : Token) (owed : Owed) (now shown : View) (said : Message) (passes : Bool) →
+waits_ends : (eyes : Eyes) (state : HostState) (host from : HostId) (waiting : WaitingShape) (flight : Flight)
+    (links : List HiddenEntry) (token : Token) (owed : OwedInView) (now shown : LowView) (said : Message)
+    (passes : Bool) →
     Taken eyes state (waits host waiting from state.me flight) links
     (at host waiting.request.at waiting.thread.frame token) owed now shown from flight → StateFits eyes.code state →
     token_with said waiting.thread.held ≡ Some token → IsMailOf host waiting from state.me said →
-    Says eyes state from flight.label said → (IsTrue passes ↔ Passes eyes.code state from said) →
+    Says eyes state from flight.label said → (IsTrue passes ↔ PassesCheck eyes.code state from said) →
     Ends eyes state.me (waits host waiting from state.me flight) links now shown flight.label
     (after_taking eyes.code state from said passes)
 waits_ends eyes state host from waiting flight links token owed now shown (message.Get request field index) passes take
@@ -205,7 +208,8 @@ waits_ends eyes state host from waiting flight links token owed now shown (messa
     subst (λ (t : Token). Ends eyes state.me (waits host waiting from state.me flight) links now shown flight.label
     (after_taking eyes.code state from (message.Sync request frame entry t) passes)) same
     (passed eyes state _ links now shown flight.label from (message.Sync request frame entry token) passes
-    (subst (λ (t : Token). IsTrue passes ↔ Passes eyes.code state from (message.Sync request frame entry t)) (sym same)
+    (subst (λ (t : Token). IsTrue passes ↔ PassesCheck eyes.code state from (message.Sync request frame entry t))
+    (sym same)
     checks) holds
     (sync_ends eyes state host from waiting flight links token owed now shown request frame entry take (record {
       request_is = some_is mail.0;
@@ -257,8 +261,9 @@ waits_ends eyes state host from waiting flight links token owed now shown (messa
 -- ---- control that is handed over unseen
 
 -- a thread starts at the entry of a message, whichever variables that may not be seen were set before
-starts_ends : (eyes : Eyes) (state : HostShape) (from : HostId) (flight : Flight) (links : List Link) (spot : Spot)
-    (owed : Owed) (now shown : View) (variables : FrameId → VarId → ℤ) (frame : FrameId) (entry : EntryId)
+starts_ends : (eyes : Eyes) (state : HostState) (from : HostId) (flight : Flight) (links : List HiddenEntry)
+    (spot : Spot)
+    (owed : OwedInView) (now shown : LowView) (variables : FrameId → VarId → ℤ) (frame : FrameId) (entry : EntryId)
     (token : Token) → Taken eyes state (flies from state.me flight) links spot owed now shown from flight →
     FliesTo eyes state.me (message.Rgoto frame entry token) spot → May eyes.code state.me (ask.Enter entry) from →
     IsDeepEntry eyes entry.0 →
@@ -282,11 +287,12 @@ starts_ends eyes state from flight links spot owed now shown variables frame ent
     })) (sym deep.is)
     (enters_unseen eyes state from flight links token owed now shown variables frame entry deep at_entry stay)
 
-flies_ends : (eyes : Eyes) (state : HostShape) (from : HostId) (flight : Flight) (links : List Link) (spot : Spot)
-    (owed : Owed) (now shown : View) (said : Message) (passes : Bool) →
+flies_ends : (eyes : Eyes) (state : HostState) (from : HostId) (flight : Flight) (links : List HiddenEntry)
+    (spot : Spot)
+    (owed : OwedInView) (now shown : LowView) (said : Message) (passes : Bool) →
     Taken eyes state (flies from state.me flight) links spot owed now shown from flight →
     FliesTo eyes state.me said spot → Says eyes state from flight.label said →
-    (IsTrue passes ↔ Passes eyes.code state from said) →
+    (IsTrue passes ↔ PassesCheck eyes.code state from said) →
     Ends eyes state.me (flies from state.me flight) links now shown flight.label
     (after_taking eyes.code state from said passes)
 flies_ends eyes state from flight links spot owed now shown (message.Rgoto frame entry token) passes take goes says
@@ -304,7 +310,7 @@ flies_ends eyes state from flight links spot owed now shown (message.RgotoWith f
     (riders_stay eyes state frame riders says.sets) in
     passed eyes state _ links now shown flight.label from (message.RgotoWith frame entry token riders) passes checks
     holds
-    (subst (λ (one : HostShape). Ends eyes me (flies from me flight) links now shown flight.label (record {
+    (subst (λ (one : HostState). Ends eyes me (flies from me flight) links now shown flight.label (record {
       state = after_entering one (entry_at eyes.code entry) frame token;
       sent = None;
     })) (riding_is state frame riders) ends)
@@ -331,11 +337,12 @@ flies_ends eyes state from flight links spot owed now shown (message.Token reque
 
 -- ---- both
 
-holder_ends : (eyes : Eyes) (state : HostShape) (holder : Holder) (links : List Link) (spot : Spot) (owed : Owed)
-    (now shown : View) (from : HostId) (flight : Flight) (passes : Bool) →
+holder_ends : (eyes : Eyes) (state : HostState) (holder : UnseenHolder) (links : List HiddenEntry) (spot : Spot)
+    (owed : OwedInView)
+    (now shown : LowView) (from : HostId) (flight : Flight) (passes : Bool) →
     Taken eyes state holder links spot owed now shown from flight → FliesUnseen holder from state.me flight →
     HeldAt eyes holder spot → StateFits eyes.code state → Says eyes state from flight.label flight.message →
-    (IsTrue passes ↔ Passes eyes.code state from flight.message) →
+    (IsTrue passes ↔ PassesCheck eyes.code state from flight.message) →
     Ends eyes state.me holder links now shown flight.label (after_taking eyes.code state from flight.message passes)
 holder_ends eyes state holder links spot owed now shown from flight passes take (inl is) held fits says checks =
     let me = state.me in
@@ -354,16 +361,16 @@ holder_ends eyes state holder links spot owed now shown from flight passes take 
     (subst (λ h. Taken eyes state h links spot owed now shown from flight) is take)
     (subst (λ h. HeldAt eyes h spot) is held) says checks)
 
-flies_alone : (eyes : Eyes) (world : WorldShape) (holder : Holder) (from to : HostId) (flight : Flight) →
+flies_alone : (eyes : Eyes) (world : WorldShape) (holder : UnseenHolder) (from to : HostId) (flight : Flight) →
     FliesUnseen holder from to flight → (i j : HostId) →
     flies_on holder i j ≡ (if i.0 == from.0 && j.0 == to.0 then flight ∷ [] else [])
-flies_alone eyes world holder from to flight (inl is) i j = ap (λ (h : Holder). flies_on h i j) is.2
-flies_alone eyes world holder from to flight (inr is) i j = ap (λ (h : Holder). flies_on h i j) is
+flies_alone eyes world holder from to flight (inl is) i j = ap (λ (h : UnseenHolder). flies_on h i j) is.2
+flies_alone eyes world holder from to flight (inr is) i j = ap (λ (h : UnseenHolder). flies_on h i j) is
 
 -- ---- a take
 
-took : (eyes : Eyes) (world after : WorldShape) (from : HostId) (place : ℕ) (state : HostShape) (flight : Flight)
-    (outcome : Outcome) (shown : View) → AreEyes eyes → IsSoundCode eyes.code → Watches eyes world →
+took : (eyes : Eyes) (world after : WorldShape) (from : HostId) (place : ℕ) (state : HostState) (flight : Flight)
+    (outcome : Outcome) (shown : LowView) → AreEyes eyes → IsSoundCode eyes.code → Watches eyes world →
     ShapeFits eyes.code world → PointsHold eyes world → StateFits eyes.code state → eyes.bad state.me ≡ false →
     HostKeeps eyes state.me state → slice_get (world.flying from state.me) place ≡ Some flight →
     state_at world state.me ≡ Some state → state.running ≡ None → sees_at eyes flight.label ≡ false →
@@ -415,7 +422,7 @@ took eyes world after from place state flight outcome shown are sound watch fits
     (λ it answer. ap eyes.bad answer.0 ∙ flies_well.obeys)
     (answer_carries eyes state from flight.message outcome are obeys flies_well.well.0 takes)) leaves ends
 
-pub take_leads : (eyes : Eyes) (world after : WorldShape) (from to : HostId) (place : ℕ) (shown : View) →
+pub take_leads : (eyes : Eyes) (world after : WorldShape) (from to : HostId) (place : ℕ) (shown : LowView) →
     AreEyes eyes → IsSoundCode eyes.code → Watches eyes world → ShapeFits eyes.code world → PointsHold eyes world →
     IsStep eyes.code world (Take from to place) after → IsSecret eyes.code world (Take from to place) →
     Leads eyes world shown → Leads eyes after shown

@@ -14,7 +14,7 @@ use Rattle.host_code.specs.Code.{instruction_at, field_at}
 use Rattle.host_code.specs.Sound.{IsSoundCode, OperationFits}
 use Rattle.host_code.specs.Thread.{ThreadShape}
 use Rattle.host_core.specs.Fits.{RunningFits, StateFits}
-use Rattle.host_core.specs.Host.{HostShape, Outcome, with_running, without_message, with_message}
+use Rattle.host_core.specs.Host.{HostState, Outcome, with_running, without_message, with_message}
 use Rattle.host_core.specs.Turn.{IsTurn, IsTurnOf, IsRunning, after_operation, after_back, PassesWith, label_of_turn}
 use Rattle.event_text.specs.declared.event.Event.TheVariants.{Turn}
 use Rattle.net_world.specs.Fits.{ShapeFits, IsStateOf}
@@ -31,9 +31,11 @@ use Rattle.seen_world.specs.Points.{RunsWell, HostKeeps, HostsKeep}
 use Rattle.seen_world.proofs.PointsAtStart.{own_state}
 use Rattle.seen_world.proofs.SecretTurns.{secret_told}
 use Rattle.seen_world.proofs.SeenWorlds.{turn_secret}
-use Rattle.agreement.specs.Leads.{Holder, runs, flies_on, Link, hidden_running, hidden_flights, HeldAt, Hides, Owes}
-use Rattle.agreement.specs.Leads.{Keeps, Leads}
-use Rattle.agreement.specs.Views.{View, Shows, Completed, at, given_back, Owed, gives, goes_on, exit_of, flights_view}
+use Rattle.agreement.specs.Leads.{UnseenHolder, runs, flies_on, HiddenEntry, hidden_running, hidden_flights, HeldAt}
+use Rattle.agreement.specs.Leads.{Hides, Owes}
+use Rattle.agreement.specs.Leads.{KeepsUnseen, Leads}
+use Rattle.agreement.specs.Views.{LowView, Shows, Completed, at, given_back, OwedInView, gives, goes_on, exit_of}
+use Rattle.agreement.specs.Views.{flights_view}
 use Rattle.agreement.proofs.Branches.{branch_ends}
 use Rattle.agreement.proofs.Ends.{Sends, Ends, Unseen, shows_then, hands_unseen}
 use Rattle.agreement.proofs.GivesBack.{given_ends}
@@ -46,15 +48,17 @@ use Rattle.agreement.proofs.Turns.{return_ends, ask_ends}
 
 -- ---- a token is given back
 
-pub gives_moved : (eyes : Eyes) (links : List Link) (owed : Owed) (host : HostId) (place : ℕ) (frame : FrameId)
+pub gives_moved : (eyes : Eyes) (links : List HiddenEntry) (owed : OwedInView) (host : HostId) (place : ℕ)
+    (frame : FrameId)
     (token : Token) → is_deep eyes host place ≡ true → Owes eyes (at host place frame token) links owed →
     Owes eyes (given_back token) links owed
 gives_moved eyes [] owed host place frame token deep owes =
     sym (ap (λ (b : Bool). if b then gives token else goes_on host (exit_of eyes host place) frame token) deep) ∙ owes
 gives_moved eyes (link ∷ links) owed host place frame token deep owes = (tt, owes.1, owes.2)
 
-back_ends : (eyes : Eyes) (old : HostShape) (thread : ThreadShape) (links : List Link) (token : Token) (owed : Owed)
-    (now shown : View) (label : ℕ) (there : Instr) (passes : Bool) →
+back_ends : (eyes : Eyes) (old : HostState) (thread : ThreadShape) (links : List HiddenEntry) (token : Token)
+    (owed : OwedInView)
+    (now shown : LowView) (label : ℕ) (there : Instr) (passes : Bool) →
     Unseen eyes old thread links token owed now shown → IsHere eyes old thread there →
     IsShadedOp eyes.scene eyes.shades old.me thread.at op.Back →
     (IsTrue passes ↔ PassesWith eyes.code (with_running old None) op.Back thread.held) →
@@ -91,9 +95,10 @@ back_ends eyes old thread links token owed now shown label there passes run is l
 
 -- ---- each instruction
 
-operation_ends : (eyes : Eyes) (old : HostShape) (thread : ThreadShape) (links : List Link) (token : Token) (owed :
-    Owed)
-    (now shown : View) (label count : ℕ) (there : Instr) (it : Op) (passes : Bool) →
+operation_ends : (eyes : Eyes) (old : HostState) (thread : ThreadShape) (links : List HiddenEntry) (token : Token)
+    (owed :
+    OwedInView)
+    (now shown : LowView) (label count : ℕ) (there : Instr) (it : Op) (passes : Bool) →
     Unseen eyes old thread links token owed now shown → IsHere eyes old thread there →
     IsShadedOp eyes.scene eyes.shades old.me thread.at it → OperationFits eyes.code old.me count it →
     (IsTrue passes ↔ PassesWith eyes.code (with_running old None) it thread.held) →
@@ -154,8 +159,8 @@ operation_ends eyes old thread links token owed now shown label count there (op.
 -- ---- a step of a host
 
 -- with what is in flight but for a message that was taken
-pub ends_leads : (eyes : Eyes) (world after : WorldShape) (flying : Flying) (me : HostId) (old : HostShape)
-    (outcome : Outcome) (label : ℕ) (owed : Owed) (keeps : Keeps eyes world owed) (now shown : View) →
+pub ends_leads : (eyes : Eyes) (world after : WorldShape) (flying : Flying) (me : HostId) (old : HostState)
+    (outcome : Outcome) (label : ℕ) (owed : OwedInView) (keeps : KeepsUnseen eyes world owed) (now shown : LowView) →
     Shows eyes world now → Watches eyes world → state_at world me ≡ Some old → FlyOpenly eyes flying →
     FlyAlike eyes flying world.flying → sees_at eyes label ≡ false →
     IfSome outcome.sent (λ it. eyes.bad it.0 ≡ false) →
@@ -196,8 +201,8 @@ ends_leads eyes world after flying me old outcome label owed keeps now shown sho
 -- ---- a turn
 
 -- what holds where a thread runs unseen
-turn_unseen : (eyes : Eyes) (world : WorldShape) (old : HostShape) (thread : ThreadShape) (owed : Owed)
-    (keeps : Keeps eyes world owed) (now shown : View) → AreEyes eyes → IsSoundCode eyes.code →
+turn_unseen : (eyes : Eyes) (world : WorldShape) (old : HostState) (thread : ThreadShape) (owed : OwedInView)
+    (keeps : KeepsUnseen eyes world owed) (now shown : LowView) → AreEyes eyes → IsSoundCode eyes.code →
     eyes.bad old.me ≡ false → HostKeeps eyes old.me old → state_at world old.me ≡ Some old →
     old.running ≡ Some thread → is_open eyes old.me thread.at ≡ false → Shows eyes world now →
     Completed eyes owed now shown → (keeps.holder ≡ runs old.me thread)
@@ -231,8 +236,8 @@ turn_unseen eyes world old thread owed keeps now shown are sound obeys own there
       ),
     )
 
-turned : (eyes : Eyes) (world after : WorldShape) (old : HostShape) (outcome : Outcome) (thread : ThreadShape)
-    (there : Instr) (shown : View) → AreEyes eyes → IsSoundCode eyes.code → Watches eyes world →
+turned : (eyes : Eyes) (world after : WorldShape) (old : HostState) (outcome : Outcome) (thread : ThreadShape)
+    (there : Instr) (shown : LowView) → AreEyes eyes → IsSoundCode eyes.code → Watches eyes world →
     ShapeFits eyes.code after → StateFits eyes.code old → eyes.bad old.me ≡ false → HostKeeps eyes old.me old →
     state_at world old.me ≡ Some old → old.running ≡ Some thread → IsHere eyes old thread there →
     is_open eyes old.me thread.at ≡ false → IsTurn eyes.code old outcome →
@@ -261,12 +266,12 @@ turned eyes world after old outcome thread there shown are sound watch fits_afte
     shaded.law ((sound.parts old.me fits.me).instructions thread.at there here).operation runs_it.1) fit in
     ends_leads eyes world after world.flying old.me old outcome label leads.owed leads.keeps leads.now shown leads.shows
     watch at_me
-    (λ i j. leads.keeps.flying i j ∙ ap (λ (h : Holder). flies_on h i j) unseen.0) (λ i j. refl) (same ∙ hidden)
+    (λ i j. leads.keeps.flying i j ∙ ap (λ (h : UnseenHolder). flies_on h i j) unseen.0) (λ i j. refl) (same ∙ hidden)
     (secret_told eyes old thread outcome are is run.well hidden turns)
     (ap (after_step world old.me outcome) (sym label_is) ∙ leaves)
     (subst (λ h. Ends eyes old.me h links leads.now shown label outcome) (sym unseen.0) ends)
 
-pub turn_leads : (eyes : Eyes) (world after : WorldShape) (host : HostId) (shown : View) → AreEyes eyes →
+pub turn_leads : (eyes : Eyes) (world after : WorldShape) (host : HostId) (shown : LowView) → AreEyes eyes →
     IsSoundCode eyes.code → Watches eyes world → ShapeFits eyes.code world → ShapeFits eyes.code after →
     HostsKeep eyes world → IsStep eyes.code world (Turn host) after → IsSecret eyes.code world (Turn host) →
     Leads eyes world shown → Leads eyes after shown

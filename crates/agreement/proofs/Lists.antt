@@ -6,7 +6,7 @@ use Rattle.std.specs.List.{AllByRecursion}
 use Rattle.std.proofs.lemmas.Bool.{cases_Bool, false≢true}
 use Rattle.std.proofs.lemmas.List.{append-nil}
 use Rattle.std.proofs.lemmas.List.Elements.{filter-append}
-use Rattle.net_world.specs.Released.{AreAlike}
+use Rattle.net_world.specs.Released.{OneIsFront}
 
 pub index_apart : (counts : List ℕ) (place other count : ℕ) → other ≢ place →
     slice_index (slice_set counts place count) other ≡ slice_index counts other
@@ -135,7 +135,7 @@ each_same f g (x ∷ xs) same =
 
 -- Lists that are equal as far as both go, and begin with parts of one length, begin with the same.
 pub same_chunk : {X : Type 0} (own other later more : List X) → length own ≡ length other →
-    AreAlike (own ++ later) (other ++ more) → (own ≡ other) × AreAlike later more
+    OneIsFront (own ++ later) (other ++ more) → (own ≡ other) × OneIsFront later more
 same_chunk [] [] later more many alike = (refl, alike)
 same_chunk [] (y ∷ other) later more many alike = absurd (omega (arith, many))
 same_chunk (x ∷ own) [] later more many alike = absurd (omega (arith, many))

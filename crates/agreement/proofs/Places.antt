@@ -20,13 +20,13 @@ use Rattle.host_code.specs.Code.{CodeFieldShape, CodeVariableShape, part_of, ins
 use Rattle.host_stores.specs.Stores.{is_same_variable, with_variable}
 use Rattle.need_labels.specs.Needs.{label_of}
 use Rattle.net_world.proofs.Rows.{row_kept}
-use Rattle.split_shades.specs.Shades.{Shade, EntryShade, Begun, Ahead, Meets, ahead_of}
+use Rattle.split_shades.specs.Shades.{Shade, EntryShade, Begun, Ahead, MeetsShade, ahead_of}
 use Rattle.split_shades.specs.Shading.{IsUnderBlock}
 use Rattle.token_laws.proofs.Tests.{parts_same, number_same}
 use Rattle.seen_world.specs.Eyes.{Eyes, AreEyes, sees_at, is_open, is_deep}
 use Rattle.seen_world.proofs.SeenPlaces.{block_seen}
-use Rattle.agreement.specs.Leads.{Link, Owes}
-use Rattle.agreement.specs.Views.{Owed, at, goes_on, gives, owed_at, exit_of, sees_field, sees_variable}
+use Rattle.agreement.specs.Leads.{HiddenEntry, Owes}
+use Rattle.agreement.specs.Views.{OwedInView, at, goes_on, gives, owed_at, exit_of, sees_field, sees_variable}
 use Rattle.agreement.proofs.Exits.{exit_guard}
 use Rattle.agreement.proofs.Lists.{not_left}
 use Rattle.agreement.proofs.ViewLaws.{deep_owes}
@@ -78,7 +78,7 @@ flow_hidden eyes are lower upper flows hidden = elim (cases_Bool (eyes.sees uppe
 ]
 
 -- where a statement goes on that has begun, its program label and the loop of its guard are the same
-pub begun_same : (ahead : Ahead) (shade : Shade) (pc : Label) (guard : Option ℕ) → Meets ahead shade →
+pub begun_same : (ahead : Ahead) (shade : Shade) (pc : Label) (guard : Option ℕ) → MeetsShade ahead shade →
     ahead.begun ≡ Some (record { pc = pc; guard = guard }) → (shade.pc ≡ pc) × (shade.guard ≡ guard)
 begun_same ahead shade pc guard meets begun =
     let P : Option Begun → Type 0 = λ found. IfSome found (λ it. it ≡ record { pc = shade.pc; guard = shade.guard }) in
@@ -88,13 +88,13 @@ begun_same ahead shade pc guard meets begun =
 -- the place of an entry
 pub stands_at : (eyes : Eyes) → AreEyes eyes → (number : ℕ) (entry : Entry) (it : EntryShade) → number ≢ 0 →
     slice_get eyes.code.entries number ≡ Some entry → slice_get eyes.shades.entries number ≡ Some it →
-    Meets (ahead_of it) (eyes.shades.at entry.host entry.at)
+    MeetsShade (ahead_of it) (eyes.shades.at entry.host entry.at)
 stands_at eyes are zero entry it apart there is = absurd (apart refl)
 stands_at eyes are (suc number) entry it apart there is = are.shaded.stands number entry it there is
 
 -- ---- what is owed
 
-pub owes_moved : (eyes : Eyes) (links : List Link) (owed : Owed) (host other : HostId) (place next : ℕ)
+pub owes_moved : (eyes : Eyes) (links : List HiddenEntry) (owed : OwedInView) (host other : HostId) (place next : ℕ)
     (frame later : FrameId) (token : Token) → (is_deep eyes host place ≡ true → is_deep eyes other next ≡ true) →
     owed_at eyes (at host place frame token) ≡ owed_at eyes (at other next later token) →
     Owes eyes (at host place frame token) links owed → Owes eyes (at other next later token) links owed
@@ -103,7 +103,7 @@ owes_moved eyes (link ∷ links) owed host other place next frame later token de
     (deep owes.0, owes.1, owes.2)
 
 -- it goes on in blocks that may not be seen
-pub deep_moved : (eyes : Eyes) (links : List Link) (owed : Owed) (host other : HostId) (place next : ℕ)
+pub deep_moved : (eyes : Eyes) (links : List HiddenEntry) (owed : OwedInView) (host other : HostId) (place next : ℕ)
     (frame later : FrameId) (token : Token) → is_deep eyes host place ≡ true → is_deep eyes other next ≡ true →
     Owes eyes (at host place frame token) links owed → Owes eyes (at other next later token) links owed
 deep_moved eyes links owed host other place next frame later token deep deep_next owes =
@@ -118,7 +118,8 @@ owed_same eyes host place next frame token deep exit =
     ∙ ap (λ (n : ℕ). if is_deep eyes host next then gives token else goes_on host n frame token) (sym exit)
 
 -- it goes on in the same block, and comes into the open at the same place
-pub exit_moved : (eyes : Eyes) (links : List Link) (owed : Owed) (host : HostId) (place next : ℕ) (frame : FrameId)
+pub exit_moved : (eyes : Eyes) (links : List HiddenEntry) (owed : OwedInView) (host : HostId) (place next : ℕ)
+    (frame : FrameId)
     (token : Token) → (eyes.shades.at host next).block ≡ (eyes.shades.at host place).block →
     exit_of eyes host next ≡ exit_of eyes host place → Owes eyes (at host place frame token) links owed →
     Owes eyes (at host next frame token) links owed
@@ -128,7 +129,8 @@ exit_moved eyes links owed host place next frame token block exit owes =
     (owed_same eyes host place next frame token deep exit) owes
 
 -- it goes on in the same block, with the same program label, and in the guard of the same loop if in one
-pub begun_moved : (eyes : Eyes) → AreEyes eyes → (links : List Link) (owed : Owed) (host : HostId) (place next : ℕ)
+pub begun_moved : (eyes : Eyes) → AreEyes eyes →
+    (links : List HiddenEntry) (owed : OwedInView) (host : HostId) (place next : ℕ)
     (frame : FrameId) (token : Token) (there other : Instr) → instruction_at eyes.code host place ≡ Some there →
     instruction_at eyes.code host next ≡ Some other → is_open eyes host place ≡ false →
     (eyes.shades.at host next).block ≡ (eyes.shades.at host place).block →

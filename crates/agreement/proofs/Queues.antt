@@ -15,7 +15,7 @@ use Rattle.token_laws.proofs.Tests.{parts_same, number_same}
 use Rattle.seen_world.specs.Eyes.{Eyes}
 use Rattle.agreement.specs.Leads.{hidden_flights}
 use Rattle.agreement.specs.Taken.{view_without}
-use Rattle.agreement.specs.Views.{View, flies_open, flight_view, flights_view}
+use Rattle.agreement.specs.Views.{LowView, flies_open, flight_view, flights_view}
 use Rattle.agreement.proofs.Lists.{kept_first, left_first, left_removed, kept_some}
 use Rattle.agreement.proofs.SeenLeads.{Calm}
 
@@ -91,7 +91,7 @@ position_mapped test f xs =
 -- ---- a message is taken out of its queue
 
 -- nothing goes on unseen then, and the same is seen but for the message
-pub taken_calm : (eyes : Eyes) (world : WorldShape) (from to : HostId) (place : ℕ) (flight : Flight) (now : View) →
+pub taken_calm : (eyes : Eyes) (world : WorldShape) (from to : HostId) (place : ℕ) (flight : Flight) (now : LowView) →
     Calm eyes world now → slice_get (world.flying from to) place ≡ Some flight →
     Calm eyes (without_flight world from to place) (view_without now from to place)
 taken_calm eyes world from to place flight now calm there = record {
@@ -130,7 +130,7 @@ taken_calm eyes world from to place flight now calm there = record {
     seen i j false is = calm.shows.flying i j
 
 -- the message that is seen there
-pub flight_seen : (eyes : Eyes) (world : WorldShape) (from to : HostId) (place : ℕ) (flight : Flight) (now : View) →
+pub flight_seen : (eyes : Eyes) (world : WorldShape) (from to : HostId) (place : ℕ) (flight : Flight) (now : LowView) →
     Calm eyes world now → slice_get (world.flying from to) place ≡ Some flight →
     slice_get (now.flying from to) place ≡ Some (flight_view eyes from to flight)
 flight_seen eyes world from to place flight now calm there =

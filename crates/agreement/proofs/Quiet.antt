@@ -7,7 +7,7 @@ use Rattle.host_code.specs.declared.instruction.Instr.{Instr}
 use Rattle.host_code.specs.Code.{instruction_at}
 use Rattle.host_code.specs.Thread.{ThreadShape}
 use Rattle.host_core.specs.Fits.{RunningFits}
-use Rattle.host_core.specs.Host.{HostShape}
+use Rattle.host_core.specs.Host.{HostState}
 use Rattle.host_core.specs.Turn.{label_of_turn}
 use Rattle.net_world.specs.Fits.{ShapeFits, IsStateOf}
 use Rattle.net_world.specs.Flying.{Flight}
@@ -16,9 +16,10 @@ use Rattle.net_world.specs.World.{WorldShape, state_at}
 use Rattle.token_laws.proofs.Tests.{itself, some_found}
 use Rattle.seen_world.specs.Eyes.{Eyes, AreEyes, Watches, sees_at, is_open}
 use Rattle.seen_world.proofs.SeenWorlds.{label_read}
-use Rattle.agreement.specs.Leads.{Holder, nobody, runs, waits, flies, runs_on, flies_on, Link, hidden_running}
+use Rattle.agreement.specs.Leads.{UnseenHolder, nobody, runs, waits, flies, runs_on, flies_on, HiddenEntry}
+use Rattle.agreement.specs.Leads.{hidden_running}
 use Rattle.agreement.specs.Leads.{hidden_waiting, Hides, HeldAt, IsPresent, Owes, Leads}
-use Rattle.agreement.specs.Views.{View, Shows, nowhere, Owed, nothing, Completed, flies_open, is_shown}
+use Rattle.agreement.specs.Views.{LowView, Shows, nowhere, OwedInView, nothing, Completed, flies_open, is_shown}
 use Rattle.agreement.proofs.Lists.{left_first}
 use Rattle.agreement.proofs.Places.{instruction_within}
 
@@ -29,7 +30,7 @@ none_left p (x ∷ xs) all =
 
 -- ---- who goes on unseen
 
-no_flight : (from to : HostId) (flight : Flight) (holder : Holder) →
+no_flight : (from to : HostId) (flight : Flight) (holder : UnseenHolder) →
     [] ≡ (if from.0 == from.0 && to.0 == to.0 then flight ∷ [] else []) → holder ≡ nobody
 no_flight from to flight holder is =
     let one : (from.0 == from.0 && to.0 == to.0) ≡ true =
@@ -37,9 +38,9 @@ no_flight from to flight holder is =
     let never : [] ≡ flight ∷ [] = is ∙ ap (λ (b : Bool). if b then flight ∷ [] else []) one in
     absurd (cc)
 
-nobody_then : (eyes : Eyes) (world : WorldShape) (holder : Holder) → ((i j : HostId) → [] ≡ flies_on holder i j) →
+nobody_then : (eyes : Eyes) (world : WorldShape) (holder : UnseenHolder) → ((i j : HostId) → [] ≡ flies_on holder i j) →
     IsPresent world holder →
-    ((host : HostId) (state : HostShape) → state_at world host ≡ Some state → None ≡ runs_on holder host) →
+    ((host : HostId) (state : HostState) → state_at world host ≡ Some state → None ≡ runs_on holder host) →
     holder ≡ nobody
 nobody_then eyes world nobody none present each = refl
 nobody_then eyes world (runs host thread) none present each =
@@ -52,12 +53,12 @@ nobody_then eyes world (waits host waiting from to flight) none present each =
 nobody_then eyes world (flies from to flight) none present each =
     no_flight from to flight (flies from to flight) (none from to)
 
-turn_label : (eyes : Eyes) (state : HostShape) (thread : ThreadShape) (there : Instr) → state.running ≡ Some thread →
+turn_label : (eyes : Eyes) (state : HostState) (thread : ThreadShape) (there : Instr) → state.running ≡ Some thread →
     instruction_at eyes.code state.me thread.at ≡ Some there → label_of_turn eyes.code state ≡ Some there.label
 turn_label eyes state thread there is at_place = rw (is, at_place) refl
 
 -- a thread that runs may be seen
-pub runs_seen : (eyes : Eyes) (world : WorldShape) (host : HostId) (state : HostShape) → AreEyes eyes →
+pub runs_seen : (eyes : Eyes) (world : WorldShape) (host : HostId) (state : HostState) → AreEyes eyes →
     Watches eyes world → IsStateOf eyes.code host state → RunsOpenly eyes.code world state →
     (running : Option ThreadShape) → state.running ≡ running → hidden_running eyes host running ≡ None
 runs_seen eyes world host state are watch fit openly None is = refl
@@ -77,14 +78,14 @@ runs_seen eyes world host state are watch fit openly (Some thread) is =
 
 -- ---- what is owed
 
-owed_nothing : (eyes : Eyes) (links : List Link) (owed : Owed) → Owes eyes nowhere links owed →
+owed_nothing : (eyes : Eyes) (links : List HiddenEntry) (owed : OwedInView) → Owes eyes nowhere links owed →
     (links ≡ []) × (owed ≡ nothing)
 owed_nothing eyes [] owed owes = (refl, sym owes)
 owed_nothing eyes (link ∷ links) owed owes = absurd owes.0
 
-pub quiet_shows : (eyes : Eyes) (world : WorldShape) (shown : View) → AreEyes eyes → Watches eyes world →
+pub quiet_shows : (eyes : Eyes) (world : WorldShape) (shown : LowView) → AreEyes eyes → Watches eyes world →
     ShapeFits eyes.code world → IsQuiet eyes.code world → Leads eyes world shown →
-    Shows eyes world shown × ((host : HostId) (state : HostShape) → state_at world host ≡ Some state →
+    Shows eyes world shown × ((host : HostId) (state : HostState) → state_at world host ≡ Some state →
     (hidden_waiting eyes host state.waiting ≡ []) × (state.entries ≡ filter (is_shown eyes) state.entries))
 quiet_shows eyes world shown are watch fits quiet leads =
     let keeps = leads.keeps in
@@ -109,9 +110,9 @@ quiet_shows eyes world shown are watch fits quiet leads =
     )
 
 -- and the other way
-pub calm_leads : (eyes : Eyes) (world : WorldShape) (shown : View) → AreEyes eyes → Watches eyes world →
+pub calm_leads : (eyes : Eyes) (world : WorldShape) (shown : LowView) → AreEyes eyes → Watches eyes world →
     ShapeFits eyes.code world → IsQuiet eyes.code world → Shows eyes world shown →
-    ((host : HostId) (state : HostShape) → state_at world host ≡ Some state →
+    ((host : HostId) (state : HostState) → state_at world host ≡ Some state →
     (hidden_waiting eyes host state.waiting ≡ []) × (state.entries ≡ filter (is_shown eyes) state.entries)) →
     Leads eyes world shown
 calm_leads eyes world shown are watch fits quiet shows calm = record {

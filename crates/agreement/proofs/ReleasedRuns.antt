@@ -8,7 +8,7 @@ use Rattle.host_decl.specs.Hosts as declared_hosts
 use Rattle.host_code.specs.declared.code_expr.Node.{Node}
 use Rattle.host_code.specs.Code.{CodeShape}
 use Rattle.host_code.specs.Thread.{ThreadShape}
-use Rattle.host_core.specs.Host.{HostShape, value_in_thread}
+use Rattle.host_core.specs.Host.{HostState, value_in_thread}
 use Rattle.host_core.specs.Turn.{label_of_turn}
 use Rattle.event_text.specs.declared.event.Event.{Event}
 use Rattle.event_text.specs.declared.event.Event.TheVariants.{Take, Turn, Act}
@@ -43,7 +43,7 @@ quiet_turn code world host quiet secret = of_host (state_at world host) refl sec
     of_label None read unread = unread
     of_label (Some label) read unread = unread read
 
-    of_host : (found : Option HostShape) → state_at world host ≡ found →
+    of_host : (found : Option HostState) → state_at world host ≡ found →
         IsSomeAnd found (λ state. IsSomeAnd (label_of_turn code state) (λ label. ¬ IsReadable code world label)) → ⊥
     of_host None is unread = unread
     of_host (Some state) is unread = of_label (label_of_turn code state) (quiet.running host state is) unread
@@ -127,13 +127,13 @@ run_releases_once code table world events seen after values others ran first sec
 abbrev pub HasNoOperand : ReleasesShape → Type 0
 HasNoOperand table = (host : HostId) (place : ℕ) → operands_at table host place ≡ []
 
-none_by_thread : (table : ReleasesShape) → HasNoOperand table → (host : HostId) (state : HostShape)
+none_by_thread : (table : ReleasesShape) → HasNoOperand table → (host : HostId) (state : HostState)
     (running : Option ThreadShape) → released_by_thread table host state running ≡ []
 none_by_thread table none host state None = refl
 none_by_thread table none host state (Some thread) =
     ap (λ (operands : List (List Node)). map (value_in_thread state thread) operands) (none host thread.at)
 
-none_by_host : (table : ReleasesShape) → HasNoOperand table → (host : HostId) (found : Option HostShape) →
+none_by_host : (table : ReleasesShape) → HasNoOperand table → (host : HostId) (found : Option HostState) →
     released_by_host table host found ≡ []
 none_by_host table none host None = refl
 none_by_host table none host (Some state) = none_by_thread table none host state state.running

@@ -3,7 +3,7 @@ use Rattle.std.proofs.Common.{◌≡◌, ℕ, zero, suc, true, [], ◌∷◌, in
 use Rattle.std.specs.Prelude.{pos, slice_get}
 use Rattle.std.proofs.lemmas.Bool.{false≢true}
 use Rattle.event_text.specs.declared.event.Event.TheVariants.{Turn}
-use Rattle.net_world.specs.Released.{AreAlike, Releases, AreReleased}
+use Rattle.net_world.specs.Released.{OneIsFront, Releases, AreReleased}
 use Rattle.net_world.specs.Secret.{IsReadable, IsSecret}
 use Rattle.net_world.specs.World.{is_absent}
 use Rattle.token_laws.specs.TokenExamples.{host_id, handing, good_start, bad_start}
@@ -50,7 +50,7 @@ secret_turn_more (inr seen) = seen.0 (λ read. unread_there read)
 
 -- ---- lists
 
-pub alike_more : ¬ (AreAlike (pos 7 ∷ pos 8 ∷ []) (pos 8 ∷ []))
+pub alike_more : ¬ (OneIsFront (pos 7 ∷ pos 8 ∷ []) (pos 8 ∷ []))
 alike_more (inl (rest, is)) =
     let first : pos 8 ≡ pos 7 = cc in
     absurd (cc)

@@ -10,7 +10,7 @@ use Rattle.host_code.specs.Sound.{IsSoundCode}
 use Rattle.event_text.specs.declared.event.Event.{Event}
 use Rattle.event_text.specs.declared.event.Event.TheVariants.{Take, Turn, Act}
 use Rattle.net_world.specs.Fits.{HasOwnToken}
-use Rattle.net_world.specs.Released.{AreAlike, Releases, AreReleased}
+use Rattle.net_world.specs.Released.{OneIsFront, Releases, AreReleased}
 use Rattle.net_world.specs.Secret.{IsSecret, IsQuiet, IsSeenRun, IsPrompt}
 use Rattle.net_world.specs.Told.{SentMessage}
 use Rattle.net_world.specs.World.{WorldShape, AreHostsOf, IsStep, world_at_start}
@@ -23,7 +23,7 @@ use Rattle.token_laws.proofs.Walks.{one_more}
 use Rattle.seen_world.specs.Eyes.{Eyes, AreEyes, Watches}
 use Rattle.agreement.specs.Alike.{AreStartsAlike}
 use Rattle.agreement.specs.Leads.{Leads, Agree}
-use Rattle.agreement.specs.Views.{View, Owed, nothing, goes_on, gives, GivenBack, Completed}
+use Rattle.agreement.specs.Views.{LowView, OwedInView, nothing, goes_on, gives, GivenBack, Completed}
 use Rattle.agreement.proofs.AnyTurns.{any_agrees}
 use Rattle.agreement.proofs.HiddenEvents.{secret_own, no_event, run_agrees}
 use Rattle.agreement.proofs.Lists.{same_chunk}
@@ -34,20 +34,20 @@ use Rattle.agreement.proofs.TakesAgree.{takes_agree}
 
 -- ---- what misbehaving hosts were sent
 
-given_sent : (eyes : Eyes) (now shown : View) (token : Token) (entries : List StackEntry) →
+given_sent : (eyes : Eyes) (now shown : LowView) (token : Token) (entries : List StackEntry) →
     GivenBack eyes now token entries shown → shown.sent ≡ now.sent
-given_sent eyes now shown token [] is = ap (λ (v : View). v.sent) is
-given_sent eyes now shown token (top ∷ below) (inl same) = ap (λ (v : View). v.sent) same.1
-given_sent eyes now shown token (top ∷ below) (inr apart) = ap (λ (v : View). v.sent) apart.1
+given_sent eyes now shown token [] is = ap (λ (v : LowView). v.sent) is
+given_sent eyes now shown token (top ∷ below) (inl same) = ap (λ (v : LowView). v.sent) same.1
+given_sent eyes now shown token (top ∷ below) (inr apart) = ap (λ (v : LowView). v.sent) apart.1
 
-completed_sent : (eyes : Eyes) (owed : Owed) (now shown : View) → Completed eyes owed now shown →
+completed_sent : (eyes : Eyes) (owed : OwedInView) (now shown : LowView) → Completed eyes owed now shown →
     shown.sent ≡ now.sent
-completed_sent eyes nothing now shown is = ap (λ (v : View). v.sent) is
-completed_sent eyes (goes_on host place frame token) now shown is = ap (λ (v : View). v.sent) is
+completed_sent eyes nothing now shown is = ap (λ (v : LowView). v.sent) is
+completed_sent eyes (goes_on host place frame token) now shown is = ap (λ (v : LowView). v.sent) is
 completed_sent eyes (gives token) now shown is =
     given_sent eyes now shown token (now.hosts token.host).entries is
 
-leads_sent : (eyes : Eyes) (world : WorldShape) (shown : View) → Leads eyes world shown → world.sent ≡ shown.sent
+leads_sent : (eyes : Eyes) (world : WorldShape) (shown : LowView) → Leads eyes world shown → world.sent ≡ shown.sent
 leads_sent eyes world shown leads =
     leads.shows.sent ∙ sym (completed_sent eyes leads.owed leads.now shown leads.completed)
 
@@ -260,11 +260,11 @@ pair_event eyes table rows bad store start one other one_after other_after event
 pair_cut : (eyes : Eyes) (table : ReleasesShape) (rows : List declared_hosts.HostShape) (bad : ℕ)
     (store start : List (List ℤ)) (one other : WorldShape) (event : Event) (rest more : List Event)
     (one_after other_after : WorldShape) (values others_values : List ℤ) →
-    Pair eyes table rows bad store start one other → AreAlike values others_values →
+    Pair eyes table rows bad store start one other → OneIsFront values others_values →
     HasOwnToken (world_at_start eyes.code rows bad store) event →
     (first : Cut eyes.code table one event rest one_after values)
     (second : Cut eyes.code table other event more other_after others_values) →
-    Pair eyes table rows bad store start first.next second.next × AreAlike first.more second.more
+    Pair eyes table rows bad store start first.next second.next × OneIsFront first.more second.more
 pair_cut eyes table rows bad store start one other event rest more one_after other_after values others_values pair alike
     has first second =
     let middle = pair_unseen eyes table rows bad store start one other first.hidden second.hidden first.middle
@@ -272,9 +272,9 @@ pair_cut eyes table rows bad store start one other event rest more one_after oth
     let many = as_many eyes rows bad store start middle.before middle.earlier first.middle second.middle first.next
     second.next event table first.own second.own middle.are middle.watch middle.watch_other middle.reach
     middle.reach_other first.step second.step first.quiet second.quiet middle.agree first.releases second.releases in
-    let both : AreAlike (first.own ++ first.more) (second.own ++ second.more) =
-    subst (AreAlike (first.own ++ first.more)) second.is
-    (subst (λ (all : List ℤ). AreAlike all others_values) first.is alike) in
+    let both : OneIsFront (first.own ++ first.more) (second.own ++ second.more) =
+    subst (OneIsFront (first.own ++ first.more)) second.is
+    (subst (λ (all : List ℤ). OneIsFront all others_values) first.is alike) in
     let parts = same_chunk first.own second.own first.more second.more many both in (
       pair_event eyes table rows bad store start first.middle second.middle first.next second.next event first.own
           middle first.releases
@@ -287,7 +287,7 @@ runs_pair : (eyes : Eyes) (table : ReleasesShape) (rows : List declared_hosts.Ho
     (store start : List (List ℤ)) (one other : WorldShape) (events others : List Event) (seen : List Event)
     (one_after other_after : WorldShape) (values others_values : List ℤ) →
     Pair eyes table rows bad store start one other → AreReleased eyes.code table one events values →
-    AreReleased eyes.code table other others others_values → AreAlike values others_values →
+    AreReleased eyes.code table other others others_values → OneIsFront values others_values →
     All (HasOwnToken (world_at_start eyes.code rows bad store)) seen → IsSeenRun eyes.code one events seen one_after →
     IsSeenRun eyes.code other others seen other_after → IsPrompt eyes.code one events →
     IsPrompt eyes.code other others → Pair eyes table rows bad store start one_after other_after
@@ -310,7 +310,7 @@ runs_tell : (eyes : Eyes) (table : ReleasesShape) (rows : List declared_hosts.Ho
     (store start : List (List ℤ)) (one other : WorldShape) (events others : List Event) (seen more : List Event)
     (one_after other_after : WorldShape) (values others_values : List ℤ) →
     Pair eyes table rows bad store start one other → AreReleased eyes.code table one events values →
-    AreReleased eyes.code table other others others_values → AreAlike values others_values →
+    AreReleased eyes.code table other others others_values → OneIsFront values others_values →
     All (HasOwnToken (world_at_start eyes.code rows bad store)) seen →
     IsSeenRun eyes.code one events (seen ++ more) one_after → IsSeenRun eyes.code other others seen other_after →
     IsPrompt eyes.code one events → IsPrompt eyes.code other others →
@@ -369,7 +369,7 @@ pub runs_agree : (eyes : Eyes) (rows : List declared_hosts.HostShape) (bad : ℕ
     Watches eyes (world_at_start eyes.code rows bad start) → AreStartsAlike eyes store start →
     AreReleased eyes.code table (world_at_start eyes.code rows bad store) events values →
     AreReleased eyes.code table (world_at_start eyes.code rows bad start) others others_values →
-    AreAlike values others_values → All (HasOwnToken (world_at_start eyes.code rows bad store)) seen →
+    OneIsFront values others_values → All (HasOwnToken (world_at_start eyes.code rows bad store)) seen →
     IsSeenRun eyes.code (world_at_start eyes.code rows bad store) events seen one →
     IsSeenRun eyes.code (world_at_start eyes.code rows bad start) others seen other →
     IsPrompt eyes.code (world_at_start eyes.code rows bad store) events →
@@ -388,7 +388,7 @@ pub told_alike : (eyes : Eyes) (rows : List declared_hosts.HostShape) (bad : ℕ
     Watches eyes (world_at_start eyes.code rows bad start) → AreStartsAlike eyes store start →
     AreReleased eyes.code table (world_at_start eyes.code rows bad store) events values →
     AreReleased eyes.code table (world_at_start eyes.code rows bad start) others others_values →
-    AreAlike values others_values → All (HasOwnToken (world_at_start eyes.code rows bad store)) seen →
+    OneIsFront values others_values → All (HasOwnToken (world_at_start eyes.code rows bad store)) seen →
     IsSeenRun eyes.code (world_at_start eyes.code rows bad store) events (seen ++ more) one →
     IsSeenRun eyes.code (world_at_start eyes.code rows bad start) others seen other →
     IsPrompt eyes.code (world_at_start eyes.code rows bad store) events →

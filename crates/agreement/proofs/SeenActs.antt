@@ -10,8 +10,8 @@ use Rattle.capability.specs.declared.token.Token.{Token}
 use Rattle.host_decl.specs.Hosts as declared_hosts
 use Rattle.host_code.specs.declared.message.Message.{Message}
 use Rattle.host_code.specs.declared.message.Message.TheVariants as message
-use Rattle.host_core.specs.Host.{HostShape, Outcome}
-use Rattle.host_core.specs.Taking.{Passes, IsTaking, after_passing}
+use Rattle.host_core.specs.Host.{HostState, Outcome}
+use Rattle.host_core.specs.Taking.{PassesCheck, IsTaking, after_passing}
 use Rattle.event_text.specs.declared.event.Event.{Event}
 use Rattle.event_text.specs.declared.event.Event.TheVariants.{Act}
 use Rattle.event_text.specs.declared.event.BadMessage.{BadMessage}
@@ -36,7 +36,7 @@ use Rattle.seen_world.proofs.SeenPlaces.{some_is}
 use Rattle.agreement.specs.Handing.{sent_view}
 use Rattle.agreement.specs.Leads.{hidden_flights, Leads, Agree}
 use Rattle.agreement.specs.Taken.{sees_answer, carried_taken, SeenMessage, SeenAct, answer_view}
-use Rattle.agreement.specs.Views.{View, sees_field, sees_read, message_view, flights_view, with_host}
+use Rattle.agreement.specs.Views.{LowView, sees_field, sees_read, message_view, flights_view, with_host}
 use Rattle.agreement.proofs.CarriedSame.{masks_same}
 use Rattle.agreement.proofs.SeenAgree.{reached_calm}
 use Rattle.agreement.proofs.SeenLeads.{Calm, quiet_calm, arrived_leads, rested_leads}
@@ -48,8 +48,8 @@ use Rattle.agreement.proofs.TakesLead.{Took}
 -- ---- what is made
 
 -- a misbehaving host is granted no entry that is hidden
-made_fresh : (eyes : Eyes) (state : HostShape) (from : HostId) (said : Message) → AreEyes eyes →
-    eyes.bad from ≡ true → eyes.bad state.me ≡ false → Passes eyes.code state from said → AsksForNoHidden eyes said
+made_fresh : (eyes : Eyes) (state : HostState) (from : HostId) (said : Message) → AreEyes eyes →
+    eyes.bad from ≡ true → eyes.bad state.me ≡ false → PassesCheck eyes.code state from said → AsksForNoHidden eyes said
 made_fresh eyes state from (message.Sync request frame entry token) are bad obeys passes =
     let takes : IsTaking eyes.code state from (message.Sync request frame entry token)
     (after_passing eyes.code state from (message.Sync request frame entry token)) =
@@ -73,8 +73,8 @@ made_fresh eyes state from (message.Token request token) are bad obeys passes = 
 -- ---- an act
 
 -- A host takes at once what a misbehaving host made, in a quiet world.
-record Acting (eyes : Eyes) (world after : WorldShape) (from : HostId) (state : HostShape) (said : Message)
-    (outcome : Outcome) (now : View) : Type 0 where
+record Acting (eyes : Eyes) (world after : WorldShape) (from : HostId) (state : HostState) (said : Message)
+    (outcome : Outcome) (now : LowView) : Type 0 where
   calm : Calm eyes world now
   there : state_at world state.me ≡ Some state
   bad : eyes.bad from ≡ true
@@ -89,8 +89,8 @@ silent_act : (world after : WorldShape) (me : HostId) (outcome : Outcome) →
 silent_act world after me outcome leaves silent =
     sym (ap (after_telling (with_state world me outcome.state) me) silent) ∙ leaves
 
-told_leads : (eyes : Eyes) (world after : WorldShape) (from : HostId) (state : HostShape) (said : Message)
-    (outcome : Outcome) (now seen : View) → Acting eyes world after from state said outcome now →
+told_leads : (eyes : Eyes) (world after : WorldShape) (from : HostId) (state : HostState) (said : Message)
+    (outcome : Outcome) (now seen : LowView) → Acting eyes world after from state said outcome now →
     Answers eyes state from 0 now outcome seen → Leads eyes after seen
 told_leads eyes world after from state said outcome now seen act answers =
     let moved = moved_acted world state.me outcome after act.leaves in
@@ -110,8 +110,8 @@ told_leads eyes world after from state said outcome now seen act answers =
     (λ i j. ap (λ (f : Flying). flights_view eyes i j (f i j)) moved.flying ∙ act.calm.shows.flying i j)
     (sent ∙ ap (λ all. all ++ (state.me, from, answers.said) ∷ []) act.calm.shows.sent))
 
-act_ends : (eyes : Eyes) (world after : WorldShape) (from : HostId) (state : HostShape) (said : Message)
-    (outcome : Outcome) (now seen : View) → Acting eyes world after from state said outcome now →
+act_ends : (eyes : Eyes) (world after : WorldShape) (from : HostId) (state : HostState) (said : Message)
+    (outcome : Outcome) (now seen : LowView) → Acting eyes world after from state said outcome now →
     TakeEnds eyes state from 0 now outcome seen → Leads eyes after seen
 act_ends eyes world after from state said outcome now seen act (inl arrives) =
     arrived_leads eyes world after state outcome now seen None act.got.are act.calm act.there
@@ -123,12 +123,12 @@ act_ends eyes world after from state said outcome now seen act (inr (inr answers
     told_leads eyes world after from state said outcome now seen act answers
 
 pub reached_acts : (eyes : Eyes) (rows : List declared_hosts.HostShape) (bad : ℕ) (store : List (List ℤ))
-    (events : List Event) (world after : WorldShape) (from to : HostId) (made : BadMessage) (now : View)
+    (events : List Event) (world after : WorldShape) (from to : HostId) (made : BadMessage) (now : LowView)
     (step : IsActStep eyes.code world from to made after) → AreEyes eyes →
     Watches eyes (world_at_start eyes.code rows bad store) → IsReached eyes.code rows bad store events world →
     HasOwnToken (world_at_start eyes.code rows bad store) (Act from to made) → IsQuiet eyes.code world →
     Leads eyes world now →
-    (seen : View)
+    (seen : LowView)
     × SeenAct eyes now from to made (carried_taken eyes step.state from step.message) seen
     × Leads eyes after seen
 reached_acts eyes rows bad store events world after from to made now step are watch reach owns quiet leads =
@@ -193,7 +193,8 @@ reached_acts eyes rows bad store events world after from to made now step are wa
 
 -- ---- two worlds
 
-pub act_once : (eyes : Eyes) (now : View) (from to : HostId) (made : BadMessage) (carried : ℤ) (first second : View) →
+pub act_once : (eyes : Eyes) (now : LowView) (from to : HostId) (made : BadMessage) (carried : ℤ)
+    (first second : LowView) →
     SeenAct eyes now from to made carried first → SeenAct eyes now from to made carried second → first ≡ second
 act_once eyes now from to made carried first second one two =
     let said : two.said ≡ one.said = some_is (sym two.makes ∙ one.makes) in
@@ -201,7 +202,7 @@ act_once eyes now from to made carried first second one two =
     (subst (λ (m : Message). SeenMessage eyes now from to 0 (message_view eyes from to m) carried second) said two.seen)
 
 -- two hosts that show the same carry the same, as misbehaving hosts are told fields that they may see
-made_carries_same : (eyes : Eyes) (one other : HostShape) (from : HostId) (said : Message) → eyes.bad from ≡ true →
+made_carries_same : (eyes : Eyes) (one other : HostState) (from : HostId) (said : Message) → eyes.bad from ≡ true →
     ((field : FieldId) → sees_field eyes field ≡ true → row_of one.rows field.0 ≡ row_of other.rows field.0) →
     carried_taken eyes one from said ≡ carried_taken eyes other from said
 made_carries_same eyes one other from (message.Get request field index) bad rows =

@@ -12,7 +12,7 @@ use Rattle.host_code.specs.declared.instruction.Op.TheVariants as op
 use Rattle.host_code.specs.Code.{instruction_at, entry_at}
 use Rattle.host_code.specs.Sound.{IsSoundCode, IsHost}
 use Rattle.host_code.specs.Thread.{ThreadShape}
-use Rattle.host_core.specs.Host.{HostShape, value_in_thread}
+use Rattle.host_core.specs.Host.{HostState, value_in_thread}
 use Rattle.event_text.specs.declared.event.Event.{Event}
 use Rattle.event_text.specs.declared.event.Event.TheVariants.{Turn}
 use Rattle.net_world.specs.Fits.{ShapeFits, IsStateOf}
@@ -28,10 +28,10 @@ use Rattle.seen_world.proofs.SeenPlaces.{some_is}
 use Rattle.seen_world.proofs.PointsKept.{points_kept}
 use Rattle.agreement.specs.Handing.{RunsHanding}
 use Rattle.agreement.specs.Leads.{Leads, Agree}
-use Rattle.agreement.specs.Turns.{ChangesAlone, RunsAlone, Carried, carried_in, ComesInto, ComesWithResult}
+use Rattle.agreement.specs.Turns.{ChangesAlone, RunsAtInstruction, Carried, carried_in, ComesInto, ComesWithResult}
 use Rattle.agreement.specs.Turns.{SeenOperation}
 use Rattle.agreement.specs.Turns.{SeenTurn, host_idle}
-use Rattle.agreement.specs.Views.{gives, with_host, View, running_view, thread_view, masked_all}
+use Rattle.agreement.specs.Views.{gives, with_host, LowView, running_view, thread_view, masked_all}
 use Rattle.agreement.proofs.CarriedSame.{Twins, operation_same}
 use Rattle.agreement.proofs.Coming.{comes_once}
 use Rattle.agreement.proofs.Lists.{each_same}
@@ -43,23 +43,24 @@ use Rattle.agreement.proofs.SeenLeads.{Calm, quiet_calm, calm_open, reached_lead
 
 -- ---- one view
 
-into_once : (eyes : Eyes) (now : View) (host : HostId) (thread : ThreadShape) (token : Token) (found : Option Entry)
-    (first second : View) → ComesInto eyes now host thread token found first →
+into_once : (eyes : Eyes) (now : LowView) (host : HostId) (thread : ThreadShape) (token : Token) (found : Option Entry)
+    (first second : LowView) → ComesInto eyes now host thread token found first →
     ComesInto eyes now host thread token found second → first ≡ second
 into_once eyes now host thread token None first second one two = absurd one
 into_once eyes now host thread token (Some there) first second one two =
     comes_once eyes _ host _ token first second one two
 
-result_once : (eyes : Eyes) (now : View) (host : HostId) (thread : ThreadShape) (token : Token) (x : VarId) (value : ℤ)
-    (own : Bool) (first second : View) → ComesWithResult eyes now host thread token x value own first →
+result_once : (eyes : Eyes) (now : LowView) (host : HostId) (thread : ThreadShape) (token : Token) (x : VarId)
+    (value : ℤ)
+    (own : Bool) (first second : LowView) → ComesWithResult eyes now host thread token x value own first →
     ComesWithResult eyes now host thread token x value own second → first ≡ second
 result_once eyes now host thread token x value true first second one two =
     comes_once eyes _ host _ token first second one two
 result_once eyes now host thread token x value false first second one two =
     comes_once eyes _ host _ token first second one two
 
-operation_once : (eyes : Eyes) (now : View) (host : HostId) (thread : ThreadShape) (token : Token) (it : Op)
-    (carried : Carried) (first second : View) → SeenOperation eyes now host thread token it carried first →
+operation_once : (eyes : Eyes) (now : LowView) (host : HostId) (thread : ThreadShape) (token : Token) (it : Op)
+    (carried : Carried) (first second : LowView) → SeenOperation eyes now host thread token it carried first →
     SeenOperation eyes now host thread token it carried second → first ≡ second
 operation_once eyes now host thread token (op.Let x value) carried first second one two =
     comes_once eyes _ host _ token first second one two
@@ -88,7 +89,7 @@ operation_once eyes now host thread token (op.Ret x value) carried first second 
 operation_once eyes now host thread token op.Back carried first second one two =
     completed_once eyes (gives token) (with_host now host (host_idle (now.hosts host))) first second one two
 
-pub seen_once : (eyes : Eyes) (now : View) (host : HostId) (carried : Carried) (first second : View) →
+pub seen_once : (eyes : Eyes) (now : LowView) (host : HostId) (carried : Carried) (first second : LowView) →
     SeenTurn eyes now host carried first → SeenTurn eyes now host carried second → first ≡ second
 seen_once eyes now host carried first second one two =
     let thread : two.thread ≡ one.thread = same_first two.thread one.thread (sym two.running ∙ one.running) in
@@ -105,7 +106,7 @@ seen_once eyes now host carried first second one two =
 -- ---- two worlds
 
 -- the thread that is seen on a host of a calm world
-shown_running : (eyes : Eyes) (world : WorldShape) (now : View) (host : HostId) (state : HostShape)
+shown_running : (eyes : Eyes) (world : WorldShape) (now : LowView) (host : HostId) (state : HostState)
     (thread : ThreadShape) → Calm eyes world now → state_at world host ≡ Some state → state.running ≡ Some thread →
     (now.hosts host).running ≡ thread_view eyes host thread.at thread ∷ []
 shown_running eyes world now host state thread calm there is =
@@ -113,12 +114,12 @@ shown_running eyes world now host state thread calm there is =
     ∙ ap (λ (b : Bool). if b then thread_view eyes host thread.at thread ∷ [] else [])
     (calm_open eyes host state.running thread is (calm.running host state there))
 
-pub state_me : (eyes : Eyes) (world : WorldShape) (host : HostId) (state : HostShape) → ShapeFits eyes.code world →
+pub state_me : (eyes : Eyes) (world : WorldShape) (host : HostId) (state : HostState) → ShapeFits eyes.code world →
     state_at world host ≡ Some state → IsStateOf eyes.code host state
 state_me eyes world host state fits there =
     subst (λ one. IfSome one (IsStateOf eyes.code host)) there (fits.states host)
 
-pub twins_of : (eyes : Eyes) (one other : WorldShape) (now : View) (host : HostId) (state mirror : HostShape)
+pub twins_of : (eyes : Eyes) (one other : WorldShape) (now : LowView) (host : HostId) (state mirror : HostState)
     (thread twin : ThreadShape) → ShapeFits eyes.code one → ShapeFits eyes.code other → Calm eyes one now →
     Calm eyes other now → state_at one host ≡ Some state → state_at other host ≡ Some mirror →
     state.running ≡ Some thread → mirror.running ≡ Some twin → Twins eyes host state mirror thread twin
@@ -145,9 +146,9 @@ twins_of eyes one other now host state mirror thread twin fits fits_other calm c
     }
 
 -- the other runs the same instruction
-alone_too : (eyes : Eyes) (one other after : WorldShape) (now : View) (host : HostId) → ShapeFits eyes.code one →
-    ShapeFits eyes.code other → Calm eyes one now → Calm eyes other now → RunsAlone eyes.code one host →
-    IsStep eyes.code other (Turn host) after → RunsAlone eyes.code other host
+alone_too : (eyes : Eyes) (one other after : WorldShape) (now : LowView) (host : HostId) → ShapeFits eyes.code one →
+    ShapeFits eyes.code other → Calm eyes one now → Calm eyes other now → RunsAtInstruction eyes.code one host →
+    IsStep eyes.code other (Turn host) after → RunsAtInstruction eyes.code other host
 alone_too eyes one other after now host fits fits_other calm calm_other alone step =
     let thread = some_found step.state.running step.runs in
     let twins = twins_of eyes one other now host alone.state step.state alone.thread thread.0 fits fits_other calm
@@ -162,8 +163,8 @@ alone_too eyes one other after now host fits fits_other calm calm_other alone st
       alone = subst (λ held. ChangesAlone eyes.code host held alone.instruction.op) (sym twins.held) alone.alone;
     }
 
-calm_carried : (eyes : Eyes) (one other : WorldShape) (now : View) (host : HostId)
-    (alone : RunsAlone eyes.code one host) (twin : RunsAlone eyes.code other host) → AreEyes eyes →
+calm_carried : (eyes : Eyes) (one other : WorldShape) (now : LowView) (host : HostId)
+    (alone : RunsAtInstruction eyes.code one host) (twin : RunsAtInstruction eyes.code other host) → AreEyes eyes →
     IsSoundCode eyes.code →
     map (value_in_thread alone.state alone.thread) (eyes.shades.at host alone.thread.at).released
     ≡ map (value_in_thread twin.state twin.thread) (eyes.shades.at host alone.thread.at).released →
@@ -189,7 +190,7 @@ calm_carried eyes one other now host alone twin are sound same fits fits_other c
 
 -- what is known of a quiet world that events lead to
 pub reached_calm : (eyes : Eyes) (rows : List declared_hosts.HostShape) (bad : ℕ) (store : List (List ℤ))
-    (events : List Event) (world : WorldShape) (now : View) → AreEyes eyes →
+    (events : List Event) (world : WorldShape) (now : LowView) → AreEyes eyes →
     Watches eyes (world_at_start eyes.code rows bad store) → IsReached eyes.code rows bad store events world →
     IsQuiet eyes.code world → Leads eyes world now → ShapeFits eyes.code world × Calm eyes world now
 reached_calm eyes rows bad store events world now are watch reach quiet leads =
@@ -200,8 +201,8 @@ reached_calm eyes rows bad store events world now are watch reach quiet leads =
     )
 
 pub carried_same : (eyes : Eyes) (rows : List declared_hosts.HostShape) (bad : ℕ) (store start : List (List ℤ))
-    (events others : List Event) (one other : WorldShape) (host : HostId) (alone : RunsAlone eyes.code one host)
-    (twin : RunsAlone eyes.code other host) → AreEyes eyes →
+    (events others : List Event) (one other : WorldShape) (host : HostId) (alone : RunsAtInstruction eyes.code one host)
+    (twin : RunsAtInstruction eyes.code other host) → AreEyes eyes →
     map (value_in_thread alone.state alone.thread) (eyes.shades.at host alone.thread.at).released
     ≡ map (value_in_thread twin.state twin.thread) (eyes.shades.at host alone.thread.at).released →
     Watches eyes (world_at_start eyes.code rows bad store) → Watches eyes (world_at_start eyes.code rows bad start) →
@@ -222,7 +223,7 @@ pub turn_agrees : (eyes : Eyes) (rows : List declared_hosts.HostShape) (bad : �
     (table : ReleasesShape) → AreEyes eyes → IsTabled eyes.code eyes.shades table →
     released_at table one host ≡ released_at table other host → Watches eyes (world_at_start eyes.code rows bad store) →
     Watches eyes (world_at_start eyes.code rows bad start) → IsReached eyes.code rows bad store events one →
-    IsReached eyes.code rows bad start others other → RunsAlone eyes.code one host →
+    IsReached eyes.code rows bad start others other → RunsAtInstruction eyes.code one host →
     IsStep eyes.code one (Turn host) one_after → IsStep eyes.code other (Turn host) other_after →
     IsQuiet eyes.code one → IsQuiet eyes.code other → Agree eyes one other → Agree eyes one_after other_after
 turn_agrees eyes rows bad store start events others one other one_after other_after host table are tabled same watch
@@ -254,7 +255,7 @@ turn_agrees eyes rows bad store start events others one other one_after other_af
 -- ---- control that is handed over
 
 -- the other hands control over alike
-handing_too : (eyes : Eyes) (one other after : WorldShape) (now : View) (host : HostId) → ShapeFits eyes.code one →
+handing_too : (eyes : Eyes) (one other after : WorldShape) (now : LowView) (host : HostId) → ShapeFits eyes.code one →
     ShapeFits eyes.code other → Calm eyes one now → Calm eyes other now → RunsHanding eyes.code one host →
     IsStep eyes.code other (Turn host) after → RunsHanding eyes.code other host
 handing_too eyes one other after now host fits fits_other calm calm_other run step =

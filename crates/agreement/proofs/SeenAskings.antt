@@ -29,7 +29,7 @@ use Rattle.host_code.specs.Sound.{IsVariable, OperationFits}
 use Rattle.host_code.specs.Thread.{ThreadShape, WaitingShape}
 use Rattle.host_code.specs.Thread.Awaited.{value_of_field, acknowledgement, token_of_entry}
 use Rattle.entry_check.specs.Checks.{MaySee, label_of_host}
-use Rattle.host_core.specs.Host.{HostShape, Outcome, with_running, with_message, after_step, after_clearing, with_token}
+use Rattle.host_core.specs.Host.{HostState, Outcome, with_running, with_message, after_step, after_clearing, with_token}
 use Rattle.host_core.specs.Host.{value_in_thread, next_request, after_asking}
 use Rattle.host_core.specs.Turn.{after_operation, after_read, after_put, after_forward, after_ask, after_return}
 use Rattle.host_core.specs.Turn.{MayReturn, PassesWith, label_of_turn, with_thread}
@@ -49,7 +49,7 @@ use Rattle.agreement.specs.Asking.{AsksElsewhere, RunsAsking, carried_asking, Qu
 use Rattle.agreement.specs.Asking.{request_shown, host_waiting, SeenAsking}
 use Rattle.agreement.specs.Handing.{sent_view}
 use Rattle.agreement.specs.Leads.{Leads}
-use Rattle.agreement.specs.Views.{View, masked, masked_all, sees_field, sees_variable, sees_read}
+use Rattle.agreement.specs.Views.{LowView, masked, masked_all, sees_field, sees_variable, sees_read}
 use Rattle.agreement.specs.Views.{thread_view, waits_open, waiter_view, message_view, with_host}
 use Rattle.agreement.proofs.CarriedSame.{variable_seen}
 use Rattle.agreement.proofs.Lists.{left_last, kept_last}
@@ -85,7 +85,7 @@ may_both first second None one two = absurd one
 may_both first second (Some host) one two = flows_both first second host one two
 
 -- the index of a read
-index_told : (eyes : Eyes) (old : HostShape) (thread : ThreadShape) (field : FieldId) (index : List Node)
+index_told : (eyes : Eyes) (old : HostState) (thread : ThreadShape) (field : FieldId) (index : List Node)
     (there : CodeFieldShape) → AreEyes eyes →
     IsShadedOp eyes.scene eyes.shades old.me thread.at (op.Read field index) →
     field_at eyes.code field ≡ Some there → eyes.bad there.host ≡ true →
@@ -115,7 +115,7 @@ variable_told eyes are to x within may bad =
 -- ---- what is asked
 
 -- The thread waits so, and what it asks with is seen so.
-pub record Asks (eyes : Eyes) (old : HostShape) (thread : ThreadShape) (question : Question) (outcome : Outcome) :
+pub record Asks (eyes : Eyes) (old : HostState) (thread : ThreadShape) (question : Question) (outcome : Outcome) :
     Type 0 where
   pub said : Message
   pub later : ThreadShape
@@ -127,11 +127,11 @@ pub record Asks (eyes : Eyes) (old : HostShape) (thread : ThreadShape) (question
   pub told : eyes.bad question.to ≡ true → said ≡ question.said
 
 -- this is asked, as far as it may be seen
-abbrev pub AsksSo : Eyes → HostShape → ThreadShape → View → Option Question → Outcome → Type 0
+abbrev pub AsksSo : Eyes → HostState → ThreadShape → LowView → Option Question → Outcome → Type 0
 AsksSo eyes old thread now found outcome =
     (question : Question) × (found ≡ Some question) × Asks eyes old thread question outcome
 
-request_same : (eyes : Eyes) (old : HostShape) (thread : ThreadShape) (there : Instr) (token : Token) (now : View) →
+request_same : (eyes : Eyes) (old : HostState) (thread : ThreadShape) (there : Instr) (token : Token) (now : LowView) →
     Visible eyes old thread there token now →
     next_request old thread.at ≡ request_shown (now.hosts old.me) thread.at
 request_same eyes old thread there token now run =
@@ -155,8 +155,8 @@ either_false P b one other is second = subst (λ (c : Bool). P (if c then one el
 apart_is : (one other : HostId) → one ≢ other → (one.0 == other.0) ≡ false
 apart_is one other apart = different one.0 other.0 (λ same. apart (same_id one other same))
 
-forward_asked : (eyes : Eyes) (old : HostShape) (thread later : ThreadShape) (there : Instr) (token : Token)
-    (now : View) (seen_later : ThreadShape) (frame : FrameId) (x : VarId) (value : ℤ) (to : HostId) →
+forward_asked : (eyes : Eyes) (old : HostState) (thread later : ThreadShape) (there : Instr) (token : Token)
+    (now : LowView) (seen_later : ThreadShape) (frame : FrameId) (x : VarId) (value : ℤ) (to : HostId) →
     Visible eyes old thread there token now → thread_view eyes old.me thread.at later ≡ seen_later →
     (eyes.bad to ≡ true → sees_variable eyes x ≡ true) →
     Asks eyes old thread (record {
@@ -178,7 +178,7 @@ forward_asked eyes old thread later there token now seen_later frame x value to 
           (mask_off (sees_variable eyes x) value (tells bad));
     }
 
-send_asked : (eyes : Eyes) (old : HostShape) (thread : ThreadShape) (there : Instr) (token : Token) (now : View)
+send_asked : (eyes : Eyes) (old : HostState) (thread : ThreadShape) (there : Instr) (token : Token) (now : LowView)
     (frame : FrameId) (x : VarId) (to : HostId) → Visible eyes old thread there token now → IsVariable eyes.code x →
     MaySee (Some (label_of eyes.scene.basis.labelled x)) (label_of_host eyes.code to) →
     Asks eyes old thread (record {
@@ -193,7 +193,7 @@ send_asked eyes old thread there token now frame x to run within may =
     (after_step (thread_view eyes old.me thread.at thread)) frame x (old.variables frame x) to run refl
     (variable_told eyes run.are to x within may)
 
-ask_asked : (eyes : Eyes) (old : HostShape) (thread : ThreadShape) (there : Instr) (token : Token) (now : View)
+ask_asked : (eyes : Eyes) (old : HostState) (thread : ThreadShape) (there : Instr) (token : Token) (now : LowView)
     (entry : EntryId) (on : HostId) → Visible eyes old thread there token now →
     Asks eyes old thread (record {
       to = on;
@@ -213,7 +213,7 @@ ask_asked eyes old thread there token now entry on run =
       told = λ bad. same;
     }
 
-read_asked : (eyes : Eyes) (old : HostShape) (thread : ThreadShape) (there : Instr) (token : Token) (now : View)
+read_asked : (eyes : Eyes) (old : HostState) (thread : ThreadShape) (there : Instr) (token : Token) (now : LowView)
     (field : FieldId) (index : List Node) → Visible eyes old thread there token now →
     IsShadedOp eyes.scene eyes.shades old.me thread.at (op.Read field index) → (found : Option CodeFieldShape) →
     field_at eyes.code field ≡ found → IsSomeAnd found (λ on. on.host ≢ old.me) →
@@ -252,7 +252,7 @@ read_asked eyes old thread there token now field index run law (Some on) is else
           done,
     )
 
-put_asked : (eyes : Eyes) (old : HostShape) (thread : ThreadShape) (there : Instr) (token : Token) (now : View)
+put_asked : (eyes : Eyes) (old : HostState) (thread : ThreadShape) (there : Instr) (token : Token) (now : LowView)
     (field : FieldId) (index value : List Node) → Visible eyes old thread there token now →
     (found : Option CodeFieldShape) → field_at eyes.code field ≡ found → IsSomeAnd found (λ on. on.host ≢ old.me) →
     AsksSo eyes old thread now (asked_there found (message.Set (request_shown (now.hosts old.me) thread.at) field
@@ -294,7 +294,7 @@ put_asked eyes old thread there token now field index value run (Some on) is els
           done,
     )
 
-return_asked : (eyes : Eyes) (old : HostShape) (thread : ThreadShape) (there : Instr) (token : Token) (now : View)
+return_asked : (eyes : Eyes) (old : HostState) (thread : ThreadShape) (there : Instr) (token : Token) (now : LowView)
     (x : VarId) (value : List Node) (passes : Bool) → Visible eyes old thread there token now →
     (token.host ≢ old.me) × MayReturn eyes.code (variable_at eyes.code x) token.host →
     (IsTrue passes ↔ PassesWith eyes.code (with_running old None) (op.Ret x value) thread.held) →
@@ -333,7 +333,7 @@ return_asked eyes old thread there token now x value passes run elsewhere checks
 
 -- ---- each instruction
 
-operation_asked : (eyes : Eyes) (old : HostShape) (thread : ThreadShape) (there : Instr) (token : Token) (now : View)
+operation_asked : (eyes : Eyes) (old : HostState) (thread : ThreadShape) (there : Instr) (token : Token) (now : LowView)
     (count : ℕ) (it : Op) (passes : Bool) → Visible eyes old thread there token now →
     AsksElsewhere eyes.code old.me token it → IsShadedOp eyes.scene eyes.shades old.me thread.at it →
     OperationFits eyes.code old.me count it →
@@ -383,7 +383,7 @@ operation_asked eyes old thread there token now count (op.Branch guard target) p
 
 -- ---- the host then
 
-asking_rested : (eyes : Eyes) (old : HostShape) (thread : ThreadShape) (there : Instr) (token : Token) (now : View)
+asking_rested : (eyes : Eyes) (old : HostState) (thread : ThreadShape) (there : Instr) (token : Token) (now : LowView)
     (question : Question) (outcome : Outcome) → Visible eyes old thread there token now →
     (asks : Asks eyes old thread question outcome) →
     Rested eyes old (after_asking (with_running old None) thread.at asks.later question.awaited question.to)
@@ -426,13 +426,13 @@ asking_rested eyes old thread there token now question outcome run asks =
 
 -- ---- a turn
 
-asked_leads : (eyes : Eyes) (world after : WorldShape) (host : HostId) (now : View) (old : HostShape)
+asked_leads : (eyes : Eyes) (world after : WorldShape) (host : HostId) (now : LowView) (old : HostState)
     (thread : ThreadShape) (there : Instr) (token : Token)
     (turn : Turns eyes world after host now old thread there token) → AsksElsewhere eyes.code old.me token there.op →
     AsksSo eyes old thread now (asked eyes.code (thread_view eyes old.me thread.at thread) token
     (request_shown (now.hosts old.me) thread.at) (carried_asking eyes old thread there.op) there.op)
     (after_operation eyes.code (with_running old None) thread there.op turn.passes) →
-    (seen : View) × SeenAsking eyes now old.me (carried_asking eyes old thread there.op) seen × Leads eyes after seen
+    (seen : LowView) × SeenAsking eyes now old.me (carried_asking eyes old thread there.op) seen × Leads eyes after seen
 asked_leads eyes world after host now old thread there token turn elsewhere (question, found, asks) = (
   sent_view (with_host now old.me
       (host_waiting (now.hosts old.me) (request_shown (now.hosts old.me) thread.at) question)) old.me question.to
@@ -458,11 +458,11 @@ asked_leads eyes world after host now old thread there token turn elsewhere (que
 )
 
 pub reached_asks : (eyes : Eyes) (rows : List declared_hosts.HostShape) (bad : ℕ) (store : List (List ℤ))
-    (events : List Event) (world after : WorldShape) (host : HostId) (now : View)
+    (events : List Event) (world after : WorldShape) (host : HostId) (now : LowView)
     (run : RunsAsking eyes.code world host) → AreEyes eyes → Watches eyes (world_at_start eyes.code rows bad store) →
     IsReached eyes.code rows bad store events world → IsStep eyes.code world (Turn host) after →
     IsQuiet eyes.code world → Leads eyes world now →
-    (seen : View) × SeenAsking eyes now host (carried_asking eyes run.state run.thread run.instruction.op) seen
+    (seen : LowView) × SeenAsking eyes now host (carried_asking eyes run.state run.thread run.instruction.op) seen
     × Leads eyes after seen
 reached_asks eyes rows bad store events world after host now run are watch reach step quiet leads =
     let old = run.state in

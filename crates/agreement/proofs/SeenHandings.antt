@@ -16,7 +16,7 @@ use Rattle.host_code.specs.declared.message.Message.TheVariants as message
 use Rattle.host_code.specs.Code.{instruction_at}
 use Rattle.host_code.specs.Sound.{IsVariable, OperationFits}
 use Rattle.host_code.specs.Thread.{ThreadShape}
-use Rattle.host_core.specs.Host.{HostShape, with_running, with_message}
+use Rattle.host_core.specs.Host.{HostState, with_running, with_message}
 use Rattle.host_core.specs.Turn.{after_operation, after_go, after_go_with}
 use Rattle.host_core.specs.Turn.{label_of_turn}
 use Rattle.net_world.specs.World.{WorldShape, IsStep, world_at_start}
@@ -34,7 +34,7 @@ use Rattle.seen_world.proofs.SeenPlaces.{some_is}
 use Rattle.agreement.specs.Handing.{riding, handed, RunsHanding, shown_variables, sent_view, SeenHanding}
 use Rattle.agreement.specs.Leads.{Leads}
 use Rattle.agreement.specs.Turns.{host_idle}
-use Rattle.agreement.specs.Views.{View, HostView, masked, sees_variable, with_host}
+use Rattle.agreement.specs.Views.{LowView, HostView, masked, sees_variable, with_host}
 use Rattle.agreement.specs.Views.{riders_view, message_view, thread_view}
 use Rattle.agreement.proofs.CarriedSame.{masks_same}
 use Rattle.agreement.proofs.SeenAskings.{variable_told}
@@ -97,7 +97,7 @@ riders_told eyes are here to bad (x ∷ riders) within rides = (
 )
 
 -- A turn hands control over by a message, which is seen so in flight, and which a misbehaving host sees as it is.
-record HandsOver (eyes : Eyes) (bare : HostShape) (thread : ThreadShape) (view : HostView) (token : Token) (it : Op)
+record HandsOver (eyes : Eyes) (bare : HostState) (thread : ThreadShape) (view : HostView) (token : Token) (it : Op)
     (passes : Bool) (to : HostId) (said : Message) : Type 0 where
   does : after_operation eyes.code bare thread it passes ≡ with_message (with_running bare None) to said
   seen : Message
@@ -107,7 +107,7 @@ record HandsOver (eyes : Eyes) (bare : HostShape) (thread : ThreadShape) (view :
   told : eyes.bad to ≡ true → said ≡ seen
 
 -- what is sent where values ride, and what is seen of it
-rides_over : (eyes : Eyes) (bare : HostShape) (view : HostView) (frame : FrameId) (entry : EntryId) (on : HostId)
+rides_over : (eyes : Eyes) (bare : HostState) (view : HostView) (frame : FrameId) (entry : EntryId) (on : HostId)
     (riders : List VarId) (token : Token) → AreEyes eyes →
     ((x : VarId) → sees_variable eyes x ≡ true → bare.variables frame x ≡ view.variables frame x) →
     (here : Shade) → AllByRecursion (IsVariable eyes.code) riders → Rides eyes.scene here riders on →
@@ -122,7 +122,7 @@ rides_over eyes bare view frame entry on riders token are same here within rides
           ap (message.RgotoWith frame entry token) (riding_whole eyes bare.variables frame riders all ∙ flies),
     )
 
-handed_is : (eyes : Eyes) (bare : HostShape) (thread : ThreadShape) (view : HostView) (token : Token) (it : Op)
+handed_is : (eyes : Eyes) (bare : HostState) (thread : ThreadShape) (view : HostView) (token : Token) (it : Op)
     (passes : Bool) (count : ℕ) (to : HostId) (said : Message) → AreEyes eyes →
     ((frame : FrameId) (x : VarId) → sees_variable eyes x ≡ true → bare.variables frame x ≡ view.variables frame x) →
     IsShadedOp eyes.scene eyes.shades bare.me thread.at it → OperationFits eyes.code bare.me count it →
@@ -269,7 +269,7 @@ handed_too variables others me thread twin token (op.Branch guard target) to sai
 -- ---- a turn
 
 -- a host on which no thread runs any more
-idle_rested : (eyes : Eyes) (old : HostShape) (thread : ThreadShape) (there : Instr) (token : Token) (now : View) →
+idle_rested : (eyes : Eyes) (old : HostState) (thread : ThreadShape) (there : Instr) (token : Token) (now : LowView) →
     Visible eyes old thread there token now →
     Rested eyes old (with_running old None) (host_idle (now.hosts old.me))
 idle_rested eyes old thread there token now run = record {
@@ -280,11 +280,12 @@ idle_rested eyes old thread there token now run = record {
 }
 
 pub reached_hands : (eyes : Eyes) (rows : List declared_hosts.HostShape) (bad : ℕ) (store : List (List ℤ))
-    (events : List Event) (world after : WorldShape) (host : HostId) (now : View) → RunsHanding eyes.code world host →
+    (events : List Event) (world after : WorldShape) (host : HostId) (now : LowView) →
+    RunsHanding eyes.code world host →
     AreEyes eyes → Watches eyes (world_at_start eyes.code rows bad store) →
     IsReached eyes.code rows bad store events world → IsStep eyes.code world (Turn host) after →
     IsQuiet eyes.code world → Leads eyes world now →
-    (seen : View) × SeenHanding eyes now host seen × Leads eyes after seen
+    (seen : LowView) × SeenHanding eyes now host seen × Leads eyes after seen
 reached_hands eyes rows bad store events world after host now run are watch reach step quiet leads =
     let old = run.state in
     let thread = run.thread in
@@ -325,7 +326,7 @@ reached_hands eyes rows bad store events world after host now run are watch reac
 pub same_first : {X : Type 0} (x y : X) → x ∷ [] ≡ y ∷ [] → x ≡ y
 same_first x y is = cc
 
-pub handing_once : (eyes : Eyes) (now : View) (host : HostId) (first second : View) →
+pub handing_once : (eyes : Eyes) (now : LowView) (host : HostId) (first second : LowView) →
     SeenHanding eyes now host first → SeenHanding eyes now host second → first ≡ second
 handing_once eyes now host first second one two =
     let seen = shown_variables eyes (now.hosts host) in

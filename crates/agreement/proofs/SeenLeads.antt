@@ -12,7 +12,7 @@ use Rattle.host_code.specs.Code.{instruction_at}
 use Rattle.host_code.specs.Sound.{IsSoundCode}
 use Rattle.host_code.specs.Thread.{ThreadShape}
 use Rattle.host_core.specs.Fits.{RunningFits, StateFits, TokenFits}
-use Rattle.host_core.specs.Host.{HostShape, Outcome, with_running, without_message}
+use Rattle.host_core.specs.Host.{HostState, Outcome, with_running, without_message}
 use Rattle.host_core.specs.Turn.{IsTurn, IsTurnOf, IsRunning, label_of_turn}
 use Rattle.event_text.specs.declared.event.Event.{Event}
 use Rattle.event_text.specs.declared.event.Event.TheVariants.{Turn}
@@ -26,14 +26,15 @@ use Rattle.net_world.proofs.StepLaws.{turn_puts}
 use Rattle.token_laws.specs.Reached.{IsReached}
 use Rattle.token_laws.proofs.Walks.{fits_there, one_more}
 use Rattle.seen_world.specs.Eyes.{Eyes, AreEyes, Watches, is_open}
-use Rattle.seen_world.specs.Points.{MayHold, RunsWell, HostKeeps, HostsKeep}
+use Rattle.seen_world.specs.Points.{MayHoldToken, RunsWell, HostKeeps, HostsKeep}
 use Rattle.seen_world.proofs.PointsAtStart.{own_state}
 use Rattle.seen_world.proofs.PointsKept.{points_kept}
 use Rattle.seen_world.proofs.SeenPlaces.{some_is, under_seen}
 use Rattle.seen_world.proofs.SeenWorlds.{label_read}
-use Rattle.agreement.specs.Leads.{hidden_running, hidden_waiting, hidden_flights, nobody, Keeps, Leads}
-use Rattle.agreement.specs.Turns.{ChangesAlone, RunsAlone, carried_in, SeenTurn}
-use Rattle.agreement.specs.Views.{View, ShowsHost, Shows, running_view, thread_view, flies_open, flights_view, is_shown}
+use Rattle.agreement.specs.Leads.{hidden_running, hidden_waiting, hidden_flights, nobody, KeepsUnseen, Leads}
+use Rattle.agreement.specs.Turns.{ChangesAlone, RunsAtInstruction, carried_in, SeenTurn}
+use Rattle.agreement.specs.Views.{LowView, ShowsHost, Shows, running_view, thread_view, flies_open, flights_view}
+use Rattle.agreement.specs.Views.{is_shown}
 use Rattle.agreement.specs.Views.{with_host, nowhere, nothing}
 use Rattle.agreement.proofs.Branches.{own_view, other_view}
 use Rattle.agreement.proofs.Coming.{comes_leads}
@@ -46,17 +47,17 @@ use Rattle.agreement.proofs.Turns.{IsHere, next_there}
 
 -- ---- nothing goes on unseen
 
-pub record Calm (eyes : Eyes) (world : WorldShape) (now : View) : Type 0 where
+pub record Calm (eyes : Eyes) (world : WorldShape) (now : LowView) : Type 0 where
   pub shows : Shows eyes world now
-  pub running : (host : HostId) (state : HostShape) → state_at world host ≡ Some state →
+  pub running : (host : HostId) (state : HostState) → state_at world host ≡ Some state →
       hidden_running eyes host state.running ≡ None
-  pub waiting : (host : HostId) (state : HostShape) → state_at world host ≡ Some state →
+  pub waiting : (host : HostId) (state : HostState) → state_at world host ≡ Some state →
       hidden_waiting eyes host state.waiting ≡ []
-  pub entries : (host : HostId) (state : HostShape) → state_at world host ≡ Some state →
+  pub entries : (host : HostId) (state : HostState) → state_at world host ≡ Some state →
       state.entries ≡ filter (is_shown eyes) state.entries
   pub flying : (from to : HostId) → hidden_flights eyes (world.flying from to) ≡ []
 
-pub quiet_calm : (eyes : Eyes) (world : WorldShape) (now : View) → AreEyes eyes → Watches eyes world →
+pub quiet_calm : (eyes : Eyes) (world : WorldShape) (now : LowView) → AreEyes eyes → Watches eyes world →
     ShapeFits eyes.code world → IsQuiet eyes.code world → Leads eyes world now → Calm eyes world now
 quiet_calm eyes world now are watch fits quiet leads =
     let out = quiet_shows eyes world now are watch fits quiet leads in
@@ -73,7 +74,7 @@ quiet_calm eyes world now are watch fits quiet leads =
 
 -- ---- a thread arrives
 
-pub arrived_leads : (eyes : Eyes) (world after : WorldShape) (old : HostShape) (outcome : Outcome) (now seen : View)
+pub arrived_leads : (eyes : Eyes) (world after : WorldShape) (old : HostState) (outcome : Outcome) (now seen : LowView)
     (label : Option ℕ) → AreEyes eyes → Calm eyes world now → state_at world old.me ≡ Some old →
     after_step world old.me outcome label ≡ after → StateFits eyes.code outcome.state →
     HostKeeps eyes old.me outcome.state → Arrives eyes old now outcome seen → Leads eyes after seen
@@ -86,8 +87,8 @@ arrived_leads eyes world after old outcome now seen label are calm obeys leaves 
     let on = instruction_within eyes old.me arrives.later.at within in
     let well : RunsWell eyes old.me arrives.later =
     subst (λ running. IfSome running (RunsWell eyes old.me)) arrives.running keep.running in
-    let may : MayHold eyes (eyes.shades.at old.me arrives.later.at) arrives.token =
-    subst (λ held. IfSome held (MayHold eyes (eyes.shades.at old.me arrives.later.at))) arrives.held well.holds in
+    let may : MayHoldToken eyes (eyes.shades.at old.me arrives.later.at) arrives.token =
+    subst (λ held. IfSome held (MayHoldToken eyes (eyes.shades.at old.me arrives.later.at))) arrives.held well.holds in
     comes_leads eyes after old.me outcome.state arrives.later arrives.token (with_host now old.me arrives.shown) seen
     are (record {
       there = mover_state world after old.me old outcome.state world.flying obeys moved;
@@ -103,14 +104,14 @@ arrived_leads eyes world after old outcome now seen label are calm obeys leaves 
       ];
       waiting = λ host other there. elim (find host other there) [
         | inl same ↦
-            ap (λ (s : HostShape). hidden_waiting eyes host s.waiting) same.is
+            ap (λ (s : HostState). hidden_waiting eyes host s.waiting) same.is
             ∙ ap (λ (h : HostId). hidden_waiting eyes h outcome.state.waiting) same.same
             ∙ arrives.waiting
         | inr rest ↦ calm.waiting host other rest.obeys
       ];
       entries = λ host other there. elim (find host other there) [
         | inl same ↦
-            subst (λ (s : HostShape). s.entries ≡ filter (is_shown eyes) s.entries) (sym same.is) arrives.entries
+            subst (λ (s : HostState). s.entries ≡ filter (is_shown eyes) s.entries) (sym same.is) arrives.entries
         | inr rest ↦ calm.entries host other rest.obeys
       ];
       flying = λ i j. ap (λ (f : Flying). hidden_flights eyes (f i j)) moved.flying ∙ calm.flying i j;
@@ -128,7 +129,8 @@ arrived_leads eyes world after old outcome now seen label are calm obeys leaves 
 
 -- ---- no thread does
 
-abbrev calm_keeps : (eyes : Eyes) (world : WorldShape) (now : View) → Calm eyes world now → Keeps eyes world nothing
+abbrev calm_keeps : (eyes : Eyes) (world : WorldShape) (now : LowView) → Calm eyes world now →
+    KeepsUnseen eyes world nothing
 calm_keeps eyes world now calm = record {
   holder = nobody;
   links = [];
@@ -145,7 +147,7 @@ calm_keeps eyes world now calm = record {
   well = tt;
 }
 
-pub rested_leads : (eyes : Eyes) (world after : WorldShape) (old : HostShape) (outcome : Outcome) (now seen : View)
+pub rested_leads : (eyes : Eyes) (world after : WorldShape) (old : HostState) (outcome : Outcome) (now seen : LowView)
     (label : Option ℕ) → Calm eyes world now → state_at world old.me ≡ Some old →
     after_step world old.me outcome label ≡ after → Rests eyes old now outcome seen → Leads eyes after seen
 rested_leads eyes world after old outcome now seen label calm obeys leaves rests =
@@ -184,8 +186,8 @@ pub held_of : (eyes : Eyes) (held : Option Token) → IsSomeAnd held (TokenFits 
 held_of eyes None fits = absurd fits
 held_of eyes (Some token) fits = (token, refl)
 
-pub visible_of : (eyes : Eyes) (world : WorldShape) (old : HostShape) (thread : ThreadShape) (there : Instr)
-    (now : View) → AreEyes eyes → Calm eyes world now → StateFits eyes.code old → eyes.bad old.me ≡ false →
+pub visible_of : (eyes : Eyes) (world : WorldShape) (old : HostState) (thread : ThreadShape) (there : Instr)
+    (now : LowView) → AreEyes eyes → Calm eyes world now → StateFits eyes.code old → eyes.bad old.me ≡ false →
     HostKeeps eyes old.me old → state_at world old.me ≡ Some old → old.running ≡ Some thread →
     IsHere eyes old thread there → (token : Token) × Visible eyes old thread there token now
 visible_of eyes world old thread there now are calm fits good keep obeys is here =
@@ -195,8 +197,8 @@ visible_of eyes world old thread there now are calm fits good keep obeys is here
     let token = held_of eyes thread.held runs.held in
     let well : RunsWell eyes old.me thread =
     subst (λ running. IfSome running (RunsWell eyes old.me)) is keep.running in
-    let may : MayHold eyes (eyes.shades.at old.me thread.at) token.0 =
-    subst (λ held. IfSome held (MayHold eyes (eyes.shades.at old.me thread.at))) token.1 well.holds in (
+    let may : MayHoldToken eyes (eyes.shades.at old.me thread.at) token.0 =
+    subst (λ held. IfSome held (MayHoldToken eyes (eyes.shades.at old.me thread.at))) token.1 well.holds in (
       token.0,
       record {
         are = are;
@@ -215,20 +217,21 @@ visible_of eyes world old thread there now are calm fits good keep obeys is here
     )
 
 -- what is seen of the host has the thread alone
-pub seen_thread : (eyes : Eyes) (old : HostShape) (thread : ThreadShape) (there : Instr) (token : Token) (now : View) →
+pub seen_thread : (eyes : Eyes) (old : HostState) (thread : ThreadShape) (there : Instr) (token : Token)
+    (now : LowView) →
     Visible eyes old thread there token now → old.running ≡ Some thread →
     (now.hosts old.me).running ≡ thread_view eyes old.me thread.at thread ∷ []
 seen_thread eyes old thread there token now run is =
     sym run.shows.running ∙ ap (running_view eyes old.me) is
     ∙ ap (λ (b : Bool). if b then thread_view eyes old.me thread.at thread ∷ [] else []) run.seen
 
-turned_leads : (eyes : Eyes) (world after : WorldShape) (old : HostShape) (outcome : Outcome) (thread : ThreadShape)
-    (there : Instr) (now : View) → AreEyes eyes → IsSoundCode eyes.code → Calm eyes world now →
+turned_leads : (eyes : Eyes) (world after : WorldShape) (old : HostState) (outcome : Outcome) (thread : ThreadShape)
+    (there : Instr) (now : LowView) → AreEyes eyes → IsSoundCode eyes.code → Calm eyes world now →
     StateFits eyes.code old → eyes.bad old.me ≡ false → HostKeeps eyes old.me old → state_at world old.me ≡ Some old →
     old.running ≡ Some thread → IsHere eyes old thread there → ChangesAlone eyes.code old.me thread.held there.op →
     IsTurn eyes.code old outcome → after_step world old.me outcome (label_of_turn eyes.code old) ≡ after →
     StateFits eyes.code outcome.state → HostKeeps eyes old.me outcome.state →
-    (seen : View) × SeenTurn eyes now old.me (carried_in eyes old thread there.op) seen × Leads eyes after seen
+    (seen : LowView) × SeenTurn eyes now old.me (carried_in eyes old thread there.op) seen × Leads eyes after seen
 turned_leads eyes world after old outcome thread there now are sound calm fits good keep obeys is here alone turns
     leaves
     fits_then keep_then =
@@ -262,11 +265,11 @@ turned_leads eyes world after old outcome thread there now are sound calm fits g
       ],
     )
 
-pub alone_leads : (eyes : Eyes) (world after : WorldShape) (host : HostId) (now : View)
-    (alone : RunsAlone eyes.code world host) → AreEyes eyes → IsSoundCode eyes.code → Watches eyes world →
+pub alone_leads : (eyes : Eyes) (world after : WorldShape) (host : HostId) (now : LowView)
+    (alone : RunsAtInstruction eyes.code world host) → AreEyes eyes → IsSoundCode eyes.code → Watches eyes world →
     ShapeFits eyes.code world → ShapeFits eyes.code after → HostsKeep eyes world → HostsKeep eyes after →
     IsStep eyes.code world (Turn host) after → Calm eyes world now →
-    (seen : View)
+    (seen : LowView)
     × SeenTurn eyes now host (carried_in eyes alone.state alone.thread alone.instruction.op) seen
     × Leads eyes after seen
 alone_leads eyes world after host now alone are sound watch fits fits_after keep keep_after step calm =
@@ -275,9 +278,9 @@ alone_leads eyes world after host now alone are sound watch fits fits_after keep
     let me = own.fit.me in
     let same : step.state ≡ old = some_is (sym step.obeys ∙ alone.there) in
     let outcome = step.outcome in
-    let turns : IsTurn eyes.code old outcome = subst (λ (s : HostShape). IsTurn eyes.code s outcome) same step.turns in
+    let turns : IsTurn eyes.code old outcome = subst (λ (s : HostState). IsTurn eyes.code s outcome) same step.turns in
     let leaves : after_step world host outcome (label_of_turn eyes.code old) ≡ after =
-    subst (λ (s : HostShape). after_step world host outcome (label_of_turn eyes.code s) ≡ after) same step.leaves in
+    subst (λ (s : HostState). after_step world host outcome (label_of_turn eyes.code s) ≡ after) same step.leaves in
     let moved : Moved world host outcome.state after.flying after =
     record { hosts = turn_puts eyes.code world after host step; flying = refl } in
     let after_me : state_at after host ≡ Some outcome.state =
@@ -298,11 +301,12 @@ alone_leads eyes world after host now alone are sound watch fits fits_after keep
     )
 
 pub reached_leads : (eyes : Eyes) (rows : List declared_hosts.HostShape) (bad : ℕ) (store : List (List ℤ))
-    (events : List Event) (world after : WorldShape) (host : HostId) (now : View)
-    (alone : RunsAlone eyes.code world host) → AreEyes eyes → Watches eyes (world_at_start eyes.code rows bad store) →
+    (events : List Event) (world after : WorldShape) (host : HostId) (now : LowView)
+    (alone : RunsAtInstruction eyes.code world host) → AreEyes eyes →
+    Watches eyes (world_at_start eyes.code rows bad store) →
     IsReached eyes.code rows bad store events world → IsStep eyes.code world (Turn host) after →
     IsQuiet eyes.code world → Leads eyes world now →
-    (seen : View)
+    (seen : LowView)
     × SeenTurn eyes now host (carried_in eyes alone.state alone.thread alone.instruction.op) seen
     × Leads eyes after seen
 reached_leads eyes rows bad store events world after host now alone are watch reach step quiet leads =

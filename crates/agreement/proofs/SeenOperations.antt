@@ -20,7 +20,7 @@ use Rattle.host_code.specs.Code.{CodeFieldShape, field_at, variable_at}
 use Rattle.host_code.specs.Sound.{OperationFits}
 use Rattle.host_code.specs.Thread.{ThreadShape}
 use Rattle.host_core.specs.Fits.{StateFits}
-use Rattle.host_core.specs.Host.{HostShape, Outcome, with_running, after_step, with_temporary, value_in_thread}
+use Rattle.host_core.specs.Host.{HostState, Outcome, with_running, after_step, with_temporary, value_in_thread}
 use Rattle.host_core.specs.Host.{after_clearing, next_request, after_pop, with_one_ignored, without_message}
 use Rattle.host_core.specs.Host.{with_message}
 use Rattle.host_core.specs.Turn.{after_operation, after_read, after_let, after_forward, after_return, after_back}
@@ -32,11 +32,11 @@ use Rattle.token_laws.proofs.Tests.{itself}
 use Rattle.seen_world.specs.Eyes.{Eyes, is_open, is_hidden}
 use Rattle.seen_world.specs.Points.{IsHiddenToken}
 use Rattle.seen_world.proofs.TurnsKept.{meets_next}
-use Rattle.agreement.specs.Comes.{ComesTo, Comes}
-use Rattle.agreement.specs.Leads.{Holder, nobody, flies_on}
+use Rattle.agreement.specs.Comes.{ComesIntoView, Comes}
+use Rattle.agreement.specs.Leads.{UnseenHolder, nobody, flies_on}
 use Rattle.agreement.specs.Turns.{ChangesAlone, carried_in, host_idle, ComesBehind, ComesWithResult, SeenOperation}
 use Rattle.agreement.specs.Views.{sees_variable, ShowsHost, gives, Completed}
-use Rattle.agreement.specs.Views.{View, masked, masked_all, last_seen, sees_read, thread_view, with_host}
+use Rattle.agreement.specs.Views.{LowView, masked, masked_all, last_seen, sees_read, thread_view, with_host}
 use Rattle.agreement.specs.Views.{host_with_thread}
 use Rattle.agreement.proofs.Branches.{own_view, other_view}
 use Rattle.agreement.proofs.Ends.{Ends}
@@ -86,15 +86,15 @@ read_seen eyes me place field index law =
     (read_label eyes.scene.basis here.pc (record { field = field; index = law.1.index }))
 
 -- a thread with other temporaries of which the same may be seen comes to the same
-pub comes_masked : (eyes : Eyes) (now : View) (host : HostId) (thread : ThreadShape) (temps : List ℤ) (token : Token)
-    (after : View) →
+pub comes_masked : (eyes : Eyes) (now : LowView) (host : HostId) (thread : ThreadShape) (temps : List ℤ) (token : Token)
+    (after : LowView) →
     masked_all eyes (eyes.shades.at host thread.at).temps thread.temporaries
     ≡ masked_all eyes (eyes.shades.at host thread.at).temps temps →
     Comes eyes now host (record thread { temporaries = temps }) token after → Comes eyes now host thread token after
 comes_masked eyes now host thread temps token after same comes = by (is_open eyes host thread.at) comes
   where
-    by : (seen : Bool) → ComesTo eyes now host (record thread { temporaries = temps }) token seen after →
-        ComesTo eyes now host thread token seen after
+    by : (seen : Bool) → ComesIntoView eyes now host (record thread { temporaries = temps }) token seen after →
+        ComesIntoView eyes now host thread token seen after
     by true is =
         is ∙ ap (λ ts. with_host now host (host_with_thread (now.hosts host) (record thread { temporaries = ts })))
         (sym same)
@@ -102,11 +102,11 @@ comes_masked eyes now host thread temps token after same comes = by (is_open eye
 
 -- ---- a read
 
-read_turned : (eyes : Eyes) (old : HostShape) (thread : ThreadShape) (there : Instr) (token : Token) (now : View)
+read_turned : (eyes : Eyes) (old : HostState) (thread : ThreadShape) (there : Instr) (token : Token) (now : LowView)
     (field : FieldId) (index : List Node) → Visible eyes old thread there token now →
     IsShadedOp eyes.scene eyes.shades old.me thread.at (op.Read field index) → (found : Option CodeFieldShape) →
     IsSomeAnd found (λ on. on.host ≡ old.me) →
-    (after : View)
+    (after : LowView)
     × ComesBehind eyes now old.me (host_idle (now.hosts old.me))
     (with_temporary (masked (sees_read eyes old.me (next_request old thread.at))
     (element_at (row_of old.rows field.0) (value_in_thread old thread index)))
@@ -159,11 +159,11 @@ read_turned eyes old thread there token now field index run law (Some on) own =
 
 -- ---- a result
 
-return_turned : (eyes : Eyes) (old : HostShape) (thread : ThreadShape) (there : Instr) (token : Token) (now : View)
+return_turned : (eyes : Eyes) (old : HostState) (thread : ThreadShape) (there : Instr) (token : Token) (now : LowView)
     (x : VarId) (value : List Node) (passes : Bool) → Visible eyes old thread there token now →
     IsSomeAnd thread.held (λ held. (held.host ≡ old.me) ⊎ (¬ MayReturn eyes.code (variable_at eyes.code x) held.host))
     → (IsTrue passes ↔ PassesWith eyes.code (with_running old None) (op.Ret x value) thread.held) →
-    (after : View)
+    (after : LowView)
     × ComesWithResult eyes now old.me thread token x
     (masked (sees_variable eyes x) (value_in_thread old thread value)) (token.host.0 == old.me.0) after
     × Arrives eyes old now (after_return (with_running old None) thread x value thread.held passes) after
@@ -175,7 +175,7 @@ return_turned eyes old thread there token now x value passes run own checks =
           turned.2,
     )
   where
-    bare : HostShape
+    bare : HostState
     bare = with_running old None
 
     shown : ℤ
@@ -192,7 +192,7 @@ return_turned eyes old thread there token now x value passes run own checks =
 
     by : (b : Bool) → (token.host.0 == old.me.0) ≡ b → (pass : Bool) →
         (IsTrue pass → PassesWith eyes.code bare (op.Ret x value) (Some token)) →
-        (after : View)
+        (after : LowView)
         × ComesWithResult eyes now old.me thread token x shown b after
         × Arrives eyes old now (if b
         then after_let bare thread token.frame x value
@@ -216,9 +216,9 @@ return_turned eyes old thread there token now x value passes run own checks =
 -- ---- a token is given back to the host
 
 -- Nothing is sent, and what goes on unseen then, or comes into the open, is known.
-pub record Rests (eyes : Eyes) (old : HostShape) (now : View) (outcome : Outcome) (after : View) : Type 0 where
+pub record Rests (eyes : Eyes) (old : HostState) (now : LowView) (outcome : Outcome) (after : LowView) : Type 0 where
   pub silent : outcome.sent ≡ None
-  pub later : Holder
+  pub later : UnseenHolder
   pub flies : (i j : HostId) → flies_on later i j ≡ []
   pub leaves : Leaves eyes old.me nobody [] now after outcome.state later
 
@@ -229,10 +229,10 @@ plain_entry eyes token obeys shown = elim (cases_Bool (is_hidden eyes token.entr
   | inr plain ↦ plain
 ]
 
-back_turned : (eyes : Eyes) (old : HostShape) (thread : ThreadShape) (there : Instr) (token : Token) (now : View)
+back_turned : (eyes : Eyes) (old : HostState) (thread : ThreadShape) (there : Instr) (token : Token) (now : LowView)
     (passes : Bool) → Visible eyes old thread there token now → IsSomeAnd thread.held (λ held. held.host ≡ old.me) →
     (IsTrue passes ↔ PassesWith eyes.code (with_running old None) op.Back thread.held) →
-    (after : View)
+    (after : LowView)
     × Completed eyes (gives token) (with_host now old.me (host_idle (now.hosts old.me))) after
     × Rests eyes old now (after_back eyes.code (with_running old None) thread thread.held passes) after
 back_turned eyes old thread there token now passes run own checks =
@@ -261,7 +261,7 @@ back_turned eyes old thread there token now passes run own checks =
       completed = some.1;
       host = host;
     } in
-    let popped : HostShape = if passes then after_pop eyes.code bare bare.entries else with_one_ignored bare in
+    let popped : HostState = if passes then after_pop eyes.code bare bare.entries else with_one_ignored bare in
     let is : after_back eyes.code bare thread thread.held passes ≡ without_message popped =
     ap (λ held. after_back eyes.code bare thread held passes) run.held
     ∙ ap (λ (b : Bool). if b then without_message popped
@@ -300,29 +300,29 @@ back_turned eyes old thread there token now passes run own checks =
 -- ---- how a turn ends
 
 -- what is seen after such an instruction, where its thread comes to its next place
-abbrev Arrived : Eyes → HostShape → ThreadShape → Token → View → Op → Outcome → Type 0
+abbrev Arrived : Eyes → HostState → ThreadShape → Token → LowView → Op → Outcome → Type 0
 Arrived eyes old thread token now it outcome =
-    (after : View)
+    (after : LowView)
     × SeenOperation eyes now old.me (thread_view eyes old.me thread.at thread) token it
     (carried_in eyes old thread it) after
     × Arrives eyes old now outcome after
 
 -- or ends
-abbrev pub Turned : Eyes → HostShape → ThreadShape → Token → View → Op → Outcome → Type 0
+abbrev pub Turned : Eyes → HostState → ThreadShape → Token → LowView → Op → Outcome → Type 0
 Turned eyes old thread token now it outcome =
-    (after : View)
+    (after : LowView)
     × SeenOperation eyes now old.me (thread_view eyes old.me thread.at thread) token it
     (carried_in eyes old thread it) after
     × (Arrives eyes old now outcome after ⊎ Rests eyes old now outcome after)
 
-arrived : (eyes : Eyes) (old : HostShape) (thread : ThreadShape) (token : Token) (now : View) (it : Op)
+arrived : (eyes : Eyes) (old : HostState) (thread : ThreadShape) (token : Token) (now : LowView) (it : Op)
     (outcome : Outcome) → Arrived eyes old thread token now it outcome → Turned eyes old thread token now it outcome
 arrived eyes old thread token now it outcome done = (done.0, done.1, inl done.2)
 
 -- ---- each instruction
 
-pub operation_turned : (eyes : Eyes) (old : HostShape) (thread : ThreadShape) (there : Instr) (token : Token)
-    (now : View) (count : ℕ) (it : Op) (passes : Bool) → Visible eyes old thread there token now →
+pub operation_turned : (eyes : Eyes) (old : HostState) (thread : ThreadShape) (there : Instr) (token : Token)
+    (now : LowView) (count : ℕ) (it : Op) (passes : Bool) → Visible eyes old thread there token now →
     ChangesAlone eyes.code old.me thread.held it → IsShadedOp eyes.scene eyes.shades old.me thread.at it →
     OperationFits eyes.code old.me count it →
     (IsTrue passes ↔ PassesWith eyes.code (with_running old None) it thread.held) →

@@ -9,7 +9,7 @@ use Rattle.host_code.specs.declared.instruction.Instr.{Instr}
 use Rattle.host_code.specs.declared.message.Message.{Message}
 use Rattle.host_code.specs.Code.{instruction_at}
 use Rattle.host_code.specs.Thread.{ThreadShape}
-use Rattle.host_core.specs.Host.{HostShape, Outcome, with_running, with_message}
+use Rattle.host_core.specs.Host.{HostState, Outcome, with_running, with_message}
 use Rattle.host_core.specs.Turn.{after_operation}
 use Rattle.host_core.specs.Turn.{IsTurn, IsTurnOf, IsRunning, PassesWith, label_of_turn}
 use Rattle.net_world.specs.Flying.{Flight, Flying, with_flights}
@@ -29,7 +29,7 @@ use Rattle.seen_world.proofs.PointsKept.{points_kept}
 use Rattle.seen_world.proofs.SeenPlaces.{some_is}
 use Rattle.agreement.specs.Handing.{sent_view}
 use Rattle.agreement.specs.Leads.{nobody, Leads, Hides, hidden_flights, hidden_running, hidden_waiting}
-use Rattle.agreement.specs.Views.{View, HostView, ShowsHost, nowhere, nothing, with_host, flies_open, flight_view}
+use Rattle.agreement.specs.Views.{LowView, HostView, ShowsHost, nowhere, nothing, with_host, flies_open, flight_view}
 use Rattle.agreement.specs.Views.{flights_view, message_view, thread_view, is_shown}
 use Rattle.agreement.proofs.Branches.{own_view, other_view}
 use Rattle.agreement.proofs.Lists.{left_last, kept_last}
@@ -78,15 +78,15 @@ posted_seen eyes flying seen from to flight shown opens is_shown same i j =
 -- ---- the world after it
 
 -- A step leaves a host on which nothing runs and nothing goes on unseen, and this is seen of it.
-pub record Rested (eyes : Eyes) (old new : HostShape) (shown : HostView) : Type 0 where
+pub record Rested (eyes : Eyes) (old new : HostState) (shown : HostView) : Type 0 where
   pub running : new.running ≡ None
   pub waiting : hidden_waiting eyes old.me new.waiting ≡ []
   pub entries : new.entries ≡ filter (is_shown eyes) new.entries
   pub own : ShowsHost eyes old.me new shown
 
 -- Where it is so, and what is in flight and was sent is seen so, that is what is seen.
-pub resting_leads : (eyes : Eyes) (world after : WorldShape) (old new : HostShape) (shown : HostView)
-    (now seen : View) →
+pub resting_leads : (eyes : Eyes) (world after : WorldShape) (old new : HostState) (shown : HostView)
+    (now seen : LowView) →
     Calm eyes world now → state_at world old.me ≡ Some old → Moved world old.me new after.flying after →
     Rested eyes old new shown → seen.hosts ≡ (with_host now old.me shown).hosts →
     ((i j : HostId) → hidden_flights eyes (after.flying i j) ≡ []) →
@@ -129,7 +129,7 @@ resting_leads eyes world after old new shown now seen calm obeys moved rested ho
             (elim (find host other there) [
               | inl mover ↦
                   subst (λ (h : HostId). ShowsHost eyes h other ((with_host now old.me shown).hosts h)) (sym mover.same)
-                  (subst (λ (s : HostShape). ShowsHost eyes old.me s ((with_host now old.me shown).hosts old.me))
+                  (subst (λ (s : HostState). ShowsHost eyes old.me s ((with_host now old.me shown).hosts old.me))
                   (sym mover.is) own)
               | inr apart ↦
                   subst (ShowsHost eyes host other) (sym (other_view now old.me host shown apart.apart))
@@ -142,8 +142,8 @@ resting_leads eyes world after old new shown now seen calm obeys moved rested ho
     }
 
 -- What such a step sends is seen as it may be seen in flight, and a misbehaving host sees it as it is.
-pub sent_leads : (eyes : Eyes) (world after : WorldShape) (old new : HostShape) (shown : HostView) (outcome : Outcome)
-    (to : HostId) (said seen : Message) (labelled : Option ℕ) (label : ℕ) (now : View) → Calm eyes world now →
+pub sent_leads : (eyes : Eyes) (world after : WorldShape) (old new : HostState) (shown : HostView) (outcome : Outcome)
+    (to : HostId) (said seen : Message) (labelled : Option ℕ) (label : ℕ) (now : LowView) → Calm eyes world now →
     Watches eyes world → state_at world old.me ≡ Some old → Rested eyes old new shown → sees_at eyes label ≡ true →
     labelled ≡ Some label → message_view eyes old.me to said ≡ seen → (eyes.bad to ≡ true → said ≡ seen) →
     with_message new to said ≡ outcome → after_step world old.me outcome labelled ≡ after →
@@ -159,7 +159,7 @@ sent_leads eyes world after old new shown outcome to said seen labelled label no
     seen_flight : Flight
     seen_flight = record { message = seen; label = label }
 
-    rest_now : View
+    rest_now : LowView
     rest_now = with_host now old.me shown
 
     by : (bad : Bool) → eyes.bad to ≡ bad → Leads eyes after (sent_view rest_now old.me to seen_flight bad)
@@ -186,7 +186,7 @@ sent_leads eyes world after old new shown outcome to said seen labelled label no
 -- ---- a turn
 
 -- a turn of a quiet world, and its thread, which may be seen
-pub record Turns (eyes : Eyes) (world after : WorldShape) (host : HostId) (now : View) (old : HostShape)
+pub record Turns (eyes : Eyes) (world after : WorldShape) (host : HostId) (now : LowView) (old : HostState)
     (thread : ThreadShape) (there : Instr) (token : Token) : Type 0 where
   pub watch : Watches eyes world
   pub calm : Calm eyes world now
@@ -203,7 +203,7 @@ pub record Turns (eyes : Eyes) (world after : WorldShape) (host : HostId) (now :
   pub leaves : after_step world old.me outcome (label_of_turn eyes.code old) ≡ after
 
 pub reached_turns : (eyes : Eyes) (rows : List declared_hosts.HostShape) (bad : ℕ) (store : List (List ℤ))
-    (events : List Event) (world after : WorldShape) (host : HostId) (now : View) (old : HostShape)
+    (events : List Event) (world after : WorldShape) (host : HostId) (now : LowView) (old : HostState)
     (thread : ThreadShape) (there : Instr) (token : Token) → state_at world host ≡ Some old →
     old.running ≡ Some thread → instruction_at eyes.code host thread.at ≡ Some there → thread.held ≡ Some token →
     AreEyes eyes → Watches eyes (world_at_start eyes.code rows bad store) →
@@ -218,7 +218,7 @@ reached_turns eyes rows bad store events world after host now old thread there t
     let me = own.fit.me in
     let same : step.state ≡ old = some_is (sym step.obeys ∙ is_there) in
     let outcome = step.outcome in
-    let turns : IsTurn eyes.code old outcome = subst (λ (s : HostShape). IsTurn eyes.code s outcome) same step.turns in
+    let turns : IsTurn eyes.code old outcome = subst (λ (s : HostState). IsTurn eyes.code s outcome) same step.turns in
     let here : IsHere eyes old thread there =
     subst (λ (h : HostId). instruction_at eyes.code h thread.at ≡ Some there) (sym me) is in
     let obeys : state_at world old.me ≡ Some old = ap (state_at world) me ∙ is_there in
@@ -245,6 +245,6 @@ reached_turns eyes rows bad store events world after host now old thread there t
       label_is = rw (running, here) refl;
       opens = same_label ∙ visible.seen;
       leaves = ap (λ (h : HostId). after_step world h outcome (label_of_turn eyes.code old)) me
-          ∙ subst (λ (s : HostShape). after_step world host outcome (label_of_turn eyes.code s) ≡ after) same
+          ∙ subst (λ (s : HostState). after_step world host outcome (label_of_turn eyes.code s) ≡ after) same
           step.leaves;
     }

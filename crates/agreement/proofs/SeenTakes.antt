@@ -27,14 +27,14 @@ use Rattle.entry_check.specs.declared.ask.Ask.TheVariants as ask
 use Rattle.host_stores.specs.Stores.{with_variable}
 use Rattle.entry_check.specs.Checks.{May, MayRide, MaySee, label_at, label_of_host}
 use Rattle.host_core.specs.Fits.{RunningFits, StateFits}
-use Rattle.host_core.specs.Host.{HostShape, Outcome, with_running, with_temporary, with_token, thread_at}
+use Rattle.host_core.specs.Host.{HostState, Outcome, with_running, with_temporary, with_token, thread_at}
 use Rattle.host_core.specs.Host.{after_entering, without_message, with_one_ignored, with_variable_set}
 use Rattle.host_core.specs.Host.{with_variables_set}
-use Rattle.host_core.specs.Taking.{Passes, after_passing, after_taking, after_answer, place_of_awaiting}
+use Rattle.host_core.specs.Taking.{PassesCheck, after_passing, after_taking, after_answer, place_of_awaiting}
 use Rattle.token_laws.proofs.HeldLaws.{all_at}
 use Rattle.token_laws.proofs.Riding.{riding_is}
 use Rattle.seen_world.specs.Eyes.{Eyes, AreEyes, sees_at, is_hidden}
-use Rattle.seen_world.specs.Points.{IsHiddenToken, MayHold, RunsWell, StandsWell, HostKeeps, ShowsNoHidden}
+use Rattle.seen_world.specs.Points.{IsHiddenToken, MayHoldToken, RunsWell, StandsWell, HostKeeps, ShowsNoHidden}
 use Rattle.seen_world.specs.Points.{AsksForNoHidden}
 use Rattle.seen_world.proofs.SeenPlaces.{some_is}
 use Rattle.seen_world.proofs.TakesKept.{on_me}
@@ -43,7 +43,7 @@ use Rattle.agreement.specs.Leads.{nobody, hidden_running, hidden_waiting}
 use Rattle.agreement.specs.Taken.{carried_taken, host_checked, host_without, sees_answer, ComesAnswered, ComesToEntry}
 use Rattle.agreement.specs.Taken.{answer_view, SeenPassing, SeenMessage}
 use Rattle.agreement.specs.Turns.{variable_shown, with_riders, riders_shown, element_shown, token_shown, entry_shown}
-use Rattle.agreement.specs.Views.{View, HostView, ShowsHost, nowhere, nothing, gives, GivenBack, masked}
+use Rattle.agreement.specs.Views.{LowView, HostView, ShowsHost, nowhere, nothing, gives, GivenBack, masked}
 use Rattle.agreement.specs.Views.{masked_all, last_seen, sees_field, sees_variable, sees_read, message_view}
 use Rattle.agreement.specs.Views.{riders_view, thread_view, waits_open, waiter_view, running_view, is_shown, with_host}
 use Rattle.agreement.proofs.AskedPlaces.{Woken, woken_at, awaiting_seen, acknowledged, given_token}
@@ -58,7 +58,7 @@ use Rattle.agreement.proofs.SeenTurns.{Arrives, comes_some, completed_some, vari
 use Rattle.agreement.proofs.SeenTurns.{push_shows, push_kept, some_below}
 
 -- An obeying host on which nothing runs takes a message, where nothing goes on unseen.
-pub record Receives (eyes : Eyes) (state : HostShape) (from : HostId) (said : Message) (now : View) : Type 0 where
+pub record Receives (eyes : Eyes) (state : HostState) (from : HostId) (said : Message) (now : LowView) : Type 0 where
   pub are : AreEyes eyes
   pub obeys : eyes.bad state.me ≡ false
   pub keeps : HostKeeps eyes state.me state
@@ -68,10 +68,10 @@ pub record Receives (eyes : Eyes) (state : HostShape) (from : HostId) (said : Me
   pub entries : state.entries ≡ filter (is_shown eyes) state.entries
   pub shows : ShowsHost eyes state.me state (now.hosts state.me)
   pub plain : ShowsNoHidden eyes said
-  pub fresh : Passes eyes.code state from said → AsksForNoHidden eyes said
+  pub fresh : PassesCheck eyes.code state from said → AsksForNoHidden eyes said
 
 -- what is seen of the host where it runs nothing
-resting_shows : (eyes : Eyes) (state : HostShape) (shown : HostView) → ShowsHost eyes state.me state shown →
+resting_shows : (eyes : Eyes) (state : HostState) (shown : HostView) → ShowsHost eyes state.me state shown →
     state.running ≡ None → ShowsHost eyes state.me (with_running state None) shown
 resting_shows eyes state shown shows rests = record {
   key = shows.key;
@@ -93,10 +93,10 @@ names_seen eyes [] = refl
 names_seen eyes (rider ∷ riders) = ap (λ names. rider.0 ∷ names) (names_seen eyes riders)
 
 -- it says the same of what is seen of the host and of the message
-checked_same : (eyes : Eyes) (state : HostShape) (from : HostId) (said : Message) (now : View) →
+checked_same : (eyes : Eyes) (state : HostState) (from : HostId) (said : Message) (now : LowView) →
     Receives eyes state from said now →
-    (Passes eyes.code state from said
-    ↔ Passes eyes.code (host_checked state.me (now.hosts state.me)) from (message_view eyes from state.me said))
+    (PassesCheck eyes.code state from said
+    ↔ PassesCheck eyes.code (host_checked state.me (now.hosts state.me)) from (message_view eyes from state.me said))
 checked_same eyes state from (message.Get request field index) now got = (λ may. may, λ may. may)
 checked_same eyes state from (message.Set request field index value) now got = (λ may. may, λ may. may)
 checked_same eyes state from (message.Forward request frame x value) now got = (λ may. may, λ may. may)
@@ -121,7 +121,7 @@ checked_same eyes state from (message.Token request token) now got =
     (λ some. subst IsSome (sym same) some, λ some. subst IsSome same some)
 
 -- a message that fails its check changes nothing that is seen
-ignored_rests : (eyes : Eyes) (state : HostShape) (from : HostId) (said : Message) (now : View) →
+ignored_rests : (eyes : Eyes) (state : HostState) (from : HostId) (said : Message) (now : LowView) →
     Receives eyes state from said now → Rests eyes state now (without_message (with_one_ignored state)) now
 ignored_rests eyes state from said now got = record {
   silent = refl;
@@ -155,8 +155,8 @@ ignored_rests eyes state from said now got = record {
 -- ---- who asked is answered
 
 -- A host answers a message with this label, and runs nothing then.
-pub record Answers (eyes : Eyes) (old : HostShape) (from : HostId) (label : ℕ) (now : View) (outcome : Outcome)
-    (after : View) : Type 0 where
+pub record Answers (eyes : Eyes) (old : HostState) (from : HostId) (label : ℕ) (now : LowView) (outcome : Outcome)
+    (after : LowView) : Type 0 where
   pub said : Message
   pub seen_said : Message
   pub shown : HostView
@@ -166,15 +166,15 @@ pub record Answers (eyes : Eyes) (old : HostShape) (from : HostId) (label : ℕ)
   pub seen : after ≡ answer_view eyes (with_host now old.me shown) from old.me label seen_said
 
 -- how a take ends
-abbrev pub TakeEnds : Eyes → HostShape → HostId → ℕ → View → Outcome → View → Type 0
+abbrev pub TakeEnds : Eyes → HostState → HostId → ℕ → LowView → Outcome → LowView → Type 0
 TakeEnds eyes state from label now outcome after =
     Arrives eyes state now outcome after
     ⊎ (Rests eyes state now outcome after ⊎ Answers eyes state from label now outcome after)
 
 -- what is seen of a message that passes its check
-abbrev pub PassesSeen : Eyes → HostShape → HostId → ℕ → View → Message → Type 0
+abbrev pub PassesSeen : Eyes → HostState → HostId → ℕ → LowView → Message → Type 0
 PassesSeen eyes state from label now said =
-    (after : View)
+    (after : LowView)
     × SeenPassing eyes now from state.me label (message_view eyes from state.me said)
     (carried_taken eyes state from said) after
     × TakeEnds eyes state from label now (after_passing eyes.code state from said) after
@@ -222,9 +222,9 @@ value_masks eyes from request field value granted = by (eyes.bad from) granted
     by true sees = ap (λ (b : Bool). message.Value request (masked b value)) (sees refl)
     by false sees = refl
 
-get_seen : (eyes : Eyes) (state : HostShape) (from : HostId) (label : ℕ) (now : View) (request : RequestId)
+get_seen : (eyes : Eyes) (state : HostState) (from : HostId) (label : ℕ) (now : LowView) (request : RequestId)
     (field : FieldId) (index : ℤ) → Receives eyes state from (message.Get request field index) now →
-    Passes eyes.code state from (message.Get request field index) →
+    PassesCheck eyes.code state from (message.Get request field index) →
     PassesSeen eyes state from label now (message.Get request field index)
 get_seen eyes state from label now request field index got passes =
     let value = element_at (row_of state.rows field.0) index in
@@ -239,11 +239,11 @@ get_seen eyes state from label now request field index got passes =
         rested = record { running = got.rests; waiting = got.waits; entries = got.entries; own = got.shows };
         masks = value_masks eyes from request field value
             (λ bad. granted_field eyes state.me from field got.are bad passes);
-        seen = ap (λ (v : View). answer_view eyes v from state.me label answer) (sym (same_view now state.me));
+        seen = ap (λ (v : LowView). answer_view eyes v from state.me label answer) (sym (same_view now state.me));
       })),
     )
 
-set_seen : (eyes : Eyes) (state : HostShape) (from : HostId) (label : ℕ) (now : View) (request : RequestId)
+set_seen : (eyes : Eyes) (state : HostState) (from : HostId) (label : ℕ) (now : LowView) (request : RequestId)
     (field : FieldId) (index value : ℤ) → Receives eyes state from (message.Set request field index value) now →
     PassesSeen eyes state from label now (message.Set request field index value)
 set_seen eyes state from label now request field index value got =
@@ -278,7 +278,7 @@ set_seen eyes state from label now request field index value got =
       })),
     )
 
-forward_seen : (eyes : Eyes) (state : HostShape) (from : HostId) (label : ℕ) (now : View) (request : RequestId)
+forward_seen : (eyes : Eyes) (state : HostState) (from : HostId) (label : ℕ) (now : LowView) (request : RequestId)
     (frame : FrameId) (x : VarId) (value : ℤ) → Receives eyes state from (message.Forward request frame x value) now →
     PassesSeen eyes state from label now (message.Forward request frame x value)
 forward_seen eyes state from label now request frame x value got =
@@ -312,10 +312,10 @@ forward_seen eyes state from label now request frame x value got =
       })),
     )
 
-sync_seen : (eyes : Eyes) (state : HostShape) (from : HostId) (label : ℕ) (now : View) (request : RequestId)
+sync_seen : (eyes : Eyes) (state : HostState) (from : HostId) (label : ℕ) (now : LowView) (request : RequestId)
     (frame : FrameId) (entry : EntryId) (token : Token) →
     Receives eyes state from (message.Sync request frame entry token) now →
-    Passes eyes.code state from (message.Sync request frame entry token) →
+    PassesCheck eyes.code state from (message.Sync request frame entry token) →
     PassesSeen eyes state from label now (message.Sync request frame entry token)
 sync_seen eyes state from label now request frame entry token got passes =
     let shown_here = now.hosts state.me in
@@ -348,12 +348,12 @@ sync_seen eyes state from label now request frame entry token got passes =
 -- ---- a thread starts at an entry
 
 -- where the host's variables, of which this is seen, are these by then
-enters_seen : (eyes : Eyes) (state : HostShape) (from : HostId) (said : Message) (now : View)
+enters_seen : (eyes : Eyes) (state : HostState) (from : HostId) (said : Message) (now : LowView)
     (variables : FrameId → VarId → ℤ) (shown : HostView) (frame : FrameId) (token : Token) (P : Entry → Type 0) →
     Receives eyes state from said now → ¬ IsHiddenToken eyes token →
     ShowsHost eyes state.me (with_running (record state { variables = variables }) None) shown →
     (found : Option Entry) → IsSomeAnd found P →
-    (after : View)
+    (after : LowView)
     × ComesToEntry eyes (with_host now state.me shown) state.me found frame token after
     × Arrives eyes state now
     (without_message (after_entering (record state { variables = variables }) found frame token)) after
@@ -379,9 +379,9 @@ enters_seen eyes state from said now variables shown frame token P got plain own
       },
     )
 
-rgoto_seen : (eyes : Eyes) (state : HostShape) (from : HostId) (label : ℕ) (now : View) (frame : FrameId)
+rgoto_seen : (eyes : Eyes) (state : HostState) (from : HostId) (label : ℕ) (now : LowView) (frame : FrameId)
     (entry : EntryId) (token : Token) → Receives eyes state from (message.Rgoto frame entry token) now →
-    Passes eyes.code state from (message.Rgoto frame entry token) →
+    PassesCheck eyes.code state from (message.Rgoto frame entry token) →
     PassesSeen eyes state from label now (message.Rgoto frame entry token)
 rgoto_seen eyes state from label now frame entry token got passes =
     let me = state.me in
@@ -390,13 +390,13 @@ rgoto_seen eyes state from label now frame entry token got passes =
     (resting_shows eyes state (now.hosts me) got.shows got.rests) (entry_at eyes.code entry)
     (on_me eyes me from entry passes) in (
       done.0,
-      subst (λ (v : View). ComesToEntry eyes v me (entry_at eyes.code entry) frame token done.0) (same_view now me)
+      subst (λ (v : LowView). ComesToEntry eyes v me (entry_at eyes.code entry) frame token done.0) (same_view now me)
           done.1,
       inl done.2,
     )
 
 -- values ride to the host and its view alike, each masked by the label of its variable
-riders_alike : (eyes : Eyes) (host : HostShape) (others : FrameId → VarId → ℤ) (frame : FrameId)
+riders_alike : (eyes : Eyes) (host : HostState) (others : FrameId → VarId → ℤ) (frame : FrameId)
     (riders : List Rider) →
     ((other : FrameId) (y : VarId) → sees_variable eyes y ≡ true → host.variables other y ≡ others other y) →
     (other : FrameId) (y : VarId) → sees_variable eyes y ≡ true →
@@ -409,10 +409,10 @@ riders_alike eyes host others frame (rider ∷ riders) same other y seen =
     (λ another z sees. variable_alike eyes host.variables others frame rider.0 rider.1 another z sees (same another z))
     other y seen
 
-rgoto_with_seen : (eyes : Eyes) (state : HostShape) (from : HostId) (label : ℕ) (now : View) (frame : FrameId)
+rgoto_with_seen : (eyes : Eyes) (state : HostState) (from : HostId) (label : ℕ) (now : LowView) (frame : FrameId)
     (entry : EntryId) (token : Token) (riders : List Rider) →
     Receives eyes state from (message.RgotoWith frame entry token riders) now →
-    Passes eyes.code state from (message.RgotoWith frame entry token riders) →
+    PassesCheck eyes.code state from (message.RgotoWith frame entry token riders) →
     PassesSeen eyes state from label now (message.RgotoWith frame entry token riders)
 rgoto_with_seen eyes state from label now frame entry token riders got passes =
     let me = state.me in
@@ -433,7 +433,7 @@ rgoto_with_seen eyes state from label now frame entry token riders got passes =
     }) (entry_at eyes.code entry) (on_me eyes me from entry passes.0) in (
       done.0,
       done.1,
-      inl (subst (λ (one : HostShape). Arrives eyes state now
+      inl (subst (λ (one : HostState). Arrives eyes state now
           (without_message (after_entering one (entry_at eyes.code entry) frame token)) done.0)
           (riding_is state frame riders) done.2),
     )
@@ -455,7 +455,7 @@ top_plain eyes me token (top ∷ below) stands all is =
           ∙ ap (λ (e : EntryId). is_hidden eyes e.0) stand.token_entry ∙ shown,
     )
 
-lgoto_seen : (eyes : Eyes) (state : HostShape) (from : HostId) (label : ℕ) (now : View) (token : Token) →
+lgoto_seen : (eyes : Eyes) (state : HostState) (from : HostId) (label : ℕ) (now : LowView) (token : Token) →
     Receives eyes state from (message.Lgoto token) now → top_token state.entries ≡ Some token →
     PassesSeen eyes state from label now (message.Lgoto token)
 lgoto_seen eyes state from label now token got passes =
@@ -497,14 +497,14 @@ nothing_masked eyes labels others temps none =
     (ap (masked_all eyes labels) (sym (masked_none eyes others)))
 
 -- the thread runs, and may run where it goes on
-record Wakes (eyes : Eyes) (state : HostShape) (shown : HostView) (awaited : Awaited) (request : RequestId)
+record Wakes (eyes : Eyes) (state : HostState) (shown : HostView) (awaited : Awaited) (request : RequestId)
     (from : HostId) (answered : ThreadShape → ThreadShape) : Type 0 where
   woken : Woken eyes state shown awaited request from
   token : Token
   held : (answered woken.waiting.thread).held ≡ Some token
   well : RunsWell eyes state.me (answered woken.waiting.thread)
 
-wakes : (eyes : Eyes) (state : HostShape) (from : HostId) (said : Message) (now : View) (awaited : Awaited)
+wakes : (eyes : Eyes) (state : HostState) (from : HostId) (said : Message) (now : LowView) (awaited : Awaited)
     (request : RequestId) (answered : ThreadShape → ThreadShape) → Receives eyes state from said now →
     IsSome (place_of_awaiting state awaited request from) →
     StateFits eyes.code (after_answer state (place_of_awaiting state awaited request from) answered) →
@@ -530,7 +530,7 @@ wakes eyes state from said now awaited request answered got some fits keeps =
       well = subst (λ one. IfSome one (RunsWell eyes state.me)) runs_it keep.running;
     }
 
-answer_seen : (eyes : Eyes) (state : HostShape) (from : HostId) (said : Message) (now : View) (awaited : Awaited)
+answer_seen : (eyes : Eyes) (state : HostState) (from : HostId) (said : Message) (now : LowView) (awaited : Awaited)
     (request : RequestId) (answered seen : ThreadShape → ThreadShape) (temps : List ℤ) →
     Receives eyes state from said now →
     (wake : Wakes eyes state (now.hosts state.me) awaited request from answered) →
@@ -540,7 +540,7 @@ answer_seen : (eyes : Eyes) (state : HostShape) (from : HostId) (said : Message)
     masked_all eyes (eyes.shades.at state.me (answered wake.woken.waiting.thread).at).temps
     (answered wake.woken.waiting.thread).temporaries
     ≡ masked_all eyes (eyes.shades.at state.me (answered wake.woken.waiting.thread).at).temps temps →
-    (after : View)
+    (after : LowView)
     × ComesAnswered eyes now state.me
     (place_of_awaiting (host_checked state.me (now.hosts state.me)) awaited request from) seen after
     × Arrives eyes state now
@@ -556,8 +556,8 @@ answer_seen eyes state from said now awaited request answered seen temps got wak
     let block : eyes.sees (eyes.shades.at me later.at).block ≡ true =
     ap (λ n. eyes.sees (eyes.shades.at me n).block) at_next ∙ ap eyes.sees woken.behind.block
     ∙ open_block eyes me waiting.request.at woken.well.2.1.0 got.are woken.well.2.1.1 woken.opens in
-    let may : MayHold eyes (eyes.shades.at me later.at) wake.token =
-    subst (λ held. IfSome held (MayHold eyes (eyes.shades.at me later.at))) wake.held wake.well.holds in
+    let may : MayHoldToken eyes (eyes.shades.at me later.at) wake.token =
+    subst (λ held. IfSome held (MayHoldToken eyes (eyes.shades.at me later.at))) wake.held wake.well.holds in
     let rest = resting_shows eyes state (now.hosts me) got.shows got.rests in (
       some.0,
       record {
@@ -601,7 +601,7 @@ answer_seen eyes state from said now awaited request answered seen temps got wak
     )
 
 -- an answer without a value leaves nothing that was read
-plain_masks : (eyes : Eyes) (state : HostShape) (shown : HostView) (awaited : Awaited) (request : RequestId)
+plain_masks : (eyes : Eyes) (state : HostState) (shown : HostView) (awaited : Awaited) (request : RequestId)
     (from : HostId) (answered : ThreadShape → ThreadShape)
     (wake : Wakes eyes state shown awaited request from answered) → awaited ≢ value_of_field →
     (answered wake.woken.waiting.thread).at ≡ wake.woken.waiting.request.at + 1 →
@@ -617,8 +617,8 @@ plain_masks eyes state shown awaited request from answered wake apart at_next =
     (no_temps later.temporaries (eyes.shades.at state.me later.at).temps wake.well.temps
     (ap (λ n. (eyes.shades.at state.me n).temps) at_next ∙ wake.woken.behind.plain apart))
 
-ack_seen : (eyes : Eyes) (state : HostShape) (from : HostId) (label : ℕ) (now : View) (request : RequestId) →
-    Receives eyes state from (message.Ack request) now → Passes eyes.code state from (message.Ack request) →
+ack_seen : (eyes : Eyes) (state : HostState) (from : HostId) (label : ℕ) (now : LowView) (request : RequestId) →
+    Receives eyes state from (message.Ack request) now → PassesCheck eyes.code state from (message.Ack request) →
     StateFits eyes.code (after_passing eyes.code state from (message.Ack request)).state →
     HostKeeps eyes state.me (after_passing eyes.code state from (message.Ack request)).state →
     PassesSeen eyes state from label now (message.Ack request)
@@ -633,9 +633,9 @@ ack_seen eyes state from label now request got passes fits keeps =
     at_next) in
     (done.0, done.1, inl done.2)
 
-token_seen : (eyes : Eyes) (state : HostShape) (from : HostId) (label : ℕ) (now : View) (request : RequestId)
+token_seen : (eyes : Eyes) (state : HostState) (from : HostId) (label : ℕ) (now : LowView) (request : RequestId)
     (token : Token) → Receives eyes state from (message.Token request token) now →
-    Passes eyes.code state from (message.Token request token) →
+    PassesCheck eyes.code state from (message.Token request token) →
     StateFits eyes.code (after_passing eyes.code state from (message.Token request token)).state →
     HostKeeps eyes state.me (after_passing eyes.code state from (message.Token request token)).state →
     PassesSeen eyes state from label now (message.Token request token)
@@ -652,9 +652,9 @@ token_seen eyes state from label now request token got passes fits keeps =
     (done.0, done.1, inl done.2)
 
 -- the value is one more temporary, and masked as such
-value_seen : (eyes : Eyes) (state : HostShape) (from : HostId) (label : ℕ) (now : View) (request : RequestId)
+value_seen : (eyes : Eyes) (state : HostState) (from : HostId) (label : ℕ) (now : LowView) (request : RequestId)
     (value : ℤ) → Receives eyes state from (message.Value request value) now →
-    Passes eyes.code state from (message.Value request value) →
+    PassesCheck eyes.code state from (message.Value request value) →
     StateFits eyes.code (after_passing eyes.code state from (message.Value request value)).state →
     HostKeeps eyes state.me (after_passing eyes.code state from (message.Value request value)).state →
     PassesSeen eyes state from label now (message.Value request value)
@@ -697,8 +697,8 @@ value_seen eyes state from label now request value got passes fits keeps =
 
 -- ---- each message
 
-passing_seen : (eyes : Eyes) (state : HostShape) (from : HostId) (label : ℕ) (now : View) (said : Message) →
-    Receives eyes state from said now → Passes eyes.code state from said →
+passing_seen : (eyes : Eyes) (state : HostState) (from : HostId) (label : ℕ) (now : LowView) (said : Message) →
+    Receives eyes state from said now → PassesCheck eyes.code state from said →
     StateFits eyes.code (after_passing eyes.code state from said).state →
     HostKeeps eyes state.me (after_passing eyes.code state from said).state →
     PassesSeen eyes state from label now said
@@ -724,11 +724,11 @@ passing_seen eyes state from label now (message.Token request token) got passes 
     token_seen eyes state from label now request token got passes fits keeps
 
 -- whether it passes its check or not
-pub message_seen : (eyes : Eyes) (state : HostShape) (from : HostId) (label : ℕ) (now : View) (said : Message)
+pub message_seen : (eyes : Eyes) (state : HostState) (from : HostId) (label : ℕ) (now : LowView) (said : Message)
     (outcome : Outcome) → Receives eyes state from said now → StateFits eyes.code outcome.state →
-    HostKeeps eyes state.me outcome.state → (passes : Bool) → (IsTrue passes ↔ Passes eyes.code state from said) →
+    HostKeeps eyes state.me outcome.state → (passes : Bool) → (IsTrue passes ↔ PassesCheck eyes.code state from said) →
     after_taking eyes.code state from said passes ≡ outcome →
-    (seen : View)
+    (seen : LowView)
     × SeenMessage eyes now from state.me label (message_view eyes from state.me said)
     (carried_taken eyes state from said) seen
     × TakeEnds eyes state from label now outcome seen

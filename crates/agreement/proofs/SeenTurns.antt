@@ -28,7 +28,7 @@ use Rattle.host_code.specs.Code.{host_of_site}
 use Rattle.host_code.specs.Sound.{IsEntryOn}
 use Rattle.host_code.specs.Thread.{ThreadShape}
 use Rattle.host_core.specs.Fits.{StateFits}
-use Rattle.host_core.specs.Host.{HostShape, Outcome, with_running, with_row_written, after_clearing}
+use Rattle.host_core.specs.Host.{HostState, Outcome, with_running, with_row_written, after_clearing}
 use Rattle.host_core.specs.Host.{after_step, after_push, with_token, new_token}
 use Rattle.host_core.specs.Host.{value_in_thread}
 use Rattle.host_core.specs.Turn.{after_let, after_put, after_branch}
@@ -38,18 +38,19 @@ use Rattle.host_stores.specs.Stores.{is_same_variable, with_variable}
 use Rattle.net_world.proofs.Rows.{row_written, row_kept}
 use Rattle.split_shades.specs.ShadedCode.{IsShadedOp}
 use Rattle.split_shades.specs.Shades.{Shade, Ahead}
-use Rattle.split_shades.specs.Shading.{Divides, IsPlain, Names, Pushes, PushesAt}
+use Rattle.split_shades.specs.Shading.{DividesInShade, IsPlain, NamesInShade, PushesInShade, PushesAt}
 use Rattle.token_laws.proofs.Tests.{itself, number_same, parts_same}
 use Rattle.seen_world.specs.Eyes.{Eyes, AreEyes, is_open, is_deep, is_hidden}
 use Rattle.seen_world.specs.Points.{IsHiddenToken, RunsWell, HostKeeps}
 use Rattle.seen_world.proofs.SeenPlaces.{block_seen}
 use Rattle.seen_world.proofs.TurnsKept.{meets_next}
-use Rattle.agreement.specs.Comes.{ComesTo, Comes}
+use Rattle.agreement.specs.Comes.{ComesIntoView, Comes}
 use Rattle.agreement.specs.Leads.{hidden_waiting}
 use Rattle.agreement.specs.Turns.{host_idle, variable_shown, element_shown}
 use Rattle.agreement.specs.Turns.{frame_shown, framed, token_shown, entry_shown, ComesInto}
 use Rattle.agreement.specs.Turns.{ComesBehind}
-use Rattle.agreement.specs.Views.{View, HostView, ShowsHost, Owed, nothing, goes_on, gives, at, owed_at, Completed}
+use Rattle.agreement.specs.Views.{LowView, HostView, ShowsHost, OwedInView, nothing, goes_on, gives, at, owed_at}
+use Rattle.agreement.specs.Views.{Completed}
 use Rattle.agreement.specs.Views.{GivenBack, masked, sees_field, sees_variable, thread_view, with_host, host_popped}
 use Rattle.agreement.specs.Views.{is_shown, host_with_thread}
 use Rattle.agreement.specs.Views as view
@@ -60,8 +61,8 @@ use Rattle.agreement.proofs.Turns.{IsHere, next_there}
 
 -- ---- something is seen then
 
-given_some : (eyes : Eyes) (now : View) (token : Token) (entries : List StackEntry) →
-    (after : View) × GivenBack eyes now token entries after
+given_some : (eyes : Eyes) (now : LowView) (token : Token) (entries : List StackEntry) →
+    (after : LowView) × GivenBack eyes now token entries after
 given_some eyes now token [] = (now, refl)
 given_some eyes now token (top ∷ below) = elim (same_token top.token token) [
   | inl same ↦ (
@@ -72,16 +73,17 @@ given_some eyes now token (top ∷ below) = elim (same_token top.token token) [
   | inr apart ↦ (now, inr (apart, refl))
 ]
 
-pub completed_some : (eyes : Eyes) (owed : Owed) (now : View) → (after : View) × Completed eyes owed now after
+pub completed_some : (eyes : Eyes) (owed : OwedInView) (now : LowView) → (after : LowView)
+    × Completed eyes owed now after
 completed_some eyes nothing now = (now, refl)
 completed_some eyes (goes_on host place frame token) now = (view.with_thread now host place frame token, refl)
 completed_some eyes (gives token) now = given_some eyes now token (now.hosts token.host).entries
 
-pub comes_some : (eyes : Eyes) (now : View) (host : HostId) (thread : ThreadShape) (token : Token) →
-    (after : View) × Comes eyes now host thread token after
+pub comes_some : (eyes : Eyes) (now : LowView) (host : HostId) (thread : ThreadShape) (token : Token) →
+    (after : LowView) × Comes eyes now host thread token after
 comes_some eyes now host thread token = by (is_open eyes host thread.at)
   where
-    by : (seen : Bool) → (after : View) × ComesTo eyes now host thread token seen after
+    by : (seen : Bool) → (after : LowView) × ComesIntoView eyes now host thread token seen after
     by true = (
       with_host now host (host_with_thread (now.hosts host) (thread_view eyes host thread.at thread)),
       refl,
@@ -89,8 +91,8 @@ comes_some eyes now host thread token = by (is_open eyes host thread.at)
     by false = completed_some eyes (owed_at eyes (at host thread.at thread.frame token)) now
 
 -- in blocks that may not be seen it comes to the same at another place
-deep_comes_too : (eyes : Eyes) (now : View) (host : HostId) (thread later : ThreadShape) (token : Token)
-    (after : View) → is_open eyes host thread.at ≡ false → is_open eyes host later.at ≡ false →
+deep_comes_too : (eyes : Eyes) (now : LowView) (host : HostId) (thread later : ThreadShape) (token : Token)
+    (after : LowView) → is_open eyes host thread.at ≡ false → is_open eyes host later.at ≡ false →
     is_deep eyes host thread.at ≡ true → is_deep eyes host later.at ≡ true →
     Comes eyes now host thread token after → Comes eyes now host later token after
 deep_comes_too eyes now host thread later token after hidden hidden_later deep deep_later comes =
@@ -102,8 +104,8 @@ deep_comes_too eyes now host thread later token after hidden hidden_later deep d
 -- ---- where a turn leads
 
 -- A thread runs on a host, at an instruction that may be seen.
-pub record Visible (eyes : Eyes) (old : HostShape) (thread : ThreadShape) (there : Instr) (token : Token)
-    (now : View) : Type 0 where
+pub record Visible (eyes : Eyes) (old : HostState) (thread : ThreadShape) (there : Instr) (token : Token)
+    (now : LowView) : Type 0 where
   pub are : AreEyes eyes
   pub obeys : eyes.bad old.me ≡ false
   pub keeps : HostKeeps eyes old.me old
@@ -118,7 +120,7 @@ pub record Visible (eyes : Eyes) (old : HostShape) (thread : ThreadShape) (there
   pub entries : old.entries ≡ filter (is_shown eyes) old.entries
 
 -- It comes to its next place, and nothing is sent.
-pub record Arrives (eyes : Eyes) (old : HostShape) (now : View) (outcome : Outcome) (after : View) : Type 0 where
+pub record Arrives (eyes : Eyes) (old : HostState) (now : LowView) (outcome : Outcome) (after : LowView) : Type 0 where
   pub shown : HostView
   pub later : ThreadShape
   pub token : Token
@@ -132,7 +134,7 @@ pub record Arrives (eyes : Eyes) (old : HostShape) (now : View) (outcome : Outco
   pub own : ShowsHost eyes old.me (with_running outcome.state None) shown
   pub comes : Comes eyes (with_host now old.me shown) old.me later token after
 
-pub idle_shows : (eyes : Eyes) (host : HostId) (old : HostShape) (shown : HostView) → ShowsHost eyes host old shown →
+pub idle_shows : (eyes : Eyes) (host : HostId) (old : HostState) (shown : HostView) → ShowsHost eyes host old shown →
     ShowsHost eyes host (with_running old None) (host_idle shown)
 idle_shows eyes host old shown shows = record {
   key = shows.key;
@@ -169,9 +171,9 @@ variable_alike eyes variables others frame x value other y seen same = by (is_sa
         mask_off (sees_variable eyes x) value (ap (sees_variable eyes) one ∙ seen)
     by false is = same seen
 
-pub let_turned : (eyes : Eyes) (old : HostShape) (thread : ThreadShape) (there : Instr) (token : Token) (now : View)
+pub let_turned : (eyes : Eyes) (old : HostState) (thread : ThreadShape) (there : Instr) (token : Token) (now : LowView)
     (frame : FrameId) (x : VarId) (value : List Node) → Visible eyes old thread there token now →
-    (after : View)
+    (after : LowView)
     × ComesBehind eyes now old.me (variable_shown (host_idle (now.hosts old.me)) frame x
     (masked (sees_variable eyes x) (value_in_thread old thread value))) (after_clearing thread) token after
     × Arrives eyes old now (after_let (with_running old None) thread frame x value) after
@@ -242,10 +244,10 @@ pub either_true : (P : Outcome → Type 0) (b : Bool) (one other : Outcome) → 
     P (if b then one else other)
 either_true P b one other is first = subst (λ (c : Bool). P (if c then one else other)) (sym is) first
 
-pub put_turned : (eyes : Eyes) (old : HostShape) (thread : ThreadShape) (there : Instr) (token : Token) (now : View)
+pub put_turned : (eyes : Eyes) (old : HostState) (thread : ThreadShape) (there : Instr) (token : Token) (now : LowView)
     (field : FieldId) (index value : List Node) → Visible eyes old thread there token now →
     (found : Option CodeFieldShape) → IsSomeAnd found (λ on. on.host ≡ old.me) →
-    (after : View)
+    (after : LowView)
     × ComesBehind eyes now old.me (element_shown (host_idle (now.hosts old.me)) field
     (masked (sees_field eyes field) (value_in_thread old thread index))
     (masked (sees_field eyes field) (value_in_thread old thread value))) (after_clearing thread) token after
@@ -300,17 +302,17 @@ no_temps (x ∷ temps) labels many none =
     let never = ap length none in
     absurd (omega (arith, many, never))
 
-plain_temps : (eyes : Eyes) (old : HostShape) (thread : ThreadShape) (there : Instr) (token : Token) (now : View) →
+plain_temps : (eyes : Eyes) (old : HostState) (thread : ThreadShape) (there : Instr) (token : Token) (now : LowView) →
     Visible eyes old thread there token now → IsPlain (eyes.shades.at old.me thread.at) → thread.temporaries ≡ []
 plain_temps eyes old thread there token now run plain =
     no_temps thread.temporaries (eyes.shades.at old.me thread.at).temps run.well.temps plain.0
 
 -- ---- a method is entered
 
-enter_turned : (eyes : Eyes) (old : HostShape) (thread : ThreadShape) (there : Instr) (token : Token) (now : View) →
+enter_turned : (eyes : Eyes) (old : HostState) (thread : ThreadShape) (there : Instr) (token : Token) (now : LowView) →
     Visible eyes old thread there token now → IsPlain (eyes.shades.at old.me thread.at) → (found : Option Entry) →
     IsSomeAnd found (λ into. into.host ≡ old.me) →
-    (after : View)
+    (after : LowView)
     × ComesInto eyes now old.me thread token found after
     × Arrives eyes old now (after_own_call (with_running old None) thread found) after
 enter_turned eyes old thread there token now run plain None own = absurd own
@@ -339,10 +341,10 @@ enter_turned eyes old thread there token now run plain (Some into) own =
       },
     )
 
-pub call_turned : (eyes : Eyes) (old : HostShape) (thread : ThreadShape) (there : Instr) (token : Token) (now : View)
+pub call_turned : (eyes : Eyes) (old : HostState) (thread : ThreadShape) (there : Instr) (token : Token) (now : LowView)
     (entry : EntryId) (on : HostId) → Visible eyes old thread there token now →
     IsPlain (eyes.shades.at old.me thread.at) → on ≡ old.me → IsEntryOn eyes.code on entry →
-    (after : View)
+    (after : LowView)
     × ComesInto eyes now old.me thread token (entry_at eyes.code entry) after
     × Arrives eyes old now (after_call eyes.code (with_running old None) thread entry on) after
 call_turned eyes old thread there token now entry on run plain own fits =
@@ -382,10 +384,11 @@ site_within sites (suc place) host is =
     let within = slice_get_within sites place host is in
     omega (arith, within)
 
-pub frame_turned : (eyes : Eyes) (old : HostShape) (thread : ThreadShape) (there : Instr) (token : Token) (now : View)
+pub frame_turned : (eyes : Eyes) (old : HostState) (thread : ThreadShape) (there : Instr) (token : Token)
+    (now : LowView)
     (site : SiteId) → Visible eyes old thread there token now →
     IsShadedOp eyes.scene eyes.shades old.me thread.at (op.Frame site) → site_at eyes.code site ≡ Some old.me →
-    (after : View)
+    (after : LowView)
     × ComesBehind eyes now old.me (frame_shown (host_idle (now.hosts old.me)) site)
     (framed (now.hosts old.me) thread site) token after
     × Arrives eyes old now (after_frame (with_running old None) thread site) after
@@ -440,13 +443,14 @@ frame_turned eyes old thread there token now site run law fits =
 
 -- an entry that is pushed where it may be seen is not hidden
 names_shown : (eyes : Eyes) (here : Shade) (entry : EntryId) → eyes.sees here.pc ≡ true →
-    Names eyes.shades.entries here entry.0 → is_hidden eyes entry.0 ≡ false
+    NamesInShade eyes.shades.entries here entry.0 → is_hidden eyes entry.0 ≡ false
 names_shown eyes here entry seen names =
     let found : is_hidden eyes entry.0 ≡ not (eyes.sees here.pc) = rw (names.is, names.pushed) refl in
     found ∙ ap not seen
 
 pushes_shown : (eyes : Eyes) (me : HostId) (here : Shade) (entry : EntryId) (next : Ahead) →
-    eyes.sees here.pc ≡ true → (calls : Bool) → Pushes eyes.scene eyes.shades.entries me calls here entry.0 next →
+    eyes.sees here.pc ≡ true → (calls : Bool) →
+    PushesInShade eyes.scene eyes.shades.entries me calls here entry.0 next →
     is_hidden eyes entry.0 ≡ false
 pushes_shown eyes me here entry next seen true pushes = names_shown eyes here entry seen pushes.names
 pushes_shown eyes me here entry next seen false pushes = by here.guard pushes
@@ -456,7 +460,7 @@ pushes_shown eyes me here entry next seen false pushes = by here.guard pushes
     by (Some loop) named = names_shown eyes here entry seen named.0
 
 -- what is seen of a host on which an entry was pushed that is not hidden
-pub push_shows : (eyes : Eyes) (old : HostShape) (shown : HostView) (entry : EntryId) (frame : FrameId) (kept : Token) →
+pub push_shows : (eyes : Eyes) (old : HostState) (shown : HostView) (entry : EntryId) (frame : FrameId) (kept : Token) →
     ShowsHost eyes old.me old shown → is_hidden eyes entry.0 ≡ false → entry.0 < length old.serials →
     (new_token old entry frame ≡ token_shown old.me shown entry frame)
     × ShowsHost eyes old.me (after_push old entry frame kept) (entry_shown old.me shown entry frame kept)
@@ -497,17 +501,17 @@ push_shows eyes old shown entry frame kept shows plain within =
     )
 
 -- none of its entries is hidden then, where none was
-pub push_kept : (eyes : Eyes) (old : HostShape) (entry : EntryId) (frame : FrameId) (kept : Token) →
+pub push_kept : (eyes : Eyes) (old : HostState) (entry : EntryId) (frame : FrameId) (kept : Token) →
     is_hidden eyes entry.0 ≡ false → old.entries ≡ filter (is_shown eyes) old.entries →
     (after_push old entry frame kept).entries ≡ filter (is_shown eyes) (after_push old entry frame kept).entries
 push_kept eyes old entry frame kept plain are =
     let top : StackEntry = record { token = new_token old entry frame; entry = entry; frame = frame; kept = kept } in
     ap (λ all. top ∷ all) are ∙ sym (kept_first (is_shown eyes) top old.entries (ap not plain))
 
-pub push_turned : (eyes : Eyes) (old : HostShape) (thread : ThreadShape) (there : Instr) (token : Token) (now : View)
+pub push_turned : (eyes : Eyes) (old : HostState) (thread : ThreadShape) (there : Instr) (token : Token) (now : LowView)
     (entry : EntryId) → Visible eyes old thread there token now →
     IsShadedOp eyes.scene eyes.shades old.me thread.at (op.Push entry) → entry.0 < length eyes.code.entries →
-    (after : View)
+    (after : LowView)
     × ComesBehind eyes now old.me (entry_shown old.me (host_idle (now.hosts old.me)) entry thread.frame token)
     (with_token (Some (token_shown old.me (now.hosts old.me) entry thread.frame)) (after_clearing thread))
     (token_shown old.me (now.hosts old.me) entry thread.frame) after
@@ -563,14 +567,14 @@ abbrev pub way : ThreadShape → ℕ → Bool → ThreadShape
 way thread target zero_is =
     if zero_is then record (after_clearing thread) { at = target } else after_clearing thread
 
-abbrev pub went : HostShape → ThreadShape → ℕ → Bool → Outcome
+abbrev pub went : HostState → ThreadShape → ℕ → Bool → Outcome
 went old thread target zero_is =
     if zero_is
     then with_thread (with_running old None) (record (after_clearing thread) { at = target })
     else with_thread (with_running old None) (after_clearing thread)
 
-pub went_arrives : (eyes : Eyes) (old : HostShape) (thread : ThreadShape) (there : Instr) (token : Token)
-    (now after : View) (target : ℕ) → Visible eyes old thread there token now → (zero_is : Bool) →
+pub went_arrives : (eyes : Eyes) (old : HostState) (thread : ThreadShape) (there : Instr) (token : Token)
+    (now after : LowView) (target : ℕ) → Visible eyes old thread there token now → (zero_is : Bool) →
     ComesBehind eyes now old.me (host_idle (now.hosts old.me)) (way thread target zero_is) token after →
     Arrives eyes old now (went old thread target zero_is) after
 went_arrives eyes old thread there token now after target run true comes = record {
@@ -603,7 +607,7 @@ went_arrives eyes old thread there token now after target run false comes = reco
 }
 
 -- both ways of a branch whose guard may not be seen are in blocks that may not be seen
-deep_target : (eyes : Eyes) (old : HostShape) (thread : ThreadShape) (there : Instr) (token : Token) (now : View)
+deep_target : (eyes : Eyes) (old : HostState) (thread : ThreadShape) (there : Instr) (token : Token) (now : LowView)
     (guard : List Node) (target : ℕ) → Visible eyes old thread there token now →
     IsShadedOp eyes.scene eyes.shades old.me thread.at (op.Branch guard target) →
     is_deep eyes old.me (thread.at + 1) ≡ true → is_deep eyes old.me target ≡ true
@@ -613,7 +617,7 @@ deep_target eyes old thread there token now guard target run law deep =
     next_block : (eyes.shades.at old.me (thread.at + 1)).block ≡ law.0.block
     next_block = (meets_next eyes old.me thread.at law.0 law.4).block
 
-    by : (loop : Option ℕ) → Divides eyes.scene (eyes.shades.at old.me thread.at) guard loop law.0 law.1 →
+    by : (loop : Option ℕ) → DividesInShade eyes.scene (eyes.shades.at old.me thread.at) guard loop law.0 law.1 →
         is_deep eyes old.me target ≡ true
     by None parts =
         deep_as eyes (eyes.shades.at old.me (thread.at + 1)).block old.me target
@@ -624,7 +628,7 @@ deep_target eyes old thread there token now guard target run law deep =
         ap (λ (l : Label). not (eyes.sees l)) (next_block ∙ ap (λ (it : Ahead). it.block) parts.1) in
         absurd (false≢true (sym (block_seen eyes old.me thread.at there run.are run.is run.seen) ∙ sym same ∙ deep))
 
-deep_went : (eyes : Eyes) (old : HostShape) (thread : ThreadShape) (there : Instr) (token : Token) (now after : View)
+deep_went : (eyes : Eyes) (old : HostState) (thread : ThreadShape) (there : Instr) (token : Token) (now after : LowView)
     (target : ℕ) → Visible eyes old thread there token now → is_deep eyes old.me (thread.at + 1) ≡ true →
     is_deep eyes old.me target ≡ true → target < length (part_of eyes.code old.me) → (zero_is : Bool) →
     StateFits eyes.code (went old thread target zero_is).state →
@@ -638,12 +642,13 @@ deep_went eyes old thread there token now after target run deep deep_away within
     (next_there eyes old.me (went old thread target false).state (way thread target false) refl refl fits) deep)
     deep_away deep comes
 
-pub branch_turned : (eyes : Eyes) (old : HostShape) (thread : ThreadShape) (there : Instr) (token : Token) (now : View)
+pub branch_turned : (eyes : Eyes) (old : HostState) (thread : ThreadShape) (there : Instr) (token : Token)
+    (now : LowView)
     (guard : List Node) (target : ℕ) → Visible eyes old thread there token now →
     IsShadedOp eyes.scene eyes.shades old.me thread.at (op.Branch guard target) →
     target < length (part_of eyes.code old.me) →
     StateFits eyes.code (after_branch (with_running old None) thread guard target).state →
-    (after : View)
+    (after : LowView)
     × ComesBehind eyes now old.me (host_idle (now.hosts old.me)) (way thread target
     (int_eq (masked (not (is_deep eyes old.me (thread.at + 1))) (value_in_thread old thread guard)) (pos 0))) token
     after
@@ -673,7 +678,7 @@ branch_turned eyes old thread there token now guard target run law within fits =
     idle : HostView
     idle = host_idle (now.hosts old.me)
 
-    seen_now : View
+    seen_now : LowView
     seen_now = with_host now old.me idle
 
     number : ℤ

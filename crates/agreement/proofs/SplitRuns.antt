@@ -9,13 +9,13 @@ use Rattle.host_code.specs.Code.{CodeShape}
 use Rattle.host_core.specs.Start.{host_at_start}
 use Rattle.event_text.specs.declared.event.Event.{Event}
 use Rattle.net_world.specs.Fits.{HasOwnToken}
-use Rattle.net_world.specs.Released.{AreAlike, AreReleased}
+use Rattle.net_world.specs.Released.{OneIsFront, AreReleased}
 use Rattle.net_world.specs.Secret.{IsSeenRun, IsPrompt}
 use Rattle.net_world.specs.Told.{SentMessage}
 use Rattle.net_world.specs.World.{WorldShape, is_absent, misbehaves, hosts_before, world_at_start}
 use Rattle.split_rules.specs.Placed.{PlacedProgram}
 use Rattle.split_rules.specs.Allowed.{IsAllowed}
-use Rattle.split_rules.specs.Held.{IsHeld}
+use Rattle.split_rules.specs.Held.{IsWellHeld}
 use Rattle.split_rules.specs.Releases.{releases_of}
 use Rattle.split_rules.specs.SplitCode.{split_code}
 use Rattle.split_rules.specs.Splittable.{IsSplittable}
@@ -63,7 +63,7 @@ stores_alike eyes world store start are watch alike field there is seen obeys =
 -- by their table of releases
 pub split_released : (placed : PlacedProgram) (bad : ℕ) (store start : List (List ℤ))
     (events others seen more : List Event) (one other : WorldShape) (values others_values : List ℤ) →
-    IsSplittable placed → IsAllowed placed → IsHeld placed →
+    IsSplittable placed → IsAllowed placed → IsWellHeld placed →
     AreResultsLabelled placed.labelled.program →
     AreStoresAlike (split_code placed)
     (world_at_start (split_code placed) placed.hosts.hosts bad store) store start →
@@ -71,7 +71,7 @@ pub split_released : (placed : PlacedProgram) (bad : ℕ) (store start : List (L
     (world_at_start (split_code placed) placed.hosts.hosts bad store) events values →
     AreReleased (split_code placed) (releases_of placed)
     (world_at_start (split_code placed) placed.hosts.hosts bad start) others others_values →
-    AreAlike values others_values →
+    OneIsFront values others_values →
     All (HasOwnToken (world_at_start (split_code placed) placed.hosts.hosts bad store)) seen →
     IsSeenRun (split_code placed)
     (world_at_start (split_code placed) placed.hosts.hosts bad store) events (seen ++ more) one →
@@ -105,7 +105,7 @@ split_released placed bad store start events others seen more one other values o
 
 -- a run of a program that releases nothing releases no value
 pub split_releases_none : (placed : PlacedProgram) (world after : WorldShape) (events seen : List Event) →
-    IsSplittable placed → IsAllowed placed → IsHeld placed →
+    IsSplittable placed → IsAllowed placed → IsWellHeld placed →
     AreResultsLabelled placed.labelled.program → ReleasesNothing placed.labelled.program →
     IsSeenRun (split_code placed) world events seen after →
     AreReleased (split_code placed) (releases_of placed) world events []
@@ -115,7 +115,7 @@ split_releases_none placed world after events seen splittable allowed held resul
 
 pub split_tells : (placed : PlacedProgram) (bad : ℕ) (store start : List (List ℤ))
     (events others seen more : List Event) (one other : WorldShape) →
-    IsSplittable placed → IsAllowed placed → IsHeld placed →
+    IsSplittable placed → IsAllowed placed → IsWellHeld placed →
     AreResultsLabelled placed.labelled.program → ReleasesNothing placed.labelled.program →
     AreStoresAlike (split_code placed)
     (world_at_start (split_code placed) placed.hosts.hosts bad store) store start →

@@ -14,7 +14,7 @@ use Rattle.host_code.specs.declared.code.Entry.{Entry}
 use Rattle.host_code.specs.Code.{CodeShape, CodeFieldShape, halt, field_at, entry_at}
 use Rattle.host_code.specs.Sound.{IsSoundCode}
 use Rattle.host_code.specs.Thread.{ThreadShape}
-use Rattle.host_core.specs.Host.{HostShape, with_running, after_push, after_entering, new_token, thread_at}
+use Rattle.host_core.specs.Host.{HostState, with_running, after_push, after_entering, new_token, thread_at}
 use Rattle.host_stores.specs.Stores.{own_rows}
 use Rattle.host_core.specs.Start.{main_frame, last_token, idle_host, root_host, host_at_start}
 use Rattle.net_world.specs.World.{WorldShape, given, state_at, hosts_before, world_at_start}
@@ -24,9 +24,10 @@ use Rattle.seen_world.specs.Eyes.{Eyes, AreEyes, Watches, sees_at, is_open, is_d
 use Rattle.seen_world.proofs.PointsAtStart.{present_obeys}
 use Rattle.seen_world.proofs.SeenPlaces.{some_is}
 use Rattle.agreement.specs.Alike.{AreStartsAlike}
-use Rattle.agreement.specs.Leads.{Holder, nobody, runs, runs_on, waits_on, hidden_running, Hides}
+use Rattle.agreement.specs.Leads.{UnseenHolder, nobody, runs, runs_on, waits_on, hidden_running, Hides}
 use Rattle.agreement.specs.Leads.{IsOwedWell, Leads, Agree}
-use Rattle.agreement.specs.Views.{View, HostView, ShowsHost, Shows, nowhere, at, Owed, nothing, goes_on, gives, owed_at}
+use Rattle.agreement.specs.Views.{LowView, HostView, ShowsHost, Shows, nowhere, at, OwedInView, nothing, goes_on, gives}
+use Rattle.agreement.specs.Views.{owed_at}
 use Rattle.agreement.specs.Views.{Completed, GivenBack, exit_of, running_view, waiting_view, flights_view, is_shown}
 use Rattle.agreement.specs.Views.{sees_field, with_host, with_thread, host_popped}
 use Rattle.agreement.proofs.Ends.{unseen_runs}
@@ -37,7 +38,7 @@ use Rattle.agreement.proofs.Transfers.{there_with}
 -- ---- views
 
 -- what is seen of a host, and nothing of one that misbehaves
-abbrev host_view_of : Eyes → HostId → Option HostShape → HostView
+abbrev host_view_of : Eyes → HostId → Option HostState → HostView
 host_view_of eyes host None = record {
   key = [];
   rows = λ field. [];
@@ -61,14 +62,14 @@ host_view_of eyes host (Some state) = record {
   requests = slice_index state.requests;
 }
 
-abbrev view_of : Eyes → WorldShape → View
+abbrev view_of : Eyes → WorldShape → LowView
 view_of eyes world = record {
   hosts = λ host. host_view_of eyes host (state_at world host);
   flying = λ from to. flights_view eyes from to (world.flying from to);
   sent = world.sent;
 }
 
-host_shows : (eyes : Eyes) (host : HostId) (state : HostShape) → ShowsHost eyes host state (host_view_of eyes host
+host_shows : (eyes : Eyes) (host : HostId) (state : HostState) → ShowsHost eyes host state (host_view_of eyes host
     (Some state))
 host_shows eyes host state = record {
   key = refl;
@@ -91,13 +92,13 @@ shows_of eyes world = record {
   sent = refl;
 }
 
-pub some_view : (eyes : Eyes) (world : WorldShape) → (view : View) × Shows eyes world view
+pub some_view : (eyes : Eyes) (world : WorldShape) → (view : LowView) × Shows eyes world view
 some_view eyes world = (view_of eyes world, shows_of eyes world)
 
 -- ---- hosts before the first event
 
 -- a host has a state in both, or in none
-abbrev Paired : CodeShape → List (List ℤ) → List (List ℤ) → HostId → Option HostShape → Option HostShape → Type 0
+abbrev Paired : CodeShape → List (List ℤ) → List (List ℤ) → HostId → Option HostState → Option HostState → Type 0
 Paired code one other me first second =
     ((first ≡ None) × (second ≡ None))
     ⊎ ((key : List ℕ) × (first ≡ Some (host_at_start code one key me))
@@ -125,7 +126,7 @@ paired_at code one other bad number (row ∷ rows) (suc i) me is =
     paired_at code one other bad (number + 1) rows i me (omega arith)
 
 started : (code : CodeShape) (store : List (List ℤ)) (bad : ℕ) (rows : List declared_hosts.HostShape) (me : HostId)
-    (state : HostShape) → state_at (world_at_start code rows bad store) me ≡ Some state →
+    (state : HostState) → state_at (world_at_start code rows bad store) me ≡ Some state →
     (key : List ℕ) × (host_at_start code store key me ≡ state)
 started code store bad rows me state there = elim (paired_at code store store bad 0 rows me.0 me (omega arith)) [
   | inl none ↦
@@ -147,13 +148,13 @@ abbrev main_thread : CodeShape → List (List ℤ) → List ℕ → HostId → E
 main_thread code store key root entry =
     thread_at entry main_frame (new_token (idle_host code store key root) halt main_frame)
 
-abbrev root_state : CodeShape → List (List ℤ) → List ℕ → HostId → Entry → HostShape
+abbrev root_state : CodeShape → List (List ℤ) → List ℕ → HostId → Entry → HostState
 root_state code store key root entry =
     with_running (after_push (idle_host code store key root) halt main_frame (last_token root))
     (Some (main_thread code store key root entry))
 
 root_is : (code : CodeShape) (store : List (List ℤ)) (key : List ℕ) (root : HostId) (entry : Entry) (state :
-    HostShape) →
+    HostState) →
     root.0 ≡ code.root.0 → entry_at code code.main ≡ Some entry → host_at_start code store key root ≡ state →
     root_state code store key root entry ≡ state
 root_is code store key root entry state number there is =
@@ -163,7 +164,7 @@ root_is code store key root entry state number there is =
     ∙ ap (λ found. after_entering (after_push idle halt main_frame (last_token root)) found main_frame
     (new_token idle halt main_frame)) there) ∙ is
 
-idle_is : (code : CodeShape) (store : List (List ℤ)) (key : List ℕ) (host : HostId) (state : HostShape) →
+idle_is : (code : CodeShape) (store : List (List ℤ)) (key : List ℕ) (host : HostId) (state : HostState) →
     host.0 ≢ code.root.0 → host_at_start code store key host ≡ state → idle_host code store key host ≡ state
 idle_is code store key host state apart is =
     let idle = idle_host code store key host in
@@ -178,8 +179,8 @@ abbrev start_of : Eyes → List declared_hosts.HostShape → ℕ → List (List 
 start_of eyes rows bad store = world_at_start eyes.code rows bad store
 
 -- nothing goes on unseen on a host on which nothing was started
-idle_hides : (eyes : Eyes) (holder : Holder) (host : HostId) (rows : List declared_hosts.HostShape) (bad : ℕ)
-    (store : List (List ℤ)) (state : HostShape) → state_at (start_of eyes rows bad store) host ≡ Some state →
+idle_hides : (eyes : Eyes) (holder : UnseenHolder) (host : HostId) (rows : List declared_hosts.HostShape) (bad : ℕ)
+    (store : List (List ℤ)) (state : HostState) → state_at (start_of eyes rows bad store) host ≡ Some state →
     host.0 ≢ eyes.code.root.0 → runs_on holder host ≡ None → waits_on holder host ≡ [] →
     Hides eyes holder [] host state
 idle_hides eyes holder host rows bad store state there apart none calm =
@@ -187,7 +188,8 @@ idle_hides eyes holder host rows bad store state there apart none calm =
     subst (Hides eyes holder [] host) (idle_is eyes.code store began.0 host state apart began.1)
     (record { running = sym none; waiting = sym calm; entries = refl })
 
-root_hides : (eyes : Eyes) (holder : Holder) (root : HostId) (store : List (List ℤ)) (key : List ℕ) (entry : Entry) →
+root_hides : (eyes : Eyes) (holder : UnseenHolder) (root : HostId) (store : List (List ℤ)) (key : List ℕ)
+    (entry : Entry) →
     AreEyes eyes → hidden_running eyes root (Some (main_thread eyes.code store key root entry)) ≡ runs_on holder root →
     waits_on holder root ≡ [] → Hides eyes holder [] root (root_state eyes.code store key root entry)
 root_hides eyes holder root store key entry are hidden calm = record {
@@ -204,12 +206,12 @@ record Root (eyes : Eyes) (rows : List declared_hosts.HostShape) (bad : ℕ) (st
   obeys : eyes.bad eyes.code.root ≡ false
 
 -- each host, where what goes on unseen is at the root or nowhere
-start_hides : (eyes : Eyes) (holder : Holder) (rows : List declared_hosts.HostShape) (bad : ℕ)
+start_hides : (eyes : Eyes) (holder : UnseenHolder) (rows : List declared_hosts.HostShape) (bad : ℕ)
     (store : List (List ℤ)) (key : List ℕ) (entry : Entry) → AreEyes eyes → Root eyes rows bad store key entry →
     hidden_running eyes eyes.code.root (Some (main_thread eyes.code store key eyes.code.root entry))
     ≡ runs_on holder eyes.code.root →
     ((host : HostId) → host.0 ≢ eyes.code.root.0 → runs_on holder host ≡ None) →
-    ((host : HostId) → waits_on holder host ≡ []) → (host : HostId) (state : HostShape) →
+    ((host : HostId) → waits_on holder host ≡ []) → (host : HostId) (state : HostState) →
     state_at (start_of eyes rows bad store) host ≡ Some state → Hides eyes holder [] host state
 start_hides eyes holder rows bad store key entry are root hidden none calm host state there =
     elim (eqb_tells host.0 eyes.code.root.0) [
@@ -226,7 +228,7 @@ start_hides eyes holder rows bad store key entry are root hidden none calm host 
     ]
 
 -- what is seen once the thread at `main` has come to its place, where this is seen without it
-abbrev main_shown : Eyes → StackEntry → Entry → View → Bool → Bool → View
+abbrev main_shown : Eyes → StackEntry → Entry → LowView → Bool → Bool → LowView
 main_shown eyes top entry now true deep = now
 main_shown eyes top entry now false true =
     with_host now eyes.code.root (host_popped eyes eyes.code.root top [] (now.hosts eyes.code.root))
@@ -235,7 +237,7 @@ main_shown eyes top entry now false false =
 
 -- the thread at `main` may be seen
 open_leads : (eyes : Eyes) (rows : List declared_hosts.HostShape) (bad : ℕ) (store : List (List ℤ)) (key : List ℕ)
-    (entry : Entry) (now : View) → AreEyes eyes → Root eyes rows bad store key entry →
+    (entry : Entry) (now : LowView) → AreEyes eyes → Root eyes rows bad store key entry →
     Shows eyes (start_of eyes rows bad store) now → is_open eyes eyes.code.root entry.at ≡ true →
     Leads eyes (start_of eyes rows bad store) now
 open_leads eyes rows bad store key entry now are root shows seen =
@@ -261,7 +263,7 @@ open_leads eyes rows bad store key entry now are root shows seen =
 
 -- it may not be seen
 hidden_leads : (eyes : Eyes) (rows : List declared_hosts.HostShape) (bad : ℕ) (store : List (List ℤ)) (key : List ℕ)
-    (entry : Entry) (owed : Owed) (now shown : View) → AreEyes eyes → Root eyes rows bad store key entry →
+    (entry : Entry) (owed : OwedInView) (now shown : LowView) → AreEyes eyes → Root eyes rows bad store key entry →
     Shows eyes (start_of eyes rows bad store) now → is_open eyes eyes.code.root entry.at ≡ false →
     owed_at eyes (at eyes.code.root entry.at main_frame (top_of eyes.code store key eyes.code.root).token) ≡ owed →
     IsOwedWell eyes owed → Completed eyes owed now shown → Leads eyes (start_of eyes rows bad store) shown
@@ -289,7 +291,7 @@ hidden_leads eyes rows bad store key entry owed now shown are root shows hidden 
 
 -- the token of the entry that ends the program is given back
 ends_shown : (eyes : Eyes) (rows : List declared_hosts.HostShape) (bad : ℕ) (store : List (List ℤ)) (key : List ℕ)
-    (entry : Entry) (now : View) → AreEyes eyes → Root eyes rows bad store key entry →
+    (entry : Entry) (now : LowView) → AreEyes eyes → Root eyes rows bad store key entry →
     Shows eyes (start_of eyes rows bad store) now →
     let top = top_of eyes.code store key eyes.code.root in
     Completed eyes (gives top.token) now (main_shown eyes top entry now false true)
@@ -303,7 +305,7 @@ ends_shown eyes rows bad store key entry now are root shows =
     (inl (refl, refl))
 
 root_leads : (eyes : Eyes) (rows : List declared_hosts.HostShape) (bad : ℕ) (store : List (List ℤ)) (key : List ℕ)
-    (entry : Entry) (now : View) (seen deep : Bool) → AreEyes eyes → Root eyes rows bad store key entry →
+    (entry : Entry) (now : LowView) (seen deep : Bool) → AreEyes eyes → Root eyes rows bad store key entry →
     Shows eyes (start_of eyes rows bad store) now → is_open eyes eyes.code.root entry.at ≡ seen →
     is_deep eyes eyes.code.root entry.at ≡ deep →
     Leads eyes (start_of eyes rows bad store)
@@ -326,7 +328,8 @@ root_leads eyes rows bad store key entry now false false are root shows hidden i
     (λ is. false≢true (sym (halt_shown eyes are) ∙ is.1)) refl
 
 -- the root misbehaves
-rootless_leads : (eyes : Eyes) (rows : List declared_hosts.HostShape) (bad : ℕ) (store : List (List ℤ)) (now : View) →
+rootless_leads : (eyes : Eyes) (rows : List declared_hosts.HostShape) (bad : ℕ) (store : List (List ℤ))
+    (now : LowView) →
     Shows eyes (start_of eyes rows bad store) now → state_at (start_of eyes rows bad store) eyes.code.root ≡ None →
     Leads eyes (start_of eyes rows bad store) now
 rootless_leads eyes rows bad store now shows none = record {
@@ -348,7 +351,7 @@ rootless_leads eyes rows bad store now shows none = record {
   completed = refl;
 }
   where
-    nowhere_there : (host : HostId) (state : HostShape) →
+    nowhere_there : (host : HostId) (state : HostState) →
         state_at (start_of eyes rows bad store) host ≡ Some state → host.0 ≢ eyes.code.root.0
     nowhere_there host state there same =
         let one : host ≡ eyes.code.root = same_id host eyes.code.root same in
@@ -376,13 +379,13 @@ made_root eyes rows bad store key entry watch main there =
     }
 
 -- what is seen of a world at the start, by what is seen without the thread at `main`
-abbrev started_view : Eyes → List (List ℤ) → List ℕ → Entry → View → View
+abbrev started_view : Eyes → List (List ℤ) → List ℕ → Entry → LowView → LowView
 started_view eyes store key entry now =
     main_shown eyes (top_of eyes.code store key eyes.code.root) entry now (is_open eyes eyes.code.root entry.at)
     (is_deep eyes eyes.code.root entry.at)
 
 started_leads : (eyes : Eyes) (rows : List declared_hosts.HostShape) (bad : ℕ) (store : List (List ℤ)) (key : List ℕ)
-    (entry : Entry) (now : View) → AreEyes eyes → Watches eyes (start_of eyes rows bad store) →
+    (entry : Entry) (now : LowView) → AreEyes eyes → Watches eyes (start_of eyes rows bad store) →
     entry_at eyes.code eyes.code.main ≡ Some entry → Shows eyes (start_of eyes rows bad store) now →
     state_at (start_of eyes rows bad store) eyes.code.root
     ≡ Some (host_at_start eyes.code store key eyes.code.root) →
@@ -394,7 +397,7 @@ started_leads eyes rows bad store key entry now are watch main shows there =
 
 pub start_leads : (eyes : Eyes) (rows : List declared_hosts.HostShape) (bad : ℕ) (store : List (List ℤ)) →
     AreEyes eyes → IsSoundCode eyes.code → Watches eyes (world_at_start eyes.code rows bad store) →
-    (shown : View) × Leads eyes (world_at_start eyes.code rows bad store) shown
+    (shown : LowView) × Leads eyes (world_at_start eyes.code rows bad store) shown
 start_leads eyes rows bad store are sound watch =
     let world = start_of eyes rows bad store in
     let root = eyes.code.root in
@@ -505,7 +508,7 @@ shows_other eyes rows bad one other watch alike = record {
         let is : host_at_start eyes.code other some.0 host ≡ state = some_is (sym some.2 ∙ there) in
         let obeys : eyes.bad host ≡ false = sym (watch host)
         ∙ present_obeys (slice_get (hosts_before eyes.code other bad 0 rows) host.0) state there in
-        subst (λ (s : HostShape). ShowsHost eyes host s
+        subst (λ (s : HostState). ShowsHost eyes host s
         (host_view_of eyes host (state_at (start_of eyes rows bad one) host))) is
         (subst (λ found. ShowsHost eyes host (host_at_start eyes.code other some.0 host)
         (host_view_of eyes host found)) (sym some.1)

@@ -4,27 +4,30 @@ use Rattle.std.proofs.Common.{ap, sym, subst}
 use Rattle.std.specs.Prelude.{◌==◌, ◌&&◌, if◌then◌else◌, not, filter, remove, slice_get, IsSome, ⊤}
 use Rattle.js_base.specs.declared.ids.HostId.{HostId}
 use Rattle.host_code.specs.Thread.{ThreadShape, WaitingShape}
-use Rattle.host_core.specs.Host.{HostShape}
+use Rattle.host_core.specs.Host.{HostState}
 use Rattle.net_world.specs.Flying.{Flight, Flying, with_flights}
 use Rattle.net_world.specs.World.{WorldShape, state_at}
 use Rattle.net_world.proofs.Moved.{Moved, mover_state, either}
 use Rattle.net_world.proofs.Present.{same_id}
 use Rattle.token_laws.proofs.Tests.{parts_same, number_same, different}
 use Rattle.seen_world.specs.Eyes.{Eyes}
-use Rattle.agreement.specs.Leads.{Holder, nobody, runs, waits, flies, runs_on, waits_on, flies_on, Link, links_on}
-use Rattle.agreement.specs.Leads.{IsPresent, hidden_flights, Hides, HeldAt, Owes, IsOwedWell, Keeps, Leads}
-use Rattle.agreement.specs.Views.{View, ShowsHost, Shows, Spot, Owed, Completed, flies_open, flights_view, is_shown}
+use Rattle.agreement.specs.Leads.{UnseenHolder, nobody, runs, waits, flies, runs_on, waits_on, flies_on, HiddenEntry}
+use Rattle.agreement.specs.Leads.{links_on}
+use Rattle.agreement.specs.Leads.{IsPresent, hidden_flights, Hides, HeldAt, Owes, IsOwedWell, KeepsUnseen, Leads}
+use Rattle.agreement.specs.Views.{LowView, ShowsHost, Shows, Spot, OwedInView, Completed, flies_open, flights_view}
+use Rattle.agreement.specs.Views.{is_shown}
 use Rattle.agreement.proofs.Lists.{kept_last, only_taken}
 use Rattle.agreement.proofs.ViewLaws.{flight_added, flight_taken}
 
 -- ---- hosts
 
 -- a thread that runs is on this host
-abbrev pub IsOwn : HostId → Holder → Type 0
+abbrev pub IsOwn : HostId → UnseenHolder → Type 0
 IsOwn me (runs host thread) = host ≡ me
 IsOwn me other = ⊤
 
-present_then : (world : WorldShape) (me : HostId) (new : HostShape) (later : Holder) → state_at world me ≡ Some new →
+present_then : (world : WorldShape) (me : HostId) (new : HostState) (later : UnseenHolder) → state_at world me
+    ≡ Some new →
     IsOwn me later → IsPresent world later
 present_then world me new nobody there own = tt
 present_then world me new (runs host thread) there own =
@@ -34,20 +37,21 @@ present_then world me new (waits host waiting from to flight) there own = tt
 present_then world me new (flies from to flight) there own = tt
 
 -- What a host leaves: what goes on unseen then, and what is seen and owed.
-pub record Leaves (eyes : Eyes) (me : HostId) (holder : Holder) (links : List Link) (now shown : View) (new : HostShape)
-    (later : Holder) : Type 0 where
+pub record Leaves (eyes : Eyes) (me : HostId) (holder : UnseenHolder) (links : List HiddenEntry) (now shown : LowView)
+    (new : HostState)
+    (later : UnseenHolder) : Type 0 where
   pub own : IsOwn me later
-  pub chain : List Link
+  pub chain : List HiddenEntry
   pub hides : Hides eyes later chain me new
   pub runs_apart : (other : HostId) → other.0 ≢ me.0 → runs_on later other ≡ runs_on holder other
   pub waits_apart : (other : HostId) → other.0 ≢ me.0 → waits_on later other ≡ waits_on holder other
   pub links_apart : (other : HostId) → other.0 ≢ me.0 → links_on other chain ≡ links_on other links
   pub spot : Spot
   pub held : HeldAt eyes later spot
-  pub owed : Owed
+  pub owed : OwedInView
   pub owes : Owes eyes spot chain owed
   pub well : IsOwedWell eyes owed
-  pub view : View
+  pub view : LowView
   pub shows : ShowsHost eyes me new (view.hosts me)
   pub others : (other : HostId) → other.0 ≢ me.0 → view.hosts other ≡ now.hosts other
   pub flying : view.flying ≡ now.flying
@@ -55,11 +59,11 @@ pub record Leaves (eyes : Eyes) (me : HostId) (holder : Holder) (links : List Li
   pub completed : Completed eyes owed view shown
 
 -- what holds of the host of a step holds of it then, and what held of the others still does
-each_host : (P Q : HostId → HostShape → Type 0) (world after : WorldShape) (me : HostId) (old new : HostShape) →
+each_host : (P Q : HostId → HostState → Type 0) (world after : WorldShape) (me : HostId) (old new : HostState) →
     state_at world me ≡ Some old → Moved world me new after.flying after →
-    ((host : HostId) (state : HostShape) → state_at world host ≡ Some state → P host state) → Q me new →
-    ((host : HostId) (state : HostShape) → host.0 ≢ me.0 → P host state → Q host state) →
-    (host : HostId) (state : HostShape) → state_at after host ≡ Some state → Q host state
+    ((host : HostId) (state : HostState) → state_at world host ≡ Some state → P host state) → Q me new →
+    ((host : HostId) (state : HostState) → host.0 ≢ me.0 → P host state → Q host state) →
+    (host : HostId) (state : HostState) → state_at after host ≡ Some state → Q host state
 each_host P Q world after me old new obeys moved before own others host state there =
     elim (either world after me old new after.flying obeys moved host state there) [
       | inl mover ↦
@@ -67,8 +71,8 @@ each_host P Q world after me old new obeys moved before own others host state th
       | inr apart ↦ others host state apart.apart (before host state apart.obeys)
     ]
 
-pub moved_leads : (eyes : Eyes) (world after : WorldShape) (me : HostId) (old new : HostShape) (owed : Owed)
-    (keeps : Keeps eyes world owed) (now shown : View) (later : Holder) → Shows eyes world now →
+pub moved_leads : (eyes : Eyes) (world after : WorldShape) (me : HostId) (old new : HostState) (owed : OwedInView)
+    (keeps : KeepsUnseen eyes world owed) (now shown : LowView) (later : UnseenHolder) → Shows eyes world now →
     state_at world me ≡ Some old → Moved world me new after.flying after → after.sent ≡ world.sent →
     ((i j : HostId) → hidden_flights eyes (after.flying i j) ≡ flies_on later i j) →
     ((i j : HostId) → flights_view eyes i j (after.flying i j) ≡ flights_view eyes i j (world.flying i j)) →
@@ -193,7 +197,7 @@ waits_apart host other from to waiting flight apart =
     ap (λ (b : Bool). if b then waiting ∷ [] else []) (different other.0 host.0 apart)
 
 -- a thread that runs on a host unseen
-pub holder_runs : (holder : Holder) (me : HostId) (thread : ThreadShape) → runs_on holder me ≡ Some thread →
+pub holder_runs : (holder : UnseenHolder) (me : HostId) (thread : ThreadShape) → runs_on holder me ≡ Some thread →
     holder ≡ runs me thread
 holder_runs nobody me thread is = absurd (cc)
 holder_runs (runs host other) me thread is = by (me.0 == host.0) refl is

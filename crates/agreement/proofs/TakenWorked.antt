@@ -10,7 +10,7 @@ use Rattle.token_laws.specs.TokenExamples.{host_id, entry_id, first_request, fir
 use Rattle.seen_world.proofs.SeenPlaces.{some_is}
 use Rattle.agreement.specs.Taken.{SeenPassing, SeenMessage, SeenTake, view_without}
 use Rattle.agreement.specs.TakenExamples.{an_ack, a_waiting, waits_seen, woken_on, set_for}
-use Rattle.agreement.specs.Views.{View}
+use Rattle.agreement.specs.Views.{LowView}
 use Rattle.agreement.specs.Worked.{small_eyes, one_entry, popped_at, a_variable, idle, runs_at, set_at}
 use Rattle.agreement.proofs.TakesAgree.{take_once}
 use Rattle.agreement.proofs.WorkedViews.{more_runs, tokens_apart}
@@ -61,7 +61,7 @@ sets = refl
 pub sets_more : ¬ (SeenPassing small_eyes idle (host_id 1) (host_id 0) 0
     (message.Forward first_request main_frame a_variable (pos 7)) (pos 0) (set_for (pos 8)))
 sets_more same =
-    let never : pos 8 ≡ pos 7 = ap (λ (v : View). (v.hosts (host_id 0)).variables main_frame a_variable) same in
+    let never : pos 8 ≡ pos 7 = ap (λ (v : LowView). (v.hosts (host_id 0)).variables main_frame a_variable) same in
     absurd (cc)
 
 -- the message that hands control over at a place that may be seen, with these values
@@ -69,7 +69,7 @@ abbrev riding : List Rider → Message
 riding riders = message.RgotoWith main_frame (entry_id 2) second_token riders
 
 -- the value that a variable has then
-abbrev value_shown : View → ℤ
+abbrev value_shown : LowView → ℤ
 value_shown view = (view.hosts (host_id 0)).variables main_frame a_variable
 
 pub rides : SeenPassing small_eyes idle (host_id 1) (host_id 0) 0 (riding ((a_variable, pos 7) ∷ [])) (pos 0)

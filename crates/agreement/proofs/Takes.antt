@@ -20,24 +20,26 @@ use Rattle.host_code.specs.Riders.{Rider}
 use Rattle.host_code.specs.Code.{CodeFieldShape, CodeVariableShape, halt, part_of, field_at, variable_at, entry_at}
 use Rattle.host_code.specs.Sound.{IsSoundCode, EntryFits}
 use Rattle.host_code.specs.Thread.{WaitingShape}
-use Rattle.host_core.specs.Host.{HostShape, with_running, with_row_written, with_variable_set, after_push}
+use Rattle.host_core.specs.Host.{HostState, with_running, with_row_written, with_variable_set, after_push}
 use Rattle.host_core.specs.Host.{with_variables_set, new_token, thread_at, with_one_ignored, after_pop}
-use Rattle.host_core.specs.Taking.{Passes, after_passing, after_taking}
+use Rattle.host_core.specs.Taking.{PassesCheck, after_passing, after_taking}
 use Rattle.net_world.specs.Flying.{Flight}
 use Rattle.split_shades.specs.ShadedCode.{IsShadedOp}
-use Rattle.split_shades.specs.Shades.{Meets, ahead_of}
+use Rattle.split_shades.specs.Shades.{MeetsShade, ahead_of}
 use Rattle.token_laws.specs.Requests.{number_answered}
 use Rattle.token_laws.proofs.HeldLaws.{all_at}
 use Rattle.token_laws.proofs.Tests.{different}
 use Rattle.seen_world.specs.Eyes.{Eyes, AreEyes, sees_at, is_open, is_deep, is_hidden}
-use Rattle.seen_world.specs.Points.{HostKeeps, IsAt, HasLabelAt, SetsHidden}
+use Rattle.seen_world.specs.Points.{HostKeeps, IsInstructionAt, HasLabelAt, SetsHidden}
 use Rattle.seen_world.specs.Points.{IsDeepEntry}
 use Rattle.seen_world.proofs.LabelsSent.{label_same}
 use Rattle.seen_world.proofs.TurnsKept.{hidden_is}
 use Rattle.agreement.specs.Changes.{StaysSeen}
-use Rattle.agreement.specs.Leads.{Holder, runs, waits, flies, Link, links_on, hidden_running, hidden_waiting}
+use Rattle.agreement.specs.Leads.{UnseenHolder, runs, waits, flies, HiddenEntry, links_on, hidden_running}
+use Rattle.agreement.specs.Leads.{hidden_waiting}
 use Rattle.agreement.specs.Leads.{Hides, token_with, Owes, IsOwedWell}
-use Rattle.agreement.specs.Views.{View, ShowsHost, Spot, at, given_back, Owed, Completed, running_view, sees_field}
+use Rattle.agreement.specs.Views.{LowView, ShowsHost, Spot, at, given_back, OwedInView, Completed, running_view}
+use Rattle.agreement.specs.Views.{sees_field}
 use Rattle.agreement.specs.Views.{sees_variable, is_shown}
 use Rattle.agreement.proofs.Ends.{Ends, nothing_seen, unseen_runs}
 use Rattle.agreement.proofs.GivesBack.{given_ends}
@@ -48,8 +50,9 @@ use Rattle.agreement.proofs.Transfers.{there_with}
 use Rattle.agreement.proofs.ViewLaws.{still_shows, entry_hidden}
 
 -- A host on which nothing runs takes a message of an obeying host, which goes on unseen.
-pub record Taken (eyes : Eyes) (state : HostShape) (holder : Holder) (links : List Link) (spot : Spot) (owed : Owed)
-    (now shown : View) (from : HostId) (flight : Flight) : Type 0 where
+pub record Taken (eyes : Eyes) (state : HostState) (holder : UnseenHolder) (links : List HiddenEntry) (spot : Spot)
+    (owed : OwedInView)
+    (now shown : LowView) (from : HostId) (flight : Flight) : Type 0 where
   pub are : AreEyes eyes
   pub sound : IsSoundCode eyes.code
   pub obeys : eyes.bad state.me ≡ false
@@ -94,8 +97,9 @@ pub record Mail (waiting : WaitingShape) (host from me : HostId) (request : Requ
   pub asker : from ≡ host
   pub asked : me ≡ waiting.asked
 
-answers_unseen : (eyes : Eyes) (state new : HostShape) (host from : HostId) (waiting : WaitingShape) (flight : Flight)
-    (links : List Link) (token : Token) (owed : Owed) (now shown : View) (request : RequestId) (reply : Message) →
+answers_unseen : (eyes : Eyes) (state new : HostState) (host from : HostId) (waiting : WaitingShape) (flight : Flight)
+    (links : List HiddenEntry) (token : Token) (owed : OwedInView) (now shown : LowView) (request : RequestId)
+    (reply : Message) →
     Taken eyes state (waits host waiting from state.me flight) links
     (at host waiting.request.at waiting.thread.frame token) owed now shown from flight →
     Mail waiting host from state.me request → token_with reply waiting.thread.held ≡ Some token →
@@ -138,8 +142,9 @@ answers_unseen eyes state new host from waiting flight links token owed now show
       };
     }
 
-pub get_ends : (eyes : Eyes) (state : HostShape) (host from : HostId) (waiting : WaitingShape) (flight : Flight)
-    (links : List Link) (token : Token) (owed : Owed) (now shown : View) (request : RequestId) (field : FieldId)
+pub get_ends : (eyes : Eyes) (state : HostState) (host from : HostId) (waiting : WaitingShape) (flight : Flight)
+    (links : List HiddenEntry) (token : Token) (owed : OwedInView) (now shown : LowView) (request : RequestId)
+    (field : FieldId)
     (index : ℤ) →
     Taken eyes state (waits host waiting from state.me flight) links
     (at host waiting.request.at waiting.thread.frame token) owed now shown from flight →
@@ -159,8 +164,9 @@ get_ends eyes state host from waiting flight links token owed now shown request 
       requests = λ place seen. refl;
     })
 
-pub set_ends : (eyes : Eyes) (state : HostShape) (host from : HostId) (waiting : WaitingShape) (flight : Flight)
-    (links : List Link) (token : Token) (owed : Owed) (now shown : View) (request : RequestId) (field : FieldId)
+pub set_ends : (eyes : Eyes) (state : HostState) (host from : HostId) (waiting : WaitingShape) (flight : Flight)
+    (links : List HiddenEntry) (token : Token) (owed : OwedInView) (now shown : LowView) (request : RequestId)
+    (field : FieldId)
     (index value : ℤ) →
     Taken eyes state (waits host waiting from state.me flight) links
     (at host waiting.request.at waiting.thread.frame token) owed now shown from flight →
@@ -180,8 +186,9 @@ set_ends eyes state host from waiting flight links token owed now shown request 
       requests = λ place seen. refl;
     })
 
-pub forward_ends : (eyes : Eyes) (state : HostShape) (host from : HostId) (waiting : WaitingShape) (flight : Flight)
-    (links : List Link) (token : Token) (owed : Owed) (now shown : View) (request : RequestId) (frame : FrameId)
+pub forward_ends : (eyes : Eyes) (state : HostState) (host from : HostId) (waiting : WaitingShape) (flight : Flight)
+    (links : List HiddenEntry) (token : Token) (owed : OwedInView) (now shown : LowView) (request : RequestId)
+    (frame : FrameId)
     (x : VarId) (value : ℤ) →
     Taken eyes state (waits host waiting from state.me flight) links
     (at host waiting.request.at waiting.thread.frame token) owed now shown from flight →
@@ -222,8 +229,8 @@ pub deep_entry : (eyes : Eyes) (host : HostId) (entry : EntryId) → AreEyes eye
 deep_entry eyes host entry are sound apart on hidden =
     let found = there_with (λ (it : Entry). it.host ≡ host) (entry_at eyes.code entry) on in
     let there = found.0 in
-    let meets : Meets (ahead_of hidden.0) (eyes.shades.at host there.at) =
-    subst (λ (h : HostId). Meets (ahead_of hidden.0) (eyes.shades.at h there.at)) found.2
+    let meets : MeetsShade (ahead_of hidden.0) (eyes.shades.at host there.at) =
+    subst (λ (h : HostId). MeetsShade (ahead_of hidden.0) (eyes.shades.at h there.at)) found.2
     (stands_at eyes are entry.0 there hidden.0 (number_of entry apart) found.1 hidden.1) in
     let within : there.at < length (part_of eyes.code host) =
     subst (λ (h : HostId). there.at < length (part_of eyes.code h)) found.2
@@ -240,7 +247,7 @@ deep_entry eyes host entry are sound apart on hidden =
 -- ---- control is handed over
 
 -- values that ride leave what is seen of a host, where none of their variables may be seen
-pub riders_stay : (eyes : Eyes) (host : HostShape) (frame : FrameId) (riders : List Rider) →
+pub riders_stay : (eyes : Eyes) (host : HostState) (frame : FrameId) (riders : List Rider) →
     AllByRecursion (λ rider. IfSome (variable_at eyes.code rider.0) (λ there. sees_at eyes there.label ≡ false))
     riders → (other : FrameId) (y : VarId) → sees_variable eyes y ≡ true →
     (with_variables_set host frame riders).variables other y ≡ host.variables other y
@@ -250,8 +257,8 @@ riders_stay eyes host frame (rider ∷ riders) hidden other y seen =
     ∙ variable_stays eyes host.variables frame other rider.0 y rider.1 (variable_set eyes rider.0 hidden.0) seen
 
 -- a thread starts where the variables that may be seen are as they were
-pub enters_unseen : (eyes : Eyes) (state : HostShape) (from : HostId) (flight : Flight) (links : List Link)
-    (token : Token) (owed : Owed) (now shown : View) (variables : FrameId → VarId → ℤ) (frame : FrameId)
+pub enters_unseen : (eyes : Eyes) (state : HostState) (from : HostId) (flight : Flight) (links : List HiddenEntry)
+    (token : Token) (owed : OwedInView) (now shown : LowView) (variables : FrameId → VarId → ℤ) (frame : FrameId)
     (entry : EntryId) (deep : Deep eyes state.me entry) →
     Taken eyes state (flies from state.me flight) links (at state.me deep.there.at frame token) owed now shown from
     flight →
@@ -300,11 +307,12 @@ enters_unseen eyes state from flight links token owed now shown variables frame 
       };
     }
 
-pub lgoto_ends : (eyes : Eyes) (state : HostShape) (from : HostId) (flight : Flight) (links : List Link) (token : Token)
-    (owed : Owed) (now shown : View) (passes : Bool) →
+pub lgoto_ends : (eyes : Eyes) (state : HostState) (from : HostId) (flight : Flight) (links : List HiddenEntry)
+    (token : Token)
+    (owed : OwedInView) (now shown : LowView) (passes : Bool) →
     Taken eyes state (flies from state.me flight) links (given_back token) owed now shown from flight →
-    state.me ≡ token.host → (passes ≡ true → Passes eyes.code state from (message.Lgoto token)) →
-    (Passes eyes.code state from (message.Lgoto token) → passes ≡ true) →
+    state.me ≡ token.host → (passes ≡ true → PassesCheck eyes.code state from (message.Lgoto token)) →
+    (PassesCheck eyes.code state from (message.Lgoto token) → passes ≡ true) →
     Ends eyes state.me (flies from state.me flight) links now shown flight.label
     (after_taking eyes.code state from (message.Lgoto token) passes)
 lgoto_ends eyes state from flight links token owed now shown passes take host is_top is_passed =
@@ -340,7 +348,8 @@ pub record Asking (eyes : Eyes) (from : HostId) (request : RequestId) (entry : E
   pub deep : is_deep eyes from request.at ≡ true
 
 pub asking : (eyes : Eyes) (from to : HostId) (request : RequestId) (entry : EntryId) (label : ℕ) → AreEyes eyes →
-    IsAt eyes from request.at (op.Ask entry to) → HasLabelAt eyes from request.at label → sees_at eyes label ≡ false →
+    IsInstructionAt eyes from request.at (op.Ask entry to) → HasLabelAt eyes from request.at label → sees_at eyes label
+    ≡ false →
     Asking eyes from request entry
 asking eyes from to request entry label are asks has hidden =
     let here = eyes.shades.at from request.at in
@@ -353,8 +362,9 @@ asking eyes from to request entry label are asks has hidden =
       deep = deep_of eyes are from request.at asks.0 asks.1 law.1.2 unseen;
     }
 
-pub sync_ends : (eyes : Eyes) (state : HostShape) (host from : HostId) (waiting : WaitingShape) (flight : Flight)
-    (links : List Link) (token : Token) (owed : Owed) (now shown : View) (request : RequestId) (frame : FrameId)
+pub sync_ends : (eyes : Eyes) (state : HostState) (host from : HostId) (waiting : WaitingShape) (flight : Flight)
+    (links : List HiddenEntry) (token : Token) (owed : OwedInView) (now shown : LowView) (request : RequestId)
+    (frame : FrameId)
     (entry : EntryId) →
     Taken eyes state (waits host waiting from state.me flight) links
     (at host waiting.request.at waiting.thread.frame token) owed now shown from flight →

@@ -17,7 +17,7 @@ use Rattle.host_code.specs.declared.message.Message.{Message}
 use Rattle.host_code.specs.declared.message.Message.TheVariants as message
 use Rattle.host_code.specs.Code.{CodeFieldShape, entry_at}
 use Rattle.host_code.specs.Thread.{ThreadShape, WaitingShape}
-use Rattle.host_core.specs.Host.{HostShape}
+use Rattle.host_core.specs.Host.{HostState}
 use Rattle.event_text.specs.declared.event.Event.{Event}
 use Rattle.net_world.specs.Flying.{Flight}
 use Rattle.net_world.specs.Secret.{IsQuiet}
@@ -35,7 +35,7 @@ use Rattle.agreement.specs.Comes.{Comes}
 use Rattle.agreement.specs.Leads.{Leads, Agree}
 use Rattle.agreement.specs.Taken.{sees_answer, carried_taken, host_without, ComesAnswered, ComesToEntry}
 use Rattle.agreement.specs.Taken.{SeenPassing, SeenMessage, SeenTake, view_riding, view_without}
-use Rattle.agreement.specs.Views.{View, masked, sees_field, sees_read, message_view, flight_view, with_host}
+use Rattle.agreement.specs.Views.{LowView, masked, sees_field, sees_read, message_view, flight_view, with_host}
 use Rattle.agreement.proofs.CarriedSame.{field_seen, masks_same}
 use Rattle.agreement.proofs.Coming.{comes_once}
 use Rattle.agreement.proofs.Queues.{flight_seen}
@@ -47,15 +47,15 @@ use Rattle.agreement.proofs.ViewLaws.{given_once}
 
 -- ---- one view
 
-entry_once : (eyes : Eyes) (now : View) (host : HostId) (found : Option Entry) (frame : FrameId) (token : Token)
-    (first second : View) → ComesToEntry eyes now host found frame token first →
+entry_once : (eyes : Eyes) (now : LowView) (host : HostId) (found : Option Entry) (frame : FrameId) (token : Token)
+    (first second : LowView) → ComesToEntry eyes now host found frame token first →
     ComesToEntry eyes now host found frame token second → first ≡ second
 entry_once eyes now host None frame token first second one two = absurd one
 entry_once eyes now host (Some there) frame token first second one two =
     comes_once eyes now host _ token first second one two
 
-answered_once : (eyes : Eyes) (now : View) (host : HostId) (found : Option ℕ) (answered : ThreadShape → ThreadShape)
-    (first second : View) → ComesAnswered eyes now host found answered first →
+answered_once : (eyes : Eyes) (now : LowView) (host : HostId) (found : Option ℕ) (answered : ThreadShape → ThreadShape)
+    (first second : LowView) → ComesAnswered eyes now host found answered first →
     ComesAnswered eyes now host found answered second → first ≡ second
 answered_once eyes now host found answered first second one two =
     let place : two.place ≡ one.place = some_is (sym two.is ∙ one.is) in
@@ -73,8 +73,8 @@ answered_once eyes now host found answered first second one two =
     (subst (λ (t : Token). Comes eyes (with_host now host (host_without (now.hosts host) two.place)) host
     (answered two.waiting.thread) t second) token two.comes)))
 
-passing_once : (eyes : Eyes) (now : View) (from to : HostId) (label : ℕ) (said : Message) (carried : ℤ)
-    (first second : View) → SeenPassing eyes now from to label said carried first →
+passing_once : (eyes : Eyes) (now : LowView) (from to : HostId) (label : ℕ) (said : Message) (carried : ℤ)
+    (first second : LowView) → SeenPassing eyes now from to label said carried first →
     SeenPassing eyes now from to label said carried second → first ≡ second
 passing_once eyes now from to label (message.Get request field index) carried first second one two = one ∙ sym two
 passing_once eyes now from to label (message.Set request field index value) carried first second one two =
@@ -96,8 +96,8 @@ passing_once eyes now from to label (message.Ack request) carried first second o
 passing_once eyes now from to label (message.Token request token) carried first second one two =
     answered_once eyes now to _ _ first second one two
 
-pub message_once : (eyes : Eyes) (now : View) (from to : HostId) (label : ℕ) (said : Message) (carried : ℤ)
-    (first second : View) → SeenMessage eyes now from to label said carried first →
+pub message_once : (eyes : Eyes) (now : LowView) (from to : HostId) (label : ℕ) (said : Message) (carried : ℤ)
+    (first second : LowView) → SeenMessage eyes now from to label said carried first →
     SeenMessage eyes now from to label said carried second → first ≡ second
 message_once eyes now from to label said carried first second (inl one) (inl two) =
     passing_once eyes now from to label said carried first second one.1 two.1
@@ -105,7 +105,7 @@ message_once eyes now from to label said carried first second (inl one) (inr two
 message_once eyes now from to label said carried first second (inr one) (inl two) = absurd (one.0 two.0)
 message_once eyes now from to label said carried first second (inr one) (inr two) = one.1 ∙ sym two.1
 
-pub take_once : (eyes : Eyes) (now : View) (from to : HostId) (place : ℕ) (carried : ℤ) (first second : View) →
+pub take_once : (eyes : Eyes) (now : LowView) (from to : HostId) (place : ℕ) (carried : ℤ) (first second : LowView) →
     SeenTake eyes now from to place carried first → SeenTake eyes now from to place carried second → first ≡ second
 take_once eyes now from to place carried first second one two =
     let flight : two.flight ≡ one.flight = some_is (sym two.there ∙ one.there) in
@@ -117,7 +117,7 @@ take_once eyes now from to place carried first second one two =
 -- ---- what it carries
 
 -- it is told by what is seen of the message
-carried_view : (eyes : Eyes) (state : HostShape) (from to : HostId) (said : Message) → eyes.bad from ≡ false →
+carried_view : (eyes : Eyes) (state : HostState) (from to : HostId) (said : Message) → eyes.bad from ≡ false →
     carried_taken eyes state from (message_view eyes from to said) ≡ carried_taken eyes state from said
 carried_view eyes state from to (message.Get request field index) good =
     let same : sees_answer eyes from request field ≡ sees_read eyes from request =
@@ -158,7 +158,7 @@ field_read eyes from to request field index are asked seen =
     asked.2) (are.below own label (flows_first own at_label) sees)
 
 -- two hosts that show the same carry the same
-message_carries : (eyes : Eyes) (one other : HostShape) (from to : HostId) (said : Message) → AreEyes eyes →
+message_carries : (eyes : Eyes) (one other : HostState) (from to : HostId) (said : Message) → AreEyes eyes →
     eyes.bad from ≡ false → IsAskedBy eyes from to said →
     ((field : FieldId) → sees_field eyes field ≡ true → row_of one.rows field.0 ≡ row_of other.rows field.0) →
     carried_taken eyes one from said ≡ carried_taken eyes other from said

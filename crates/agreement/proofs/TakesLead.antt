@@ -7,7 +7,7 @@ use Rattle.js_base.specs.declared.ids.HostId.{HostId}
 use Rattle.host_decl.specs.Hosts as declared_hosts
 use Rattle.host_code.specs.declared.message.Message.{Message}
 use Rattle.host_core.specs.Fits.{StateFits}
-use Rattle.host_core.specs.Host.{HostShape, Outcome, with_message}
+use Rattle.host_core.specs.Host.{HostState, Outcome, with_message}
 use Rattle.event_text.specs.declared.event.Event.{Event}
 use Rattle.event_text.specs.declared.event.Event.TheVariants.{Take}
 use Rattle.net_world.specs.Fits.{IsStateOf}
@@ -25,7 +25,7 @@ use Rattle.seen_world.proofs.PointsAtStart.{own_state}
 use Rattle.seen_world.proofs.PointsKept.{points_kept}
 use Rattle.agreement.specs.Leads.{Leads}
 use Rattle.agreement.specs.Taken.{carried_taken, view_without, SeenMessage, SeenTake}
-use Rattle.agreement.specs.Views.{View, flies_open}
+use Rattle.agreement.specs.Views.{LowView, flies_open}
 use Rattle.agreement.specs.Views.{flight_view, message_view}
 use Rattle.agreement.proofs.Queues.{seen_there, taken_calm, flight_seen}
 use Rattle.agreement.proofs.SeenLeads.{Calm, quiet_calm, arrived_leads, rested_leads}
@@ -35,8 +35,8 @@ use Rattle.agreement.proofs.SeenTakes.{Receives, Answers, TakeEnds, message_seen
 -- ---- an answer
 
 -- an answer to an obeying host is in flight then
-answers_leads : (eyes : Eyes) (world after : WorldShape) (old : HostShape) (from : HostId) (label : ℕ)
-    (outcome : Outcome) (now seen : View) → Calm eyes world now → Watches eyes world →
+answers_leads : (eyes : Eyes) (world after : WorldShape) (old : HostState) (from : HostId) (label : ℕ)
+    (outcome : Outcome) (now seen : LowView) → Calm eyes world now → Watches eyes world →
     state_at world old.me ≡ Some old → sees_at eyes label ≡ true → eyes.bad from ≡ false →
     after_step world old.me outcome (Some label) ≡ after → Answers eyes old from label now outcome seen →
     Leads eyes after seen
@@ -59,8 +59,8 @@ pub record Took (eyes : Eyes) (me : HostId) (outcome : Outcome) : Type 0 where
   pub keeps : HostKeeps eyes me outcome.state
 
 -- A message that may be seen, of an obeying host, is taken in a world in which it is no longer in flight.
-record Taking (eyes : Eyes) (world after : WorldShape) (from : HostId) (state : HostShape) (said : Message) (label : ℕ)
-    (outcome : Outcome) (now : View) : Type 0 where
+record Taking (eyes : Eyes) (world after : WorldShape) (from : HostId) (state : HostState) (said : Message) (label : ℕ)
+    (outcome : Outcome) (now : LowView) : Type 0 where
   calm : Calm eyes world now
   watch : Watches eyes world
   there : state_at world state.me ≡ Some state
@@ -70,8 +70,8 @@ record Taking (eyes : Eyes) (world after : WorldShape) (from : HostId) (state : 
   leaves : after_step world state.me outcome (Some label) ≡ after
   took : Took eyes state.me outcome
 
-ends_lead : (eyes : Eyes) (world after : WorldShape) (from : HostId) (state : HostShape) (said : Message) (label : ℕ)
-    (outcome : Outcome) (now seen : View) → Taking eyes world after from state said label outcome now →
+ends_lead : (eyes : Eyes) (world after : WorldShape) (from : HostId) (state : HostState) (said : Message) (label : ℕ)
+    (outcome : Outcome) (now seen : LowView) → Taking eyes world after from state said label outcome now →
     TakeEnds eyes state from label now outcome seen → Leads eyes after seen
 ends_lead eyes world after from state said label outcome now seen take (inl arrives) =
     arrived_leads eyes world after state outcome now seen (Some label) take.got.are take.calm take.there take.leaves
@@ -83,11 +83,11 @@ ends_lead eyes world after from state said label outcome now seen take (inr (inr
     take.good take.leaves answers
 
 pub reached_takes : (eyes : Eyes) (rows : List declared_hosts.HostShape) (bad : ℕ) (store : List (List ℤ))
-    (events : List Event) (world after : WorldShape) (from to : HostId) (place : ℕ) (now : View)
+    (events : List Event) (world after : WorldShape) (from to : HostId) (place : ℕ) (now : LowView)
     (step : IsTakeStep eyes.code world from to place after) → AreEyes eyes →
     Watches eyes (world_at_start eyes.code rows bad store) → IsReached eyes.code rows bad store events world →
     IsQuiet eyes.code world → Leads eyes world now →
-    (seen : View)
+    (seen : LowView)
     × SeenTake eyes now from to place (carried_taken eyes step.state from step.flight.message) seen
     × Leads eyes after seen
 reached_takes eyes rows bad store events world after from to place now step are watch reach quiet leads =

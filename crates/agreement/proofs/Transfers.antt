@@ -15,20 +15,20 @@ use Rattle.host_code.specs.declared.message.Message.TheVariants as message
 use Rattle.host_code.specs.Code.{CodeShape, part_of, entry_at}
 use Rattle.host_code.specs.Sound.{IsEntryOn, EntryFits}
 use Rattle.host_code.specs.Thread.{ThreadShape}
-use Rattle.host_core.specs.Host.{HostShape, Outcome, with_running, after_push, new_token, after_step}
+use Rattle.host_core.specs.Host.{HostState, Outcome, with_running, after_push, new_token, after_step}
 use Rattle.host_core.specs.Host.{with_token}
 use Rattle.host_core.specs.Turn.{after_own_push, after_own_call, after_go, after_go_with, after_call, with_thread}
 use Rattle.host_core.specs.Turn.{riders_of}
 use Rattle.net_world.proofs.Present.{same_id}
 use Rattle.split_shades.specs.ShadedCode.{IsShadedOp}
-use Rattle.split_shades.specs.Shades.{EntryShade, Ahead, Meets, ahead_of}
-use Rattle.split_shades.specs.Shading.{Names, PushesAt, Pushes, GoesTo, CallsOn}
+use Rattle.split_shades.specs.Shades.{EntryShade, Ahead, MeetsShade, ahead_of}
+use Rattle.split_shades.specs.Shading.{NamesInShade, PushesAt, PushesInShade, GoesToInShade, CallsOn}
 use Rattle.token_laws.proofs.HeldLaws.{all_at}
 use Rattle.token_laws.proofs.Tests.{different, number_same}
 use Rattle.seen_world.specs.Eyes.{Eyes, is_open, is_deep, is_hidden}
 use Rattle.seen_world.proofs.TurnsKept.{meets_next, hidden_is}
-use Rattle.agreement.specs.Leads.{runs, Link, links_on, Owes}
-use Rattle.agreement.specs.Views.{View, at, Owed}
+use Rattle.agreement.specs.Leads.{runs, HiddenEntry, links_on, Owes}
+use Rattle.agreement.specs.Views.{LowView, at, OwedInView}
 use Rattle.agreement.specs.Views.{is_shown}
 use Rattle.agreement.proofs.Ends.{Unseen, shows_then, nothing_seen, hands_unseen, unseen_runs}
 use Rattle.agreement.proofs.Lists.{left_first, index_apart}
@@ -62,16 +62,18 @@ standing code host entry on =
     }
 
 -- the place of an entry that an instruction names, in the block of a label
-entry_meets : (eyes : Eyes) (old : HostShape) (thread : ThreadShape) (links : List Link) (token : Token) (owed : Owed)
-    (now shown : View) (host : HostId) (entry : EntryId) (it : EntryShade) →
+entry_meets : (eyes : Eyes) (old : HostState) (thread : ThreadShape) (links : List HiddenEntry) (token : Token)
+    (owed : OwedInView)
+    (now shown : LowView) (host : HostId) (entry : EntryId) (it : EntryShade) →
     Unseen eyes old thread links token owed now shown → (stand : Standing eyes.code host entry) →
-    slice_get eyes.shades.entries entry.0 ≡ Some it → Meets (ahead_of it) (eyes.shades.at host stand.there.at)
+    slice_get eyes.shades.entries entry.0 ≡ Some it → MeetsShade (ahead_of it) (eyes.shades.at host stand.there.at)
 entry_meets eyes old thread links token owed now shown host entry it run stand is =
-    subst (λ (h : HostId). Meets (ahead_of it) (eyes.shades.at h stand.there.at)) stand.host_is
+    subst (λ (h : HostId). MeetsShade (ahead_of it) (eyes.shades.at h stand.there.at)) stand.host_is
     (stands_at eyes run.are entry.0 stand.there it stand.apart stand.is is)
 
-entry_within : (eyes : Eyes) (old : HostShape) (thread : ThreadShape) (links : List Link) (token : Token) (owed : Owed)
-    (now shown : View) (host : HostId) (entry : EntryId) → Unseen eyes old thread links token owed now shown →
+entry_within : (eyes : Eyes) (old : HostState) (thread : ThreadShape) (links : List HiddenEntry) (token : Token)
+    (owed : OwedInView)
+    (now shown : LowView) (host : HostId) (entry : EntryId) → Unseen eyes old thread links token owed now shown →
     (stand : Standing eyes.code host entry) → stand.there.at < length (part_of eyes.code host)
 entry_within eyes old thread links token owed now shown host entry run stand =
     subst (λ (h : HostId). stand.there.at < length (part_of eyes.code h)) stand.host_is
@@ -80,18 +82,20 @@ entry_within eyes old thread links token owed now shown host entry run stand =
 -- ---- pushes
 
 -- an entry that is pushed unseen, and where it goes on then
-record Pushed (eyes : Eyes) (old : HostShape) (thread : ThreadShape) (links : List Link) (token : Token) (owed : Owed)
+record Pushed (eyes : Eyes) (old : HostState) (thread : ThreadShape) (links : List HiddenEntry) (token : Token)
+    (owed : OwedInView)
     (entry : EntryId) (there : Entry) : Type 0 where
   hidden : is_hidden eyes entry.0 ≡ true
   unseen : is_open eyes old.me there.at ≡ false
   owes : Owes eyes (at old.me there.at thread.frame token) links owed
   next : is_deep eyes old.me (thread.at + 1) ≡ true
 
-pushed_plain : (eyes : Eyes) (old : HostShape) (thread : ThreadShape) (links : List Link) (token : Token) (owed : Owed)
-    (now shown : View) (here_is : Instr) (entry : EntryId) (next : Ahead) →
+pushed_plain : (eyes : Eyes) (old : HostState) (thread : ThreadShape) (links : List HiddenEntry) (token : Token)
+    (owed : OwedInView)
+    (now shown : LowView) (here_is : Instr) (entry : EntryId) (next : Ahead) →
     Unseen eyes old thread links token owed now shown → IsHere eyes old thread here_is →
-    (stand : Standing eyes.code old.me entry) → Meets next (eyes.shades.at old.me (suc thread.at)) →
-    Names eyes.shades.entries (eyes.shades.at old.me thread.at) entry.0 →
+    (stand : Standing eyes.code old.me entry) → MeetsShade next (eyes.shades.at old.me (suc thread.at)) →
+    NamesInShade eyes.shades.entries (eyes.shades.at old.me thread.at) entry.0 →
     (eyes.shades.at old.me thread.at).guard ≡ None → next.block ≡ (eyes.shades.at old.me thread.at).block →
     Pushed eyes old thread links token owed entry stand.there
 pushed_plain eyes old thread links token owed now shown here_is entry next run is stand meets names unguarded block =
@@ -110,10 +114,11 @@ pushed_plain eyes old thread links token owed now shown here_is entry next run i
       next = next_deep eyes old.me thread.at next deep meets block;
     }
 
-pushed_head : (eyes : Eyes) (old : HostShape) (thread : ThreadShape) (links : List Link) (token : Token) (owed : Owed)
-    (now shown : View) (here_is : Instr) (entry : EntryId) (next : Ahead) (loop : ℕ) →
+pushed_head : (eyes : Eyes) (old : HostState) (thread : ThreadShape) (links : List HiddenEntry) (token : Token)
+    (owed : OwedInView)
+    (now shown : LowView) (here_is : Instr) (entry : EntryId) (next : Ahead) (loop : ℕ) →
     Unseen eyes old thread links token owed now shown → IsHere eyes old thread here_is →
-    (stand : Standing eyes.code old.me entry) → Meets next (eyes.shades.at old.me (suc thread.at)) →
+    (stand : Standing eyes.code old.me entry) → MeetsShade next (eyes.shades.at old.me (suc thread.at)) →
     (eyes.shades.at old.me thread.at).guard ≡ Some loop →
     PushesAt (Some loop) eyes.shades.entries (eyes.shades.at old.me thread.at) entry.0 next →
     Pushed eyes old thread links token owed entry stand.there
@@ -134,11 +139,13 @@ pushed_head eyes old thread links token owed now shown here_is entry next loop r
           ((meets_next eyes old.me thread.at next meets).block ∙ ap (λ (it : Ahead). it.block) pushes.2) run.hidden;
     }
 
-pushed : (eyes : Eyes) (old : HostShape) (thread : ThreadShape) (links : List Link) (token : Token) (owed : Owed)
-    (now shown : View) (here_is : Instr) (entry : EntryId) (next : Ahead) →
+pushed : (eyes : Eyes) (old : HostState) (thread : ThreadShape) (links : List HiddenEntry) (token : Token)
+    (owed : OwedInView)
+    (now shown : LowView) (here_is : Instr) (entry : EntryId) (next : Ahead) →
     Unseen eyes old thread links token owed now shown → IsHere eyes old thread here_is →
-    (stand : Standing eyes.code old.me entry) → Meets next (eyes.shades.at old.me (suc thread.at)) → (calls : Bool) →
-    Pushes eyes.scene eyes.shades.entries old.me calls (eyes.shades.at old.me thread.at) entry.0 next →
+    (stand : Standing eyes.code old.me entry) → MeetsShade next (eyes.shades.at old.me (suc thread.at)) →
+    (calls : Bool) →
+    PushesInShade eyes.scene eyes.shades.entries old.me calls (eyes.shades.at old.me thread.at) entry.0 next →
     Pushed eyes old thread links token owed entry stand.there
 pushed eyes old thread links token owed now shown here_is entry next run is stand meets true pushes =
     pushed_plain eyes old thread links token owed now shown here_is entry next run is stand meets pushes.names
@@ -156,8 +163,9 @@ pushed eyes old thread links token owed now shown here_is entry next run is stan
         pushed_head eyes old thread links token owed now shown here_is entry next loop run is stand meets at_loop
         at_entry
 
-push_unseen : (eyes : Eyes) (old : HostShape) (thread : ThreadShape) (links : List Link) (token : Token) (owed : Owed)
-    (now shown : View) (label : ℕ) (entry : EntryId) → Unseen eyes old thread links token owed now shown →
+push_unseen : (eyes : Eyes) (old : HostState) (thread : ThreadShape) (links : List HiddenEntry) (token : Token)
+    (owed : OwedInView)
+    (now shown : LowView) (label : ℕ) (entry : EntryId) → Unseen eyes old thread links token owed now shown →
     (stand : Standing eyes.code old.me entry) → Pushed eyes old thread links token owed entry stand.there →
     EndsIn eyes old thread links now shown label (with_thread (after_push (with_running old None) entry thread.frame
     token)
@@ -225,8 +233,9 @@ push_unseen eyes old thread links token owed now shown label entry run stand pus
       };
     }
 
-pub push_ends : (eyes : Eyes) (old : HostShape) (thread : ThreadShape) (links : List Link) (token : Token) (owed : Owed)
-    (now shown : View) (label : ℕ) (here_is : Instr) (entry : EntryId) →
+pub push_ends : (eyes : Eyes) (old : HostState) (thread : ThreadShape) (links : List HiddenEntry) (token : Token)
+    (owed : OwedInView)
+    (now shown : LowView) (label : ℕ) (here_is : Instr) (entry : EntryId) →
     Unseen eyes old thread links token owed now shown → IsHere eyes old thread here_is →
     IsShadedOp eyes.scene eyes.shades old.me thread.at (op.Push entry) → IsEntryOn eyes.code old.me entry →
     EndsIn eyes old thread links now shown label (after_own_push (with_running old None) thread entry thread.held)
@@ -247,10 +256,11 @@ either_by P true one other first second = first refl
 either_by P false one other first second = second refl
 
 -- where control goes to a place of the block, and what is owed there
-goes_unseen : (eyes : Eyes) (old : HostShape) (thread : ThreadShape) (links : List Link) (token : Token) (owed : Owed)
-    (now shown : View) (here_is : Instr) (entry : EntryId) (on : HostId) →
+goes_unseen : (eyes : Eyes) (old : HostState) (thread : ThreadShape) (links : List HiddenEntry) (token : Token)
+    (owed : OwedInView)
+    (now shown : LowView) (here_is : Instr) (entry : EntryId) (on : HostId) →
     Unseen eyes old thread links token owed now shown → IsHere eyes old thread here_is →
-    GoesTo eyes.scene eyes.shades.entries (eyes.shades.at old.me thread.at) entry.0 on →
+    GoesToInShade eyes.scene eyes.shades.entries (eyes.shades.at old.me thread.at) entry.0 on →
     (stand : Standing eyes.code on entry) →
     Owes eyes (at on stand.there.at thread.frame token) links owed
 goes_unseen eyes old thread links token owed now shown here_is entry on run is goes stand =
@@ -264,8 +274,9 @@ goes_unseen eyes old thread links token owed now shown here_is entry on run is g
     run.owes
 
 -- where a method is entered
-calls_unseen : (eyes : Eyes) (old : HostShape) (thread : ThreadShape) (links : List Link) (token : Token) (owed : Owed)
-    (now shown : View) (entry : EntryId) (on : HostId) → Unseen eyes old thread links token owed now shown →
+calls_unseen : (eyes : Eyes) (old : HostState) (thread : ThreadShape) (links : List HiddenEntry) (token : Token)
+    (owed : OwedInView)
+    (now shown : LowView) (entry : EntryId) (on : HostId) → Unseen eyes old thread links token owed now shown →
     CallsOn eyes.scene eyes.shades.entries (eyes.shades.at old.me thread.at) entry.0 on →
     (stand : Standing eyes.code on entry) → is_deep eyes old.me thread.at ≡ true →
     is_deep eyes on stand.there.at ≡ true
@@ -276,8 +287,9 @@ calls_unseen eyes old thread links token owed now shown entry on run calls stand
     deep_as eyes enters.it.block on stand.there.at place.block
     (flow_hidden eyes run.are here.block enters.it.block enters.below (block_hidden eyes old.me thread.at deep))
 
-pub go_ends : (eyes : Eyes) (old : HostShape) (thread : ThreadShape) (links : List Link) (token : Token) (owed : Owed)
-    (now shown : View) (label : ℕ) (here_is : Instr) (entry : EntryId) (on : HostId) →
+pub go_ends : (eyes : Eyes) (old : HostState) (thread : ThreadShape) (links : List HiddenEntry) (token : Token)
+    (owed : OwedInView)
+    (now shown : LowView) (label : ℕ) (here_is : Instr) (entry : EntryId) (on : HostId) →
     Unseen eyes old thread links token owed now shown → IsHere eyes old thread here_is →
     IsShadedOp eyes.scene eyes.shades old.me thread.at (op.Go entry on) → IsEntryOn eyes.code on entry →
     EndsIn eyes old thread links now shown label (after_go (with_running old None) thread thread.frame entry on
@@ -291,8 +303,8 @@ go_ends eyes old thread links token owed now shown label here_is entry on run is
     (stand.there, stand.is, stand.host_is, refl)
     (goes_unseen eyes old thread links token owed now shown here_is entry on run is law stand))
 
-pub go_with_ends : (eyes : Eyes) (old : HostShape) (thread : ThreadShape) (links : List Link) (token : Token)
-    (owed : Owed) (now shown : View) (label : ℕ) (here_is : Instr) (entry : EntryId) (on : HostId)
+pub go_with_ends : (eyes : Eyes) (old : HostState) (thread : ThreadShape) (links : List HiddenEntry) (token : Token)
+    (owed : OwedInView) (now shown : LowView) (label : ℕ) (here_is : Instr) (entry : EntryId) (on : HostId)
     (riders : List VarId) → Unseen eyes old thread links token owed now shown → IsHere eyes old thread here_is →
     IsShadedOp eyes.scene eyes.shades old.me thread.at (op.GoWith entry on riders) → IsEntryOn eyes.code on entry →
     EndsIn eyes old thread links now shown label
@@ -307,8 +319,9 @@ go_with_ends eyes old thread links token owed now shown label here_is entry on r
     (at on stand.there.at thread.frame token) run (stand.there, stand.is, stand.host_is, refl)
     (goes_unseen eyes old thread links token owed now shown here_is entry on run is law.0 stand))
 
-pub call_ends : (eyes : Eyes) (old : HostShape) (thread : ThreadShape) (links : List Link) (token : Token) (owed : Owed)
-    (now shown : View) (label : ℕ) (here_is : Instr) (entry : EntryId) (on : HostId) →
+pub call_ends : (eyes : Eyes) (old : HostState) (thread : ThreadShape) (links : List HiddenEntry) (token : Token)
+    (owed : OwedInView)
+    (now shown : LowView) (label : ℕ) (here_is : Instr) (entry : EntryId) (on : HostId) →
     Unseen eyes old thread links token owed now shown → IsHere eyes old thread here_is →
     IsShadedOp eyes.scene eyes.shades old.me thread.at (op.Call entry on) → IsEntryOn eyes.code on entry →
     EndsIn eyes old thread links now shown label (after_call eyes.code (with_running old None) thread entry on)
@@ -334,8 +347,8 @@ call_ends eyes old thread links token owed now shown label here_is entry on run 
     (deep_moved eyes links owed old.me on thread.at stand.there.at thread.frame thread.new_frame token deep deep_there
     run.owes)))
 
-pub call_with_ends : (eyes : Eyes) (old : HostShape) (thread : ThreadShape) (links : List Link) (token : Token)
-    (owed : Owed) (now shown : View) (label : ℕ) (here_is : Instr) (entry : EntryId) (on : HostId)
+pub call_with_ends : (eyes : Eyes) (old : HostState) (thread : ThreadShape) (links : List HiddenEntry) (token : Token)
+    (owed : OwedInView) (now shown : LowView) (label : ℕ) (here_is : Instr) (entry : EntryId) (on : HostId)
     (riders : List VarId) → Unseen eyes old thread links token owed now shown → IsHere eyes old thread here_is →
     IsShadedOp eyes.scene eyes.shades old.me thread.at (op.CallWith entry on riders) → IsEntryOn eyes.code on entry →
     EndsIn eyes old thread links now shown label

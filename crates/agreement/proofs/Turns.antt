@@ -19,31 +19,31 @@ use Rattle.host_code.specs.Thread.{ThreadShape}
 use Rattle.host_code.specs.Thread.Awaited.{value_of_field, acknowledgement, token_of_entry}
 use Rattle.host_code.specs.declared.message.Message.TheVariants as message
 use Rattle.host_core.specs.Fits.{RunningFits, StateFits}
-use Rattle.host_core.specs.Host.{HostShape, Outcome, with_running, with_row_written, with_variable_set, after_clearing}
+use Rattle.host_core.specs.Host.{HostState, Outcome, with_running, with_row_written, with_variable_set, after_clearing}
 use Rattle.host_core.specs.Host.{after_step, with_temporary, with_token, next_request, value_in_thread}
 use Rattle.host_core.specs.Turn.{after_read, after_put, after_let, after_send, after_frame, after_ask}
 use Rattle.host_core.specs.Turn.{after_return, with_thread}
 use Rattle.split_shades.specs.ShadedCode.{IsShadedOp}
-use Rattle.split_shades.specs.Shades.{Ahead, Meets}
-use Rattle.split_shades.specs.Shading.{Keeps, behind}
+use Rattle.split_shades.specs.Shades.{Ahead, MeetsShade}
+use Rattle.split_shades.specs.Shading.{KeepsInShade, behind}
 use Rattle.need_labels.specs.Needs.{label_of}
 use Rattle.seen_world.specs.Eyes.{Eyes, is_open, is_deep}
 use Rattle.seen_world.proofs.TurnsKept.{meets_next}
 use Rattle.agreement.specs.Changes.{StaysSeen}
-use Rattle.agreement.specs.Leads.{runs, Link, hidden_waiting, Owes}
-use Rattle.agreement.specs.Views.{View, at, Owed}
+use Rattle.agreement.specs.Leads.{runs, HiddenEntry, hidden_waiting, Owes}
+use Rattle.agreement.specs.Views.{LowView, at, OwedInView}
 use Rattle.agreement.proofs.Ends.{Ends, Unseen, goes_on_unseen, waits_unseen}
 use Rattle.agreement.proofs.Lists.{index_apart}
 use Rattle.agreement.proofs.Places.{instruction_within, deep_of, deep_hidden, deep_as, block_hidden, begun_same}
 use Rattle.agreement.proofs.Places.{deep_moved, begun_moved, variable_unseen, field_unseen, variable_stays, row_stays}
 
 -- where what it leaves is a state of a host of the code
-abbrev pub EndsIn : Eyes → HostShape → ThreadShape → List Link → View → View → ℕ → Outcome → Type 0
+abbrev pub EndsIn : Eyes → HostState → ThreadShape → List HiddenEntry → LowView → LowView → ℕ → Outcome → Type 0
 EndsIn eyes old thread links now shown label outcome =
     StateFits eyes.code outcome.state → Ends eyes old.me (runs old.me thread) links now shown label outcome
 
 -- the thread runs this instruction
-abbrev pub IsHere : Eyes → HostShape → ThreadShape → Instr → Type 0
+abbrev pub IsHere : Eyes → HostState → ThreadShape → Instr → Type 0
 IsHere eyes old thread there = instruction_at eyes.code old.me thread.at ≡ Some there
 
 pub either_ends : (P : Outcome → Type 0) (b : Bool) (one other : Outcome) → P one → P other →
@@ -51,7 +51,7 @@ pub either_ends : (P : Outcome → Type 0) (b : Bool) (one other : Outcome) → 
 either_ends P true one other first second = first
 either_ends P false one other first second = second
 
-pub same_seen : (eyes : Eyes) (host : HostId) (old : HostShape) (running : Option ThreadShape) →
+pub same_seen : (eyes : Eyes) (host : HostId) (old : HostState) (running : Option ThreadShape) →
     StaysSeen eyes host old (with_running old running)
 same_seen eyes host old running = record {
   key = refl;
@@ -66,7 +66,7 @@ same_seen eyes host old running = record {
 -- ---- a thread that goes on on the host
 
 -- its next instruction is there
-pub next_there : (eyes : Eyes) (me : HostId) (new : HostShape) (later : ThreadShape) → new.running ≡ Some later →
+pub next_there : (eyes : Eyes) (me : HostId) (new : HostState) (later : ThreadShape) → new.running ≡ Some later →
     new.me ≡ me → StateFits eyes.code new → later.at < length (part_of eyes.code me)
 next_there eyes me new later is same fits =
     let running : RunningFits eyes.code new.me later =
@@ -74,8 +74,9 @@ next_there eyes me new later is same fits =
     subst (λ (h : HostId). later.at < length (part_of eyes.code h)) same running.place
 
 -- it stays where it is
-pub stays_put : (eyes : Eyes) (old : HostShape) (thread : ThreadShape) (links : List Link) (token : Token) (owed : Owed)
-    (now shown : View) (label : ℕ) → Unseen eyes old thread links token owed now shown →
+pub stays_put : (eyes : Eyes) (old : HostState) (thread : ThreadShape) (links : List HiddenEntry) (token : Token)
+    (owed : OwedInView)
+    (now shown : LowView) (label : ℕ) → Unseen eyes old thread links token owed now shown →
     EndsIn eyes old thread links now shown label (with_thread (with_running old None) thread)
 stays_put eyes old thread links token owed now shown label run fits =
     goes_on_unseen eyes old (with_running old (Some thread)) thread thread links token owed now shown label run refl
@@ -83,8 +84,9 @@ stays_put eyes old thread links token owed now shown label run fits =
     run.hides.waiting (same_seen eyes old.me old (Some thread)) run.held run.hidden run.owes
 
 -- it goes on at another place, in a block that may not be seen
-pub deep_on : (eyes : Eyes) (old new : HostShape) (thread later : ThreadShape) (links : List Link) (token : Token)
-    (owed : Owed) (now shown : View) (label : ℕ) → Unseen eyes old thread links token owed now shown →
+pub deep_on : (eyes : Eyes) (old new : HostState) (thread later : ThreadShape) (links : List HiddenEntry)
+    (token : Token)
+    (owed : OwedInView) (now shown : LowView) (label : ℕ) → Unseen eyes old thread links token owed now shown →
     is_deep eyes old.me thread.at ≡ true → is_deep eyes old.me later.at ≡ true → later.held ≡ thread.held →
     new.running ≡ Some later → new.me ≡ old.me → new.entries ≡ old.entries →
     hidden_waiting eyes old.me new.waiting ≡ [] → StaysSeen eyes old.me old new →
@@ -98,17 +100,17 @@ deep_on eyes old new thread later links token owed now shown label run deep deep
 
 -- the next place is in the same block
 pub next_deep : (eyes : Eyes) (host : HostId) (place : ℕ) (next : Ahead) → is_deep eyes host place ≡ true →
-    Meets next (eyes.shades.at host (suc place)) → next.block ≡ (eyes.shades.at host place).block →
+    MeetsShade next (eyes.shades.at host (suc place)) → next.block ≡ (eyes.shades.at host place).block →
     is_deep eyes host (place + 1) ≡ true
 next_deep eyes host place next deep meets block =
     deep_as eyes (eyes.shades.at host place).block host (place + 1)
     ((meets_next eyes host place next meets).block ∙ block) (block_hidden eyes host place deep)
 
 -- it goes on at the next place, where the statement goes on that has begun
-pub begun_on : (eyes : Eyes) (old : HostShape) (thread later : ThreadShape) (links : List Link) (token : Token)
-    (owed : Owed) (now shown : View) (label : ℕ) (there : Instr) (next : Ahead) →
+pub begun_on : (eyes : Eyes) (old : HostState) (thread later : ThreadShape) (links : List HiddenEntry) (token : Token)
+    (owed : OwedInView) (now shown : LowView) (label : ℕ) (there : Instr) (next : Ahead) →
     Unseen eyes old thread links token owed now shown → IsHere eyes old thread there →
-    Meets next (eyes.shades.at old.me (suc thread.at)) → next.block ≡ (eyes.shades.at old.me thread.at).block →
+    MeetsShade next (eyes.shades.at old.me (suc thread.at)) → next.block ≡ (eyes.shades.at old.me thread.at).block →
     next.begun ≡ Some (record {
       pc = (eyes.shades.at old.me thread.at).pc;
       guard = (eyes.shades.at old.me thread.at).guard;
@@ -134,8 +136,9 @@ begun_on eyes old thread later links token owed now shown label there next run i
 
 -- ---- fields
 
-pub read_ends : (eyes : Eyes) (old : HostShape) (thread : ThreadShape) (links : List Link) (token : Token) (owed : Owed)
-    (now shown : View) (label : ℕ) (there : Instr) (field : FieldId) (index : List Node) →
+pub read_ends : (eyes : Eyes) (old : HostState) (thread : ThreadShape) (links : List HiddenEntry) (token : Token)
+    (owed : OwedInView)
+    (now shown : LowView) (label : ℕ) (there : Instr) (field : FieldId) (index : List Node) →
     Unseen eyes old thread links token owed now shown → IsHere eyes old thread there →
     IsShadedOp eyes.scene eyes.shades old.me thread.at (op.Read field index) → (found : Option CodeFieldShape) →
     EndsIn eyes old thread links now shown label (after_read (with_running old None) thread field index found)
@@ -149,8 +152,9 @@ read_ends eyes old thread links token owed now shown label there field index run
     (message.Get (next_request (with_running old None) thread.at) field
     (value_in_thread (with_running old None) thread index)) run refl refl run.held)
 
-pub put_ends : (eyes : Eyes) (old : HostShape) (thread : ThreadShape) (links : List Link) (token : Token) (owed : Owed)
-    (now shown : View) (label : ℕ) (there : Instr) (field : FieldId) (index value : List Node) →
+pub put_ends : (eyes : Eyes) (old : HostState) (thread : ThreadShape) (links : List HiddenEntry) (token : Token)
+    (owed : OwedInView)
+    (now shown : LowView) (label : ℕ) (there : Instr) (field : FieldId) (index value : List Node) →
     Unseen eyes old thread links token owed now shown → IsHere eyes old thread there →
     IsShadedOp eyes.scene eyes.shades old.me thread.at (op.Put field index value) → (found : Option CodeFieldShape) →
     EndsIn eyes old thread links now shown label (after_put (with_running old None) thread field index value found)
@@ -181,12 +185,13 @@ put_ends eyes old thread links token owed now shown label there field index valu
 
 -- ---- variables
 
-pub let_ends : (eyes : Eyes) (old : HostShape) (thread : ThreadShape) (links : List Link) (token : Token) (owed : Owed)
-    (now shown : View) (label : ℕ) (there : Instr) (frame : FrameId) (x : VarId) (value : List Node) (calls : Bool)
+pub let_ends : (eyes : Eyes) (old : HostState) (thread : ThreadShape) (links : List HiddenEntry) (token : Token)
+    (owed : OwedInView)
+    (now shown : LowView) (label : ℕ) (there : Instr) (frame : FrameId) (x : VarId) (value : List Node) (calls : Bool)
     (next : Ahead) → Unseen eyes old thread links token owed now shown → IsHere eyes old thread there →
     (eyes.shades.at old.me thread.at).guard ≡ None →
-    Keeps eyes.scene (eyes.shades.at old.me thread.at) value (label_of eyes.scene.basis.labelled x) →
-    next ≡ behind (eyes.shades.at old.me thread.at) calls → Meets next (eyes.shades.at old.me (suc thread.at)) →
+    KeepsInShade eyes.scene (eyes.shades.at old.me thread.at) value (label_of eyes.scene.basis.labelled x) →
+    next ≡ behind (eyes.shades.at old.me thread.at) calls → MeetsShade next (eyes.shades.at old.me (suc thread.at)) →
     EndsIn eyes old thread links now shown label (after_let (with_running old None) thread frame x value)
 let_ends eyes old thread links token owed now shown label there frame x value calls next run is unguarded keeps goes
     meets =
@@ -208,8 +213,9 @@ let_ends eyes old thread links token owed now shown label there frame x value ca
       requests = λ place seen. refl;
     })
 
-pub send_ends : (eyes : Eyes) (old : HostShape) (thread : ThreadShape) (links : List Link) (token : Token) (owed : Owed)
-    (now shown : View) (label : ℕ) (frame : FrameId) (x : VarId) (to : HostId) →
+pub send_ends : (eyes : Eyes) (old : HostState) (thread : ThreadShape) (links : List HiddenEntry) (token : Token)
+    (owed : OwedInView)
+    (now shown : LowView) (label : ℕ) (frame : FrameId) (x : VarId) (to : HostId) →
     Unseen eyes old thread links token owed now shown →
     EndsIn eyes old thread links now shown label (after_send (with_running old None) thread frame x to)
 send_ends eyes old thread links token owed now shown label frame x to run fits =
@@ -228,8 +234,8 @@ frame_stays eyes counts site other count pc label is hidden there seen =
     let one : label ≡ pc = cc in
     false≢true (sym hidden ∙ ap eyes.sees (sym one) ∙ seen))
 
-pub frame_ends : (eyes : Eyes) (old : HostShape) (thread : ThreadShape) (links : List Link) (token : Token)
-    (owed : Owed) (now shown : View) (label : ℕ) (there : Instr) (site : SiteId) →
+pub frame_ends : (eyes : Eyes) (old : HostState) (thread : ThreadShape) (links : List HiddenEntry) (token : Token)
+    (owed : OwedInView) (now shown : LowView) (label : ℕ) (there : Instr) (site : SiteId) →
     Unseen eyes old thread links token owed now shown → IsHere eyes old thread there →
     IsShadedOp eyes.scene eyes.shades old.me thread.at (op.Frame site) →
     EndsIn eyes old thread links now shown label (after_frame (with_running old None) thread site)
@@ -254,8 +260,9 @@ frame_ends eyes old thread links token owed now shown label there site run is la
 
 -- ---- results
 
-pub return_ends : (eyes : Eyes) (old : HostShape) (thread : ThreadShape) (links : List Link) (token : Token)
-    (owed : Owed) (now shown : View) (label : ℕ) (there : Instr) (x : VarId) (value : List Node) (passes : Bool) →
+pub return_ends : (eyes : Eyes) (old : HostState) (thread : ThreadShape) (links : List HiddenEntry) (token : Token)
+    (owed : OwedInView) (now shown : LowView) (label : ℕ) (there : Instr) (x : VarId) (value : List Node)
+    (passes : Bool) →
     Unseen eyes old thread links token owed now shown → IsHere eyes old thread there →
     IsShadedOp eyes.scene eyes.shades old.me thread.at (op.Ret x value) →
     EndsIn eyes old thread links now shown label (after_return (with_running old None) thread x value thread.held
@@ -279,8 +286,9 @@ return_ends eyes old thread links token owed now shown label there x value passe
 
 -- ---- a push that is asked for
 
-pub ask_ends : (eyes : Eyes) (old : HostShape) (thread : ThreadShape) (links : List Link) (token : Token) (owed : Owed)
-    (now shown : View) (label : ℕ) (entry : EntryId) (on : HostId) →
+pub ask_ends : (eyes : Eyes) (old : HostState) (thread : ThreadShape) (links : List HiddenEntry) (token : Token)
+    (owed : OwedInView)
+    (now shown : LowView) (label : ℕ) (entry : EntryId) (on : HostId) →
     Unseen eyes old thread links token owed now shown →
     EndsIn eyes old thread links now shown label (after_ask (with_running old None) thread entry on thread.held)
 ask_ends eyes old thread links token owed now shown label entry on run =

@@ -16,7 +16,7 @@ use Rattle.split_rules.proofs.SeenLabels.{flows_first, flows_second}
 use Rattle.split_shades.specs.Basis.{value_label}
 use Rattle.split_shades.proofs.BasisLabels.{uncrossed_flows}
 use Rattle.seen_world.specs.Eyes.{Eyes, AreEyes}
-use Rattle.agreement.specs.Values.{IsSeen, HoldAlike}
+use Rattle.agreement.specs.Values.{IsValueSeen, HoldAlike}
 
 -- ---- the value of a tree
 
@@ -73,7 +73,7 @@ nodes_value variables temps e first =
 -- ---- two threads
 
 tree_same : (eyes : Eyes) → AreEyes eyes → (pc : Label) (variables others : VarId → ℤ) (temps held : List ℤ)
-    (first : ℕ) (e : ExprTree) → HoldAlike eyes pc variables others temps held first e → IsSeen eyes pc e →
+    (first : ℕ) (e : ExprTree) → HoldAlike eyes pc variables others temps held first e → IsValueSeen eyes pc e →
     tree_value variables temps first e ≡ tree_value others held first e
 tree_same eyes are pc variables others temps held first (number value) alike seen = refl
 tree_same eyes are pc variables others temps held first (local x) alike seen = alike seen
@@ -103,7 +103,7 @@ tree_same eyes are pc variables others temps held first (endorsed operand label)
 
 pub value_same : (eyes : Eyes) (pc : Label) (variables others : VarId → ℤ) (temps held : List ℤ) (first : ℕ)
     (value : ExprTree) → AreEyes eyes → HoldAlike eyes pc variables others temps held first value →
-    IsSeen eyes pc value →
+    IsValueSeen eyes pc value →
     value_of_nodes variables temps (nodes_of first value) ≡ value_of_nodes others held (nodes_of first value)
 value_same eyes pc variables others temps held first value are alike seen =
     nodes_value variables temps value first

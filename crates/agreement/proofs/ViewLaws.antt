@@ -6,20 +6,20 @@ use Rattle.js_base.specs.declared.ids.FrameId.{FrameId}
 use Rattle.capability.specs.declared.token.Token.{Token}
 use Rattle.ics_stack.specs.declared.stack.StackEntry.{StackEntry}
 use Rattle.host_code.specs.Thread.{ThreadShape}
-use Rattle.host_core.specs.Host.{HostShape}
+use Rattle.host_core.specs.Host.{HostState}
 use Rattle.net_world.specs.Flying.{Flight}
 use Rattle.token_laws.proofs.Tests.{itself}
 use Rattle.seen_world.specs.Eyes.{Eyes, is_open, is_deep, is_hidden}
 use Rattle.agreement.specs.Changes.{StaysSeen}
-use Rattle.agreement.specs.Leads.{Link, links_on}
-use Rattle.agreement.specs.Views.{View, HostView, ShowsHost, running_view, GivenBack, Owed, nothing, goes_on}
+use Rattle.agreement.specs.Leads.{HiddenEntry, links_on}
+use Rattle.agreement.specs.Views.{LowView, HostView, ShowsHost, running_view, GivenBack, OwedInView, nothing, goes_on}
 use Rattle.agreement.specs.Views.{gives, Completed, at, owed_at, flies_open, flight_view, flights_view, is_shown}
 use Rattle.agreement.specs.Views.{waiter_view}
 use Rattle.agreement.proofs.Lists.{left_last, left_removed, left_first}
 
 -- ---- what is owed
 
-pub given_once : (eyes : Eyes) (view : View) (token : Token) (entries : List StackEntry) (first second : View) →
+pub given_once : (eyes : Eyes) (view : LowView) (token : Token) (entries : List StackEntry) (first second : LowView) →
     GivenBack eyes view token entries first → GivenBack eyes view token entries second → first ≡ second
 given_once eyes view token [] first second one two = one ∙ sym two
 given_once eyes view token (top ∷ below) first second (inl one) (inl two) = one.1 ∙ sym two.1
@@ -27,7 +27,7 @@ given_once eyes view token (top ∷ below) first second (inl one) (inr two) = ab
 given_once eyes view token (top ∷ below) first second (inr one) (inl two) = absurd (one.0 two.0)
 given_once eyes view token (top ∷ below) first second (inr one) (inr two) = one.1 ∙ sym two.1
 
-pub completed_once : (eyes : Eyes) (owed : Owed) (view first second : View) → Completed eyes owed view first →
+pub completed_once : (eyes : Eyes) (owed : OwedInView) (view first second : LowView) → Completed eyes owed view first →
     Completed eyes owed view second → first ≡ second
 completed_once eyes nothing view first second one two = one ∙ sym two
 completed_once eyes (goes_on host place frame token) view first second one two = one ∙ sym two
@@ -60,7 +60,7 @@ pub unseen_thread : (eyes : Eyes) (host : HostId) (thread : ThreadShape) → is_
 unseen_thread eyes host thread hidden = rw hidden refl
 
 -- what is seen of a host that leaves what may be seen of it
-pub still_shows : (eyes : Eyes) (host : HostId) (old new : HostShape) (view : HostView) →
+pub still_shows : (eyes : Eyes) (host : HostId) (old new : HostState) (view : HostView) →
     ShowsHost eyes host old view → StaysSeen eyes host old new →
     running_view eyes host new.running ≡ running_view eyes host old.running →
     filter (is_shown eyes) new.entries ≡ filter (is_shown eyes) old.entries → ShowsHost eyes host new view
@@ -79,12 +79,13 @@ still_shows eyes host old new view shows stays runs entries = record {
 -- ---- the chain
 
 -- a link on its host
-pub link_first : (host : HostId) (entry : StackEntry) (links : List Link) →
+pub link_first : (host : HostId) (entry : StackEntry) (links : List HiddenEntry) →
     links_on host (record { host = host; entry = entry } ∷ links) ≡ entry ∷ links_on host links
 link_first host entry links =
     ap (λ b. if b then entry ∷ links_on host links else links_on host links) (itself host.0)
 
-pub entry_hidden : (eyes : Eyes) (host : HostId) (links : List Link) (entries : List StackEntry) (top : StackEntry) →
+pub entry_hidden : (eyes : Eyes) (host : HostId) (links : List HiddenEntry) (entries : List StackEntry)
+    (top : StackEntry) →
     is_hidden eyes top.entry.0 ≡ true → entries ≡ links_on host links ++ filter (is_shown eyes) entries →
     top ∷ entries
     ≡ links_on host (record { host = host; entry = top } ∷ links) ++ filter (is_shown eyes) (top ∷ entries)

@@ -12,13 +12,13 @@ use Rattle.host_code.specs.declared.message.Message.TheVariants as message
 use Rattle.host_code.specs.Code.{CodeShape, CodeFieldShape, instruction_at, field_at, variable_at}
 use Rattle.host_code.specs.Thread.{ThreadShape, Awaited}
 use Rattle.host_code.specs.Thread.Awaited.{value_of_field, acknowledgement, token_of_entry}
-use Rattle.host_core.specs.Host.{HostShape, after_step, after_clearing, with_token, value_in_thread, next_request}
+use Rattle.host_core.specs.Host.{HostState, after_step, after_clearing, with_token, value_in_thread, next_request}
 use Rattle.host_core.specs.Turn.{MayReturn}
 use Rattle.net_world.specs.World.{WorldShape, state_at}
 use Rattle.seen_world.specs.Eyes.{Eyes}
 use Rattle.agreement.specs.Handing.{sent_view}
 use Rattle.agreement.specs.Turns.{Carried, carried_value, carried_in}
-use Rattle.agreement.specs.Views.{View, HostView, masked, sees_variable, sees_read, with_host}
+use Rattle.agreement.specs.Views.{LowView, HostView, masked, sees_variable, sees_read, with_host}
 
 -- ---- which turns
 
@@ -36,7 +36,7 @@ AsksElsewhere code me token other = ⊥
 
 -- the running thread of a host, at such an instruction
 pub record RunsAsking (code : CodeShape) (world : WorldShape) (host : HostId) : Type 0 where
-  pub state : HostShape
+  pub state : HostState
   pub there : state_at world host ≡ Some state
   pub thread : ThreadShape
   pub running : state.running ≡ Some thread
@@ -52,7 +52,7 @@ abbrev pub carried_index : ℤ → Carried
 carried_index index = record { index = index; value = pos 0 }
 
 -- What is sent to be kept is seen where it is kept, and the index of a read where what is read is a temporary.
-abbrev pub carried_asking : Eyes → HostShape → ThreadShape → Op → Carried
+abbrev pub carried_asking : Eyes → HostState → ThreadShape → Op → Carried
 carried_asking eyes state thread (op.Read field index) =
     carried_index (masked (sees_read eyes state.me (next_request state thread.at)) (value_in_thread state thread index))
 carried_asking eyes state thread (op.Send x to) =
@@ -117,18 +117,19 @@ host_waiting view request question = record view {
 }
 
 -- The thread that is seen on a host waits, and what it asks is sent.
-pub record SeenAsking (eyes : Eyes) (view : View) (host : HostId) (carried : Carried) (after : View) : Type 0 where
-  pub thread : ThreadShape
-  pub running : (view.hosts host).running ≡ thread ∷ []
-  pub token : Token
-  pub held : thread.held ≡ Some token
-  pub instruction : Instr
-  pub is : instruction_at eyes.code host thread.at ≡ Some instruction
-  pub asks : AsksElsewhere eyes.code host token instruction.op
-  pub question : Question
-  pub asks_so : asked eyes.code thread token (request_shown (view.hosts host) thread.at) carried instruction.op
-      ≡ Some question
-  pub seen : after
-      ≡ sent_view (with_host view host
-      (host_waiting (view.hosts host) (request_shown (view.hosts host) thread.at) question)) host question.to
-      (record { message = question.said; label = instruction.label }) (eyes.bad question.to)
+pub record SeenAsking (eyes : Eyes) (view : LowView) (host : HostId) (carried : Carried) (after : LowView) : Type 0
+  where
+    pub thread : ThreadShape
+    pub running : (view.hosts host).running ≡ thread ∷ []
+    pub token : Token
+    pub held : thread.held ≡ Some token
+    pub instruction : Instr
+    pub is : instruction_at eyes.code host thread.at ≡ Some instruction
+    pub asks : AsksElsewhere eyes.code host token instruction.op
+    pub question : Question
+    pub asks_so : asked eyes.code thread token (request_shown (view.hosts host) thread.at) carried instruction.op
+        ≡ Some question
+    pub seen : after
+        ≡ sent_view (with_host view host
+        (host_waiting (view.hosts host) (request_shown (view.hosts host) thread.at) question)) host question.to
+        (record { message = question.said; label = instruction.label }) (eyes.bad question.to)

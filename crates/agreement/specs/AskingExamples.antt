@@ -6,7 +6,7 @@ use Rattle.host_code.specs.declared.message.Message.TheVariants as message
 use Rattle.host_code.specs.Thread.Awaited.{value_of_field}
 use Rattle.net_world.specs.Flying.{with_flights}
 use Rattle.token_laws.specs.TokenExamples.{host_id, a_field, first_request, second_token}
-use Rattle.agreement.specs.Views.{View, with_host}
+use Rattle.agreement.specs.Views.{LowView, with_host}
 use Rattle.agreement.specs.Worked.{idle, runs_at, came_to}
 
 -- a token of the other host, for a frame that no thread here is in
@@ -17,7 +17,7 @@ abbrev pub other_token : Token
 other_token = record second_token { host = host_id 1; frame = other_frame }
 
 -- The thread waits, its instruction has asked once, and a get for this element is in flight.
-abbrev pub asked_for : ℤ → View
+abbrev pub asked_for : ℤ → LowView
 asked_for index = record (with_host (came_to 1) (host_id 0) (record (idle.hosts (host_id 0)) {
   waiting = record {
     thread = runs_at 2;

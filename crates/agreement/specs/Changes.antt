@@ -6,12 +6,12 @@ use Rattle.js_base.specs.declared.ids.FrameId.{FrameId}
 use Rattle.js_base.specs.declared.ids.VarId.{VarId}
 use Rattle.label_lattice.specs.declared.label.Label.{Label}
 use Rattle.jif_tree.specs.Store.{row_of}
-use Rattle.host_core.specs.Host.{HostShape}
+use Rattle.host_core.specs.Host.{HostState}
 use Rattle.seen_world.specs.Eyes.{Eyes, is_open, is_hidden}
 use Rattle.agreement.specs.Views.{sees_field, sees_variable, waits_open}
 
 -- The key, fields, variables and counts stay where they may be seen, and so do the threads that may be seen and wait.
-pub record StaysSeen (eyes : Eyes) (host : HostId) (old new : HostShape) : Type 0 where
+pub record StaysSeen (eyes : Eyes) (host : HostId) (old new : HostState) : Type 0 where
   pub key : new.key ≡ old.key
   pub rows : (field : FieldId) → sees_field eyes field ≡ true → row_of new.rows field.0 ≡ row_of old.rows field.0
   pub variables : (frame : FrameId) (x : VarId) → sees_variable eyes x ≡ true →

@@ -13,12 +13,12 @@ use Rattle.host_code.specs.declared.message.Message.TheVariants as message
 use Rattle.host_code.specs.Riders.{Rider}
 use Rattle.host_code.specs.Code.{CodeShape, instruction_at}
 use Rattle.host_code.specs.Thread.{ThreadShape}
-use Rattle.host_core.specs.Host.{HostShape}
+use Rattle.host_core.specs.Host.{HostState}
 use Rattle.net_world.specs.Flying.{Flight, with_flights}
 use Rattle.net_world.specs.World.{WorldShape, state_at}
 use Rattle.seen_world.specs.Eyes.{Eyes}
 use Rattle.agreement.specs.Turns.{host_idle}
-use Rattle.agreement.specs.Views.{View, HostView, masked, sees_variable, with_host}
+use Rattle.agreement.specs.Views.{LowView, HostView, masked, sees_variable, with_host}
 
 -- these variables of a frame, with their values
 abbrev pub riding : (FrameId → VarId → ℤ) → FrameId → List VarId → List Rider
@@ -39,7 +39,7 @@ handed variables me thread token other = None
 
 -- the running thread of a host, which hands control over so
 pub record RunsHanding (code : CodeShape) (world : WorldShape) (host : HostId) : Type 0 where
-  pub state : HostShape
+  pub state : HostState
   pub there : state_at world host ≡ Some state
   pub thread : ThreadShape
   pub running : state.running ≡ Some thread
@@ -56,13 +56,13 @@ abbrev pub shown_variables : Eyes → HostView → FrameId → VarId → ℤ
 shown_variables eyes view frame x = masked (sees_variable eyes x) (view.variables frame x)
 
 -- a misbehaving host is told a message, and for another it is in flight
-abbrev pub sent_view : View → HostId → HostId → Flight → Bool → View
+abbrev pub sent_view : LowView → HostId → HostId → Flight → Bool → LowView
 sent_view view from to flight true = record view { sent = view.sent ++ (from, to, flight.message) ∷ [] }
 sent_view view from to flight false =
     record view { flying = with_flights view.flying from to (view.flying from to ++ flight ∷ []) }
 
 -- The thread that is seen on a host ends, and this is sent.
-pub record SeenHanding (eyes : Eyes) (view : View) (host : HostId) (after : View) : Type 0 where
+pub record SeenHanding (eyes : Eyes) (view : LowView) (host : HostId) (after : LowView) : Type 0 where
   pub thread : ThreadShape
   pub running : (view.hosts host).running ≡ thread ∷ []
   pub token : Token

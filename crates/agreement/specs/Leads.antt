@@ -9,45 +9,46 @@ use Rattle.host_code.specs.declared.message.Message.{Message}
 use Rattle.host_code.specs.declared.message.Message.TheVariants as message
 use Rattle.host_code.specs.Code.{entry_at}
 use Rattle.host_code.specs.Thread.{ThreadShape, WaitingShape}
-use Rattle.host_core.specs.Host.{HostShape}
+use Rattle.host_core.specs.Host.{HostState}
 use Rattle.net_world.specs.Flying.{Flight}
 use Rattle.net_world.specs.World.{WorldShape, state_at}
 use Rattle.token_laws.specs.Requests.{number_asked, number_answered}
 use Rattle.seen_world.specs.Eyes.{Eyes, is_open, is_deep, is_hidden}
 use Rattle.seen_world.specs.Points.{IsHiddenToken}
-use Rattle.agreement.specs.Views.{View, Shows, Spot, nowhere, at, given_back, Owed, nothing, goes_on, gives, owed_at}
+use Rattle.agreement.specs.Views.{LowView, Shows, Spot, nowhere, at, given_back, OwedInView, nothing, goes_on, gives}
+use Rattle.agreement.specs.Views.{owed_at}
 use Rattle.agreement.specs.Views.{Completed, waits_open, flies_open, is_shown}
 
 -- ---- what goes on unseen
 
 -- A thread that runs on a host; one that waits there, with its request or the answer in flight from a host to a host;
 -- or a message in flight that hands control over.
-pub data Holder : Type 0 where
-  nobody : Holder
-  runs : HostId → ThreadShape → Holder
-  waits : HostId → WaitingShape → HostId → HostId → Flight → Holder
-  flies : HostId → HostId → Flight → Holder
+pub data UnseenHolder : Type 0 where
+  nobody : UnseenHolder
+  runs : HostId → ThreadShape → UnseenHolder
+  waits : HostId → WaitingShape → HostId → HostId → Flight → UnseenHolder
+  flies : HostId → HostId → Flight → UnseenHolder
 
 -- what of it is on a host, or in flight from a host to a host
-abbrev pub runs_on : Holder → HostId → Option ThreadShape
+abbrev pub runs_on : UnseenHolder → HostId → Option ThreadShape
 runs_on (runs host thread) other = if other.0 == host.0 then Some thread else None
 runs_on holder other = None
 
-abbrev pub waits_on : Holder → HostId → List WaitingShape
+abbrev pub waits_on : UnseenHolder → HostId → List WaitingShape
 waits_on (waits host waiting from to flight) other = if other.0 == host.0 then waiting ∷ [] else []
 waits_on holder other = []
 
-abbrev pub flies_on : Holder → HostId → HostId → List Flight
+abbrev pub flies_on : UnseenHolder → HostId → HostId → List Flight
 flies_on (waits host waiting from to flight) i j = if i.0 == from.0 && j.0 == to.0 then flight ∷ [] else []
 flies_on (flies from to flight) i j = if i.0 == from.0 && j.0 == to.0 then flight ∷ [] else []
 flies_on holder i j = []
 
 -- an entry that is hidden, on its host
-pub record Link : Type 0 where
+pub record HiddenEntry : Type 0 where
   pub host : HostId
   pub entry : StackEntry
 
-abbrev pub links_on : HostId → List Link → List StackEntry
+abbrev pub links_on : HostId → List HiddenEntry → List StackEntry
 links_on host [] = []
 links_on host (link ∷ links) =
     if host.0 == link.host.0 then link.entry ∷ links_on host links else links_on host links
@@ -67,7 +68,8 @@ abbrev pub hidden_flights : Eyes → List Flight → List Flight
 hidden_flights eyes flights = filter (λ flight. not (flies_open eyes flight)) flights
 
 -- On a host nothing goes on unseen but this, and its hidden entries are those of the chain, above all others.
-pub record Hides (eyes : Eyes) (holder : Holder) (links : List Link) (host : HostId) (state : HostShape) : Type 0 where
+pub record Hides (eyes : Eyes) (holder : UnseenHolder) (links : List HiddenEntry) (host : HostId) (state : HostState) :
+    Type 0 where
   pub running : hidden_running eyes host state.running ≡ runs_on holder host
   pub waiting : hidden_waiting eyes host state.waiting ≡ waits_on holder host
   pub entries : state.entries ≡ links_on host links ++ filter (is_shown eyes) state.entries
@@ -95,7 +97,7 @@ FliesTo eyes to (message.RgotoWith frame entry token riders) spot =
 FliesTo eyes to (message.Lgoto token) spot = (to ≡ token.host) × (spot ≡ given_back token)
 FliesTo eyes to other spot = ⊥
 
-abbrev pub HeldAt : Eyes → Holder → Spot → Type 0
+abbrev pub HeldAt : Eyes → UnseenHolder → Spot → Type 0
 HeldAt eyes nobody spot = spot ≡ nowhere
 HeldAt eyes (runs host thread) spot =
     (token : Token) × (thread.held ≡ Some token) × (spot ≡ at host thread.at thread.frame token)
@@ -106,7 +108,7 @@ HeldAt eyes (waits host waiting from to flight) spot =
 HeldAt eyes (flies from to flight) spot = FliesTo eyes to flight.message spot
 
 -- a thread that runs is on a host that obeys
-abbrev pub IsPresent : WorldShape → Holder → Type 0
+abbrev pub IsPresent : WorldShape → UnseenHolder → Type 0
 IsPresent world (runs host thread) = IsSome (state_at world host)
 IsPresent world other = ⊤
 
@@ -124,7 +126,7 @@ IsDeepAt eyes (at host place frame token) = is_deep eyes host place ≡ true
 IsDeepAt eyes (given_back token) = ⊤
 
 -- A hidden entry on an obeying host, with a token of its own, stands at a place that may not be seen.
-pub record IsLink (eyes : Eyes) (link : Link) (there : Entry) : Type 0 where
+pub record IsLink (eyes : Eyes) (link : HiddenEntry) (there : Entry) : Type 0 where
   pub is : entry_at eyes.code link.entry.entry ≡ Some there
   pub host : there.host ≡ link.host
   pub token : link.entry.token.host ≡ link.host
@@ -135,7 +137,7 @@ pub record IsLink (eyes : Eyes) (link : Link) (there : Entry) : Type 0 where
 -- It goes on with the token of the last entry of the chain, which stands first, and each entry keeps that of the one
 -- before it. What is owed is read at the first entry, or where it goes on if there is none. All but that are in blocks
 -- that may not be seen.
-abbrev pub Owes : Eyes → Spot → List Link → Owed → Type 0
+abbrev pub Owes : Eyes → Spot → List HiddenEntry → OwedInView → Type 0
 Owes eyes spot [] owed = owed_at eyes spot ≡ owed
 Owes eyes spot (link ∷ links) owed =
     IsDeepAt eyes spot × (token_of spot ≡ Some link.entry.token)
@@ -143,17 +145,17 @@ Owes eyes spot (link ∷ links) owed =
     × Owes eyes (at link.host there.at link.entry.frame link.entry.kept) links owed)
 
 -- The token that is owed is no hidden one, and the host that it is given back to obeys.
-abbrev pub IsOwedWell : Eyes → Owed → Type 0
+abbrev pub IsOwedWell : Eyes → OwedInView → Type 0
 IsOwedWell eyes nothing = ⊤
 IsOwedWell eyes (gives token) = (eyes.bad token.host ≡ false) × (is_hidden eyes token.entry.0 ≡ false)
 IsOwedWell eyes (goes_on host place frame token) = ¬ IsHiddenToken eyes token
 
 -- At most one thing goes on unseen in a world, and this is owed by it.
-pub record Keeps (eyes : Eyes) (world : WorldShape) (owed : Owed) : Type 0 where
-  pub holder : Holder
-  pub links : List Link
+pub record KeepsUnseen (eyes : Eyes) (world : WorldShape) (owed : OwedInView) : Type 0 where
+  pub holder : UnseenHolder
+  pub links : List HiddenEntry
   pub present : IsPresent world holder
-  pub hides : (host : HostId) (state : HostShape) → state_at world host ≡ Some state →
+  pub hides : (host : HostId) (state : HostState) → state_at world host ≡ Some state →
       Hides eyes holder links host state
   pub flying : (from to : HostId) → hidden_flights eyes (world.flying from to) ≡ flies_on holder from to
   pub spot : Spot
@@ -162,15 +164,15 @@ pub record Keeps (eyes : Eyes) (world : WorldShape) (owed : Owed) : Type 0 where
   pub well : IsOwedWell eyes owed
 
 -- This will be seen of a world in the end, if what goes on unseen comes to an end.
-pub record Leads (eyes : Eyes) (world : WorldShape) (shown : View) : Type 0 where
-  pub owed : Owed
-  pub keeps : Keeps eyes world owed
-  pub now : View
+pub record Leads (eyes : Eyes) (world : WorldShape) (shown : LowView) : Type 0 where
+  pub owed : OwedInView
+  pub keeps : KeepsUnseen eyes world owed
+  pub now : LowView
   pub shows : Shows eyes world now
   pub completed : Completed eyes owed now shown
 
 -- Two worlds agree where the same will be seen of both.
 pub record Agree (eyes : Eyes) (one other : WorldShape) : Type 0 where
-  pub shown : View
+  pub shown : LowView
   pub first : Leads eyes one shown
   pub second : Leads eyes other shown

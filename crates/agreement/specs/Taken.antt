@@ -14,8 +14,8 @@ use Rattle.host_code.specs.Riders.{Rider}
 use Rattle.host_code.specs.Code.{entry_at}
 use Rattle.host_code.specs.Thread.{ThreadShape, WaitingShape}
 use Rattle.host_code.specs.Thread.Awaited.{value_of_field, acknowledgement, token_of_entry}
-use Rattle.host_core.specs.Host.{HostShape, thread_at, with_temporary, with_token}
-use Rattle.host_core.specs.Taking.{Passes, place_of_awaiting}
+use Rattle.host_core.specs.Host.{HostState, thread_at, with_temporary, with_token}
+use Rattle.host_core.specs.Taking.{PassesCheck, place_of_awaiting}
 use Rattle.event_text.specs.declared.event.BadMessage.{BadMessage}
 use Rattle.net_world.specs.Flying.{Flight, with_flights}
 use Rattle.net_world.specs.Told.{tokens_in, message_made}
@@ -23,7 +23,7 @@ use Rattle.seen_world.specs.Eyes.{Eyes}
 use Rattle.agreement.specs.Comes.{Comes}
 use Rattle.agreement.specs.Handing.{sent_view}
 use Rattle.agreement.specs.Turns.{variable_shown, riders_shown, element_shown, token_shown, entry_shown}
-use Rattle.agreement.specs.Views.{View, HostView, GivenBack, masked, sees_field, sees_read, message_view, with_host}
+use Rattle.agreement.specs.Views.{LowView, HostView, GivenBack, masked, sees_field, sees_read, message_view, with_host}
 
 -- ---- what it carries
 
@@ -35,7 +35,7 @@ sees_answer eyes from request field =
 
 -- The value with which a host answers a get is carried, as 0 where it may not be seen. All else is told by what is seen
 -- of the message and of the host.
-abbrev pub carried_taken : Eyes → HostShape → HostId → Message → ℤ
+abbrev pub carried_taken : Eyes → HostState → HostId → Message → ℤ
 carried_taken eyes state from (message.Get request field index) =
     masked (sees_answer eyes from request field) (element_at (row_of state.rows field.0) index)
 carried_taken eyes state from other = pos 0
@@ -43,7 +43,7 @@ carried_taken eyes state from other = pos 0
 -- ---- the check
 
 -- A host as far as the check of a message looks at it: its number, its threads that wait and its entries.
-abbrev pub host_checked : HostId → HostView → HostShape
+abbrev pub host_checked : HostId → HostView → HostState
 host_checked host view = record {
   me = host;
   key = view.key;
@@ -62,7 +62,7 @@ host_checked host view = record {
 -- ---- what is seen then
 
 -- a message is no longer in flight
-abbrev pub view_without : View → HostId → HostId → ℕ → View
+abbrev pub view_without : LowView → HostId → HostId → ℕ → LowView
 view_without view from to place =
     record view { flying = with_flights view.flying from to (remove (view.flying from to) place) }
 
@@ -71,8 +71,8 @@ abbrev pub host_without : HostView → ℕ → HostView
 host_without view place = record view { waiting = remove view.waiting place }
 
 -- The thread that is seen waiting at a place comes to where it goes on, as it is after the answer.
-pub record ComesAnswered (eyes : Eyes) (view : View) (host : HostId) (found : Option ℕ)
-    (answered : ThreadShape → ThreadShape) (after : View) : Type 0 where
+pub record ComesAnswered (eyes : Eyes) (view : LowView) (host : HostId) (found : Option ℕ)
+    (answered : ThreadShape → ThreadShape) (after : LowView) : Type 0 where
   pub place : ℕ
   pub is : found ≡ Some place
   pub waiting : WaitingShape
@@ -83,23 +83,23 @@ pub record ComesAnswered (eyes : Eyes) (view : View) (host : HostId) (found : Op
       token after
 
 -- a thread starts at an entry of the host
-abbrev pub ComesToEntry : Eyes → View → HostId → Option Entry → FrameId → Token → View → Type 0
+abbrev pub ComesToEntry : Eyes → LowView → HostId → Option Entry → FrameId → Token → LowView → Type 0
 ComesToEntry eyes view host None frame token after = ⊥
 ComesToEntry eyes view host (Some there) frame token after =
     Comes eyes view host (thread_at there frame token) token after
 
 -- values ride to a host, for variables of a frame
-abbrev pub view_riding : View → HostId → FrameId → List Rider → View
+abbrev pub view_riding : LowView → HostId → FrameId → List Rider → LowView
 view_riding view to frame riders = with_host view to (riders_shown (view.hosts to) frame riders)
 
 -- who asked is answered with the label of what was asked
-abbrev pub answer_view : Eyes → View → HostId → HostId → ℕ → Message → View
+abbrev pub answer_view : Eyes → LowView → HostId → HostId → ℕ → Message → LowView
 answer_view eyes view from to label answer =
     sent_view view to from (record { message = answer; label = label }) (eyes.bad from)
 
 -- A message passes its check, which a host takes from another, and which has this label. A token that is given back is
 -- then that of the top entry, and so names the host.
-abbrev pub SeenPassing : Eyes → View → HostId → HostId → ℕ → Message → ℤ → View → Type 0
+abbrev pub SeenPassing : Eyes → LowView → HostId → HostId → ℕ → Message → ℤ → LowView → Type 0
 SeenPassing eyes view from to label (message.Get request field index) carried after =
     after ≡ answer_view eyes view from to label (message.Value request carried)
 SeenPassing eyes view from to label (message.Set request field index value) carried after =
@@ -128,14 +128,14 @@ SeenPassing eyes view from to label (message.Token request token) carried after 
     (with_token (Some token)) after
 
 -- A message that fails its check changes nothing that is seen.
-abbrev pub SeenMessage : Eyes → View → HostId → HostId → ℕ → Message → ℤ → View → Type 0
+abbrev pub SeenMessage : Eyes → LowView → HostId → HostId → ℕ → Message → ℤ → LowView → Type 0
 SeenMessage eyes view from to label said carried after =
-    (Passes eyes.code (host_checked to (view.hosts to)) from said
+    (PassesCheck eyes.code (host_checked to (view.hosts to)) from said
     × SeenPassing eyes view from to label said carried after)
-    ⊎ ((¬ (Passes eyes.code (host_checked to (view.hosts to)) from said)) × (after ≡ view))
+    ⊎ ((¬ (PassesCheck eyes.code (host_checked to (view.hosts to)) from said)) × (after ≡ view))
 
 -- The message that is seen at a place of a queue is taken, and carries this.
-pub record SeenTake (eyes : Eyes) (view : View) (from to : HostId) (place : ℕ) (carried : ℤ) (after : View)
+pub record SeenTake (eyes : Eyes) (view : LowView) (from to : HostId) (place : ℕ) (carried : ℤ) (after : LowView)
     : Type 0 where
   pub flight : Flight
   pub there : slice_get (view.flying from to) place ≡ Some flight
@@ -143,7 +143,7 @@ pub record SeenTake (eyes : Eyes) (view : View) (from to : HostId) (place : ℕ)
 
 -- A misbehaving host sends what it made of the tokens that such hosts were sent, which is taken at once. The answer is
 -- told, so its label plays no part.
-pub record SeenAct (eyes : Eyes) (view : View) (from to : HostId) (made : BadMessage) (carried : ℤ) (after : View)
+pub record SeenAct (eyes : Eyes) (view : LowView) (from to : HostId) (made : BadMessage) (carried : ℤ) (after : LowView)
     : Type 0 where
   pub bad : eyes.bad from ≡ true
   pub said : Message

@@ -20,13 +20,13 @@ use Rattle.host_code.specs.Riders.{Rider}
 use Rattle.host_code.specs.Code.{CodeShape, instruction_at, field_at, variable_at, entry_at}
 use Rattle.host_code.specs.Thread.{ThreadShape}
 use Rattle.host_stores.specs.Stores.{with_variable}
-use Rattle.host_core.specs.Host.{HostShape, after_step, after_clearing, with_temporary, with_token}
+use Rattle.host_core.specs.Host.{HostState, after_step, after_clearing, with_temporary, with_token}
 use Rattle.host_core.specs.Host.{value_in_thread, next_request}
 use Rattle.host_core.specs.Turn.{MayReturn}
 use Rattle.net_world.specs.World.{WorldShape, state_at}
 use Rattle.seen_world.specs.Eyes.{Eyes, is_deep}
 use Rattle.agreement.specs.Comes.{Comes}
-use Rattle.agreement.specs.Views.{View, HostView, gives, Completed, masked, sees_field, sees_variable, sees_read}
+use Rattle.agreement.specs.Views.{LowView, HostView, gives, Completed, masked, sees_field, sees_variable, sees_read}
 use Rattle.agreement.specs.Views.{with_host}
 
 -- ---- which turns
@@ -48,8 +48,8 @@ ChangesAlone code me held (op.Branch guard target) = ⊤
 ChangesAlone code me held other = ⊥
 
 -- the running thread of a host, at such an instruction
-pub record RunsAlone (code : CodeShape) (world : WorldShape) (host : HostId) : Type 0 where
-  pub state : HostShape
+pub record RunsAtInstruction (code : CodeShape) (world : WorldShape) (host : HostId) : Type 0 where
+  pub state : HostState
   pub there : state_at world host ≡ Some state
   pub thread : ThreadShape
   pub running : state.running ≡ Some thread
@@ -69,7 +69,7 @@ carried_value value = record { index = pos 0; value = value }
 
 -- What is set is seen where it is kept, and what is read where it is a temporary. A guard is seen where the block is
 -- that it leads to.
-abbrev pub carried_in : Eyes → HostShape → ThreadShape → Op → Carried
+abbrev pub carried_in : Eyes → HostState → ThreadShape → Op → Carried
 carried_in eyes state thread (op.Read field index) =
     carried_value (masked (sees_read eyes state.me (next_request state thread.at))
     (element_at (row_of state.rows field.0) (value_in_thread state thread index)))
@@ -146,25 +146,25 @@ branched thread target guard =
     if int_eq guard (pos 0) then record (after_clearing thread) { at = target } else after_clearing thread
 
 -- the thread comes to its next place on a host of which this is seen
-abbrev pub ComesBehind : Eyes → View → HostId → HostView → ThreadShape → Token → View → Type 0
+abbrev pub ComesBehind : Eyes → LowView → HostId → HostView → ThreadShape → Token → LowView → Type 0
 ComesBehind eyes view host now later token after = Comes eyes (with_host view host now) host later token after
 
 -- It comes to an entry of the host, in its new frame.
-abbrev pub ComesInto : Eyes → View → HostId → ThreadShape → Token → Option Entry → View → Type 0
+abbrev pub ComesInto : Eyes → LowView → HostId → ThreadShape → Token → Option Entry → LowView → Type 0
 ComesInto eyes view host thread token None after = ⊥
 ComesInto eyes view host thread token (Some there) after =
     ComesBehind eyes view host (host_idle (view.hosts host))
     (record (after_clearing thread) { at = there.at; frame = thread.new_frame }) token after
 
 -- A result for the host itself is kept, and another that sends nothing is dropped.
-abbrev pub ComesWithResult : Eyes → View → HostId → ThreadShape → Token → VarId → ℤ → Bool → View → Type 0
+abbrev pub ComesWithResult : Eyes → LowView → HostId → ThreadShape → Token → VarId → ℤ → Bool → LowView → Type 0
 ComesWithResult eyes view host thread token x value true after =
     ComesBehind eyes view host (variable_shown (host_idle (view.hosts host)) token.frame x value)
     (after_clearing thread) token after
 ComesWithResult eyes view host thread token x value false after =
     ComesBehind eyes view host (host_idle (view.hosts host)) (after_clearing thread) token after
 
-abbrev pub SeenOperation : Eyes → View → HostId → ThreadShape → Token → Op → Carried → View → Type 0
+abbrev pub SeenOperation : Eyes → LowView → HostId → ThreadShape → Token → Op → Carried → LowView → Type 0
 SeenOperation eyes view host thread token (op.Read field index) carried after =
     ComesBehind eyes view host (host_idle (view.hosts host)) (with_temporary carried.value (after_step thread)) token
     after
@@ -195,7 +195,7 @@ SeenOperation eyes view host thread token (op.Branch guard target) carried after
 SeenOperation eyes view host thread token other carried after = ⊥
 
 -- The thread that is seen on a host runs its instruction, which carries this.
-pub record SeenTurn (eyes : Eyes) (view : View) (host : HostId) (carried : Carried) (after : View) : Type 0 where
+pub record SeenTurn (eyes : Eyes) (view : LowView) (host : HostId) (carried : Carried) (after : LowView) : Type 0 where
   pub thread : ThreadShape
   pub running : (view.hosts host).running ≡ thread ∷ []
   pub token : Token

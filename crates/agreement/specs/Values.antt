@@ -10,19 +10,19 @@ use Rattle.split_shades.specs.Basis.{value_label}
 use Rattle.seen_world.specs.Eyes.{Eyes}
 
 -- some misbehaving host may see what a value tells
-abbrev pub IsSeen : Eyes → Label → ExprTree → Type 0
-IsSeen eyes pc value = eyes.sees (value_label eyes.scene.basis pc value) ≡ true
+abbrev pub IsValueSeen : Eyes → Label → ExprTree → Type 0
+IsValueSeen eyes pc value = eyes.sees (value_label eyes.scene.basis pc value) ≡ true
 
 -- The variables and the temporaries of two threads are the same where a value uses them and they may be seen, and so
 -- are
 -- the operands that it releases. Its first read left the temporary of this number.
 abbrev pub HoldAlike : Eyes → Label → (VarId → ℤ) → (VarId → ℤ) → List ℤ → List ℤ → ℕ → ExprTree → Type 0
 HoldAlike eyes pc variables others temps held first (number value) = ⊤
-HoldAlike eyes pc variables others temps held first (local x) = IsSeen eyes pc (local x) → variables x ≡ others x
+HoldAlike eyes pc variables others temps held first (local x) = IsValueSeen eyes pc (local x) → variables x ≡ others x
 HoldAlike eyes pc variables others temps held first (scalar field) =
-    IsSeen eyes pc (scalar field) → temporary_at temps first ≡ temporary_at held first
+    IsValueSeen eyes pc (scalar field) → temporary_at temps first ≡ temporary_at held first
 HoldAlike eyes pc variables others temps held first (element field index) =
-    IsSeen eyes pc (element field index) →
+    IsValueSeen eyes pc (element field index) →
     temporary_at temps (first + reads_in index) ≡ temporary_at held (first + reads_in index)
 HoldAlike eyes pc variables others temps held first (inverted operand) =
     HoldAlike eyes pc variables others temps held first operand

@@ -17,7 +17,7 @@ use Rattle.host_code.specs.declared.message.Message.TheVariants as message
 use Rattle.host_code.specs.Riders.{Rider}
 use Rattle.host_code.specs.Code.{CodeFieldShape, CodeVariableShape, halt, part_of, field_at, variable_at, entry_at}
 use Rattle.host_code.specs.Thread.{ThreadShape, WaitingShape}
-use Rattle.host_core.specs.Host.{HostShape}
+use Rattle.host_core.specs.Host.{HostState}
 use Rattle.net_world.specs.Flying.{Flight}
 use Rattle.net_world.specs.Told.{SentMessage}
 use Rattle.net_world.specs.World.{WorldShape, state_at}
@@ -36,7 +36,7 @@ pub record HostView : Type 0 where
   pub frames : ℕ → ℕ
   pub requests : ℕ → ℕ
 
-pub record View : Type 0 where
+pub record LowView : Type 0 where
   pub hosts : HostId → HostView
   pub flying : HostId → HostId → List Flight
   pub sent : List SentMessage
@@ -138,7 +138,7 @@ is_shown eyes entry = not (is_hidden eyes entry.entry.0)
 
 -- This is what may be seen of a host: fields, variables and counts where they may be seen, and the threads and entries
 -- that may be seen, in order.
-pub record ShowsHost (eyes : Eyes) (host : HostId) (state : HostShape) (view : HostView) : Type 0 where
+pub record ShowsHost (eyes : Eyes) (host : HostId) (state : HostState) (view : HostView) : Type 0 where
   pub key : state.key ≡ view.key
   pub rows : (field : FieldId) → sees_field eyes field ≡ true → row_of state.rows field.0 ≡ view.rows field.0
   pub variables : (frame : FrameId) (x : VarId) → sees_variable eyes x ≡ true →
@@ -153,8 +153,8 @@ pub record ShowsHost (eyes : Eyes) (host : HostId) (state : HostShape) (view : H
       slice_index state.requests place ≡ view.requests place
 
 -- This is what may be seen of a world, with no look at what goes on unseen.
-pub record Shows (eyes : Eyes) (world : WorldShape) (view : View) : Type 0 where
-  pub hosts : (host : HostId) (state : HostShape) → state_at world host ≡ Some state →
+pub record Shows (eyes : Eyes) (world : WorldShape) (view : LowView) : Type 0 where
+  pub hosts : (host : HostId) (state : HostState) → state_at world host ≡ Some state →
       ShowsHost eyes host state (view.hosts host)
   pub flying : (from to : HostId) → flights_view eyes from to (world.flying from to) ≡ view.flying from to
   pub sent : world.sent ≡ view.sent
@@ -189,7 +189,7 @@ exit_of eyes host place = exit_within (length (part_of eyes.code host)) eyes hos
 
 -- ---- what is owed
 
-abbrev pub with_host : View → HostId → HostView → View
+abbrev pub with_host : LowView → HostId → HostView → LowView
 with_host view host now = record view { hosts = λ other. if other.0 == host.0 then now else view.hosts other }
 
 -- a thread that goes on in the open
@@ -201,7 +201,7 @@ thread_out place frame token =
 abbrev pub host_with_thread : HostView → ThreadShape → HostView
 host_with_thread view thread = record view { running = thread ∷ view.running }
 
-abbrev pub with_thread : View → HostId → ℕ → FrameId → Token → View
+abbrev pub with_thread : LowView → HostId → ℕ → FrameId → Token → LowView
 with_thread view host place frame token =
     with_host view host (host_with_thread (view.hosts host) (thread_out place frame token))
 
@@ -219,7 +219,7 @@ host_popped eyes host top below view =
     thread_popped eyes host top (entry_at eyes.code top.entry) (record view { entries = below })
 
 -- A token is given back to the host that it names. Where it is not that of the top entry, that has no effect.
-abbrev pub GivenBack : Eyes → View → Token → List StackEntry → View → Type 0
+abbrev pub GivenBack : Eyes → LowView → Token → List StackEntry → LowView → Type 0
 GivenBack eyes view token [] after = after ≡ view
 GivenBack eyes view token (top ∷ below) after =
     ((top.token ≡ token)
@@ -233,21 +233,21 @@ pub data Spot : Type 0 where
   given_back : Token → Spot
 
 -- what comes into the open in the end
-pub data Owed : Type 0 where
-  nothing : Owed
-  goes_on : HostId → ℕ → FrameId → Token → Owed
-  gives : Token → Owed
+pub data OwedInView : Type 0 where
+  nothing : OwedInView
+  goes_on : HostId → ℕ → FrameId → Token → OwedInView
+  gives : Token → OwedInView
 
 -- In a block that may not be seen, the token is given back in the end. At the guard of a loop it goes on behind the
 -- loop.
-abbrev pub owed_at : Eyes → Spot → Owed
+abbrev pub owed_at : Eyes → Spot → OwedInView
 owed_at eyes nowhere = nothing
 owed_at eyes (given_back token) = gives token
 owed_at eyes (at host place frame token) =
     if is_deep eyes host place then gives token else goes_on host (exit_of eyes host place) frame token
 
 -- This is seen once all is done that is owed, if that comes to an end.
-abbrev pub Completed : Eyes → Owed → View → View → Type 0
+abbrev pub Completed : Eyes → OwedInView → LowView → LowView → Type 0
 Completed eyes nothing view after = after ≡ view
 Completed eyes (goes_on host place frame token) view after = after ≡ with_thread view host place frame token
 Completed eyes (gives token) view after = GivenBack eyes view token (view.hosts token.host).entries after

@@ -13,7 +13,7 @@ use Rattle.split_shades.specs.Worked.{outer, guarding, looping, scene_on}
 use Rattle.token_laws.specs.TokenExamples.{small, host_id, entry_id, first_token, second_token}
 use Rattle.seen_world.specs.Eyes.{Eyes}
 use Rattle.agreement.specs.Turns.{variable_shown}
-use Rattle.agreement.specs.Views.{View, HostView, with_host, host_with_thread, thread_out}
+use Rattle.agreement.specs.Views.{LowView, HostView, with_host, host_with_thread, thread_out}
 
 -- an instruction under these labels of itself and of its block
 abbrev shade_under : Label → Label → Option ℕ → Shade
@@ -61,11 +61,11 @@ host_with entries = record {
   requests = λ place. 0;
 }
 
-abbrev pub one_entry : View
+abbrev pub one_entry : LowView
 one_entry = record { hosts = λ host. host_with (top ∷ []); flying = λ from to. []; sent = [] }
 
 -- its thread goes on at a place
-abbrev pub popped_at : ℕ → View
+abbrev pub popped_at : ℕ → LowView
 popped_at place =
     with_host one_entry (host_id 0) (host_with_thread (host_with []) (thread_out place main_frame second_token))
 
@@ -87,20 +87,20 @@ riding_eyes = record small_eyes {
 -- ---- turns
 
 -- a thread that runs on a host on which nothing else is seen
-abbrev pub idle : View
+abbrev pub idle : LowView
 idle = record { hosts = λ host. host_with []; flying = λ from to. []; sent = [] }
 
 abbrev pub runs_at : ℕ → ThreadShape
 runs_at place = thread_out place main_frame second_token
 
 -- the variable has a value, and the thread is at a place
-abbrev pub set_at : ℕ → ℤ → View
+abbrev pub set_at : ℕ → ℤ → LowView
 set_at place value =
     let shown = variable_shown (host_with []) main_frame a_variable value in
     with_host (with_host idle (host_id 0) shown) (host_id 0) (host_with_thread shown (runs_at place))
 
 -- the thread is at a place
-abbrev pub came_to : ℕ → View
+abbrev pub came_to : ℕ → LowView
 came_to place =
     with_host (with_host idle (host_id 0) (host_with [])) (host_id 0) (host_with_thread (host_with []) (runs_at place))
 

@@ -19,7 +19,7 @@ ghost use Rattle.host_code.specs.Thread.{ThreadShape};
 ghost use Rattle.host_code.specs.Thread.Awaited.{acknowledgement, token_of_entry};
 ghost use Rattle.host_core.specs.Host as host_state;
 ghost use Rattle.host_core.specs.Start.{main_frame};
-ghost use Rattle.host_core.specs.Taking.{Passes};
+ghost use Rattle.host_core.specs.Taking.{PassesCheck};
 ghost use Rattle.host_core.specs.Values.{value_of_nodes};
 ghost use Rattle.split_rules.specs.Expressions.{nodes_of};
 ghost use Rattle.split_rules.specs.Releases.{ReleasesShape};
@@ -43,11 +43,11 @@ ghost use Rattle.agreement.specs.Asking.{AsksElsewhere, RunsAsking, carried_inde
 ghost use Rattle.agreement.specs.AskingExamples.{other_frame, other_token, asked_for};
 ghost use Rattle.agreement.specs.Comes.{Comes, HasCome};
 ghost use Rattle.agreement.specs.Handing.{handed, RunsHanding, shown_variables, SeenHanding, sent_view};
-ghost use Rattle.agreement.specs.Leads.{Link, links_on, hidden_waiting, Leads, Agree};
-ghost use Rattle.agreement.specs.Turns.{ChangesAlone, RunsAlone, Carried, carried_value, carried_in};
+ghost use Rattle.agreement.specs.Leads.{HiddenEntry, links_on, hidden_waiting, Leads, Agree};
+ghost use Rattle.agreement.specs.Turns.{ChangesAlone, RunsAtInstruction, Carried, carried_value, carried_in};
 ghost use Rattle.agreement.specs.Turns.{SeenOperation, SeenTurn};
-ghost use Rattle.agreement.specs.Values.{IsSeen, HoldAlike};
-ghost use Rattle.agreement.specs.Views.{View, HostView, ShowsHost, Shows, running_view, Owed, goes_on, gives};
+ghost use Rattle.agreement.specs.Values.{IsValueSeen, HoldAlike};
+ghost use Rattle.agreement.specs.Views.{LowView, HostView, ShowsHost, Shows, running_view, OwedInView, goes_on, gives};
 ghost use Rattle.agreement.specs.Views.{Completed, at, owed_at};
 ghost use Rattle.agreement.specs.Views.{flies_open, flights_view, message_view, is_shown, exit_of};
 ghost use Rattle.agreement.specs.Worked.{small_eyes, one_entry, popped_at, a_variable, idle, runs_at, set_at};
@@ -56,14 +56,14 @@ ghost use Rattle.agreement.specs.Worked.{came_to, seven, other_variable, riding_
 /// What may be seen of a world, where something goes on unseen.
 pub fn view_laws()
     // What is seen once all is done that is owed is one view.
-    ensures once { (eyes : Eyes) (owed : Owed) (view first second : View) →
+    ensures once { (eyes : Eyes) (owed : OwedInView) (view first second : LowView) →
         Completed eyes owed view first → Completed eyes owed view second → first ≡ second }
     // Whatever goes on with one token in blocks that may not be seen owes the same, wherever it is.
     ensures deep { (eyes : Eyes) (host other : HostId) (place next : ℕ) (frame later : FrameId) (token : Token) →
         is_deep eyes host place ≡ true → is_deep eyes other next ≡ true →
         owed_at eyes (at host place frame token) ≡ owed_at eyes (at other next later token) }
     // Each world shows some view.
-    ensures shown { (eyes : Eyes) (world : WorldShape) → (view : View) × Shows eyes world view }
+    ensures shown { (eyes : Eyes) (world : WorldShape) → (view : LowView) × Shows eyes world view }
     // In the open it goes on at the very place, where that may be seen.
     ensures in_open { (eyes : Eyes) (host : HostId) (place : ℕ) →
         is_open eyes host place ≡ true → exit_of eyes host place ≡ place }
@@ -84,12 +84,13 @@ pub fn view_laws()
     ensures thread { (eyes : Eyes) (host : HostId) (thread : ThreadShape) →
         is_open eyes host thread.at ≡ false → running_view eyes host (Some thread) ≡ [] }
     // A host shows the same where it leaves what may be seen of it.
-    ensures stays { (eyes : Eyes) (host : HostId) (old new : host_state.HostShape) (view : HostView) →
+    ensures stays { (eyes : Eyes) (host : HostId) (old new : host_state.HostState) (view : HostView) →
         ShowsHost eyes host old view → StaysSeen eyes host old new →
         running_view eyes host new.running ≡ running_view eyes host old.running →
         filter (is_shown eyes) new.entries ≡ filter (is_shown eyes) old.entries → ShowsHost eyes host new view }
     // A hidden entry that is pushed is the last of the chain of hidden ones, which stand above all others.
-    ensures chain { (eyes : Eyes) (host : HostId) (links : List Link) (entries : List StackEntry) (top : StackEntry) →
+    ensures chain { (eyes : Eyes) (host : HostId) (links : List HiddenEntry) (entries : List StackEntry)
+        (top : StackEntry) →
         is_hidden eyes top.entry.0 ≡ true → entries ≡ links_on host links ++ filter (is_shown eyes) entries →
         top ∷ entries
         ≡ links_on host (record { host = host; entry = top } ∷ links) ++ filter (is_shown eyes) (top ∷ entries) }
@@ -101,7 +102,7 @@ pub fn value_laws()
     // same.
     ensures same { (eyes : Eyes) (pc : Label) (variables others : VarId → ℤ) (temps held : List ℤ) (first : ℕ)
         (value : ExprTree) →
-        AreEyes eyes → HoldAlike eyes pc variables others temps held first value → IsSeen eyes pc value →
+        AreEyes eyes → HoldAlike eyes pc variables others temps held first value → IsValueSeen eyes pc value →
         value_of_nodes variables temps (nodes_of first value) ≡ value_of_nodes others held (nodes_of first value) }
 {}
 
@@ -109,17 +110,17 @@ pub fn value_laws()
 pub fn coming_laws()
     // Where nothing else goes on unseen, the world leads to what is seen then: the thread at its place, or, where that
     // may not be seen, what is seen once all is done that it owes.
-    ensures comes { (eyes : Eyes) (world : WorldShape) (me : HostId) (state : host_state.HostShape)
-        (thread : ThreadShape) (token : Token) (view after : View) →
+    ensures comes { (eyes : Eyes) (world : WorldShape) (me : HostId) (state : host_state.HostState)
+        (thread : ThreadShape) (token : Token) (view after : LowView) →
         AreEyes eyes → HasCome eyes world me state thread token view → Comes eyes view me thread token after →
         Leads eyes world after }
     // That is one view.
-    ensures once { (eyes : Eyes) (view : View) (host : HostId) (thread : ThreadShape) (token : Token)
-        (first second : View) →
+    ensures once { (eyes : Eyes) (view : LowView) (host : HostId) (thread : ThreadShape) (token : Token)
+        (first second : LowView) →
         Comes eyes view host thread token first → Comes eyes view host thread token second → first ≡ second }
     // In blocks that may not be seen it does not depend on the place, as behind a branch whose guard may not be seen.
-    ensures deep { (eyes : Eyes) (view : View) (host other : HostId) (thread later : ThreadShape) (token : Token)
-        (first second : View) →
+    ensures deep { (eyes : Eyes) (view : LowView) (host other : HostId) (thread later : ThreadShape) (token : Token)
+        (first second : LowView) →
         is_open eyes host thread.at ≡ false → is_open eyes other later.at ≡ false →
         is_deep eyes host thread.at ≡ true → is_deep eyes other later.at ≡ true →
         Comes eyes view host thread token first → Comes eyes view other later token second → first ≡ second }
@@ -129,20 +130,21 @@ pub fn coming_laws()
 pub fn seen_laws()
     // A quiet world that events lead to, and that leads to a view, leads after it to what is seen of it then.
     ensures turn { (eyes : Eyes) (rows : List declared_hosts.HostShape) (bad : ℕ) (store : List (List ℤ))
-        (events : List Event) (world after : WorldShape) (host : HostId) (view : View)
-        (alone : RunsAlone eyes.code world host) →
+        (events : List Event) (world after : WorldShape) (host : HostId) (view : LowView)
+        (alone : RunsAtInstruction eyes.code world host) →
         AreEyes eyes → Watches eyes (world_at_start eyes.code rows bad store) →
         IsReached eyes.code rows bad store events world → IsStep eyes.code world (Turn host) after →
         IsQuiet eyes.code world → Leads eyes world view →
-        (seen : View) × SeenTurn eyes view host (carried_in eyes alone.state alone.thread alone.instruction.op) seen
+        (seen : LowView) × SeenTurn eyes view host (carried_in eyes alone.state alone.thread alone.instruction.op) seen
         × Leads eyes after seen }
     // That is one view.
-    ensures once { (eyes : Eyes) (view : View) (host : HostId) (carried : Carried) (first second : View) →
+    ensures once { (eyes : Eyes) (view : LowView) (host : HostId) (carried : Carried) (first second : LowView) →
         SeenTurn eyes view host carried first → SeenTurn eyes view host carried second → first ≡ second }
     // In two quiet worlds that agree the turn carries the same, where it releases the same values in both.
     ensures carried { (eyes : Eyes) (rows : List declared_hosts.HostShape) (bad : ℕ) (store start : List (List ℤ))
-        (events others : List Event) (one other : WorldShape) (host : HostId) (alone : RunsAlone eyes.code one host)
-        (twin : RunsAlone eyes.code other host) →
+        (events others : List Event) (one other : WorldShape) (host : HostId)
+        (alone : RunsAtInstruction eyes.code one host)
+        (twin : RunsAtInstruction eyes.code other host) →
         let operands = (eyes.shades.at host alone.thread.at).released in
         AreEyes eyes →
         map (host_state.value_in_thread alone.state alone.thread) operands
@@ -162,17 +164,17 @@ pub fn seen_laws()
         Watches eyes (world_at_start eyes.code rows bad store) →
         Watches eyes (world_at_start eyes.code rows bad start) →
         IsReached eyes.code rows bad store events one → IsReached eyes.code rows bad start others other →
-        RunsAlone eyes.code one host → IsStep eyes.code one (Turn host) one_after →
+        RunsAtInstruction eyes.code one host → IsStep eyes.code one (Turn host) one_after →
         IsStep eyes.code other (Turn host) other_after → IsQuiet eyes.code one → IsQuiet eyes.code other →
         Agree eyes one other → Agree eyes one_after other_after }
     // A quiet world in which a thread hands control over leads to what is seen then, which is one view.
     ensures hands { (eyes : Eyes) (rows : List declared_hosts.HostShape) (bad : ℕ) (store : List (List ℤ))
-        (events : List Event) (world after : WorldShape) (host : HostId) (view : View) →
+        (events : List Event) (world after : WorldShape) (host : HostId) (view : LowView) →
         RunsHanding eyes.code world host → AreEyes eyes → Watches eyes (world_at_start eyes.code rows bad store) →
         IsReached eyes.code rows bad store events world → IsStep eyes.code world (Turn host) after →
         IsQuiet eyes.code world → Leads eyes world view →
-        (seen : View) × SeenHanding eyes view host seen × Leads eyes after seen }
-    ensures hands_once { (eyes : Eyes) (view : View) (host : HostId) (first second : View) →
+        (seen : LowView) × SeenHanding eyes view host seen × Leads eyes after seen }
+    ensures hands_once { (eyes : Eyes) (view : LowView) (host : HostId) (first second : LowView) →
         SeenHanding eyes view host first → SeenHanding eyes view host second → first ≡ second }
     // So two quiet worlds that agree do after it.
     ensures hands_agree { (eyes : Eyes) (rows : List declared_hosts.HostShape) (bad : ℕ)
@@ -186,16 +188,16 @@ pub fn seen_laws()
         IsQuiet eyes.code one → IsQuiet eyes.code other → Agree eyes one other → Agree eyes one_after other_after }
     // A quiet world in which a thread asks another host leads to what is seen then, with what it carries.
     ensures asks { (eyes : Eyes) (rows : List declared_hosts.HostShape) (bad : ℕ) (store : List (List ℤ))
-        (events : List Event) (world after : WorldShape) (host : HostId) (view : View)
+        (events : List Event) (world after : WorldShape) (host : HostId) (view : LowView)
         (asking : RunsAsking eyes.code world host) →
         AreEyes eyes → Watches eyes (world_at_start eyes.code rows bad store) →
         IsReached eyes.code rows bad store events world → IsStep eyes.code world (Turn host) after →
         IsQuiet eyes.code world → Leads eyes world view →
-        (seen : View)
+        (seen : LowView)
         × SeenAsking eyes view host (carried_asking eyes asking.state asking.thread asking.instruction.op) seen
         × Leads eyes after seen }
     // That is one view.
-    ensures asks_once { (eyes : Eyes) (view : View) (host : HostId) (carried : Carried) (first second : View) →
+    ensures asks_once { (eyes : Eyes) (view : LowView) (host : HostId) (carried : Carried) (first second : LowView) →
         SeenAsking eyes view host carried first → SeenAsking eyes view host carried second → first ≡ second }
     // In two quiet worlds that agree the turn carries the same, where it releases the same values in both.
     ensures asks_carried { (eyes : Eyes) (rows : List declared_hosts.HostShape) (bad : ℕ) (store start : List (List ℤ))
@@ -227,11 +229,11 @@ pub fn seen_laws()
     ensures turn_kinds { (eyes : Eyes) (rows : List declared_hosts.HostShape) (bad : ℕ) (store : List (List ℤ))
         (events : List Event) (world after : WorldShape) (host : HostId) →
         IsReached eyes.code rows bad store events world → IsStep eyes.code world (Turn host) after →
-        RunsAlone eyes.code world host ⊎ (RunsHanding eyes.code world host ⊎ RunsAsking eyes.code world host) }
+        RunsAtInstruction eyes.code world host ⊎ (RunsHanding eyes.code world host ⊎ RunsAsking eyes.code world host) }
     // It does one of these alone.
     ensures kinds_apart { (code : CodeShape) (world : WorldShape) (host : HostId) →
-        (¬ (RunsAlone code world host × RunsHanding code world host))
-        × (¬ (RunsAlone code world host × RunsAsking code world host))
+        (¬ (RunsAtInstruction code world host × RunsHanding code world host))
+        × (¬ (RunsAtInstruction code world host × RunsAsking code world host))
         × (¬ (RunsHanding code world host × RunsAsking code world host)) }
     // So two quiet worlds that agree do after the turns of one host, where both release the same.
     ensures any_turn { (eyes : Eyes) (rows : List declared_hosts.HostShape) (bad : ℕ) (store start : List (List ℤ))
@@ -251,7 +253,7 @@ pub fn hidden_laws()
     // The world before the first event leads to a view.
     ensures start { (eyes : Eyes) (rows : List declared_hosts.HostShape) (bad : ℕ) (store : List (List ℤ)) →
         AreEyes eyes → IsSoundCode eyes.code → Watches eyes (world_at_start eyes.code rows bad store) →
-        (shown : View) × Leads eyes (world_at_start eyes.code rows bad store) shown }
+        (shown : LowView) × Leads eyes (world_at_start eyes.code rows bad store) shown }
     // Two worlds before the first event agree that have the same values in all fields which may be seen and stand on
     // obeying hosts.
     ensures starts { (eyes : Eyes) (rows : List declared_hosts.HostShape) (bad : ℕ) (one other : List (List ℤ)) →
@@ -262,13 +264,13 @@ pub fn hidden_laws()
     // or what was owed is seen now, or an entry that may be seen is taken off and its thread goes on at the guard of a
     // loop, which is owed then.
     ensures kept { (eyes : Eyes) (rows : List declared_hosts.HostShape) (bad : ℕ) (store : List (List ℤ))
-        (events : List Event) (world after : WorldShape) (event : Event) (shown : View) →
+        (events : List Event) (world after : WorldShape) (event : Event) (shown : LowView) →
         AreEyes eyes → Watches eyes (world_at_start eyes.code rows bad store) →
         IsReached eyes.code rows bad store events world → IsStep eyes.code world event after →
         IsSecret eyes.code world event → Leads eyes world shown → Leads eyes after shown }
     // So it is after events of which none may be seen.
     ensures along { (eyes : Eyes) (rows : List declared_hosts.HostShape) (bad : ℕ) (store : List (List ℤ))
-        (events : List Event) (world : WorldShape) (later : List Event) (after : WorldShape) (shown : View) →
+        (events : List Event) (world : WorldShape) (later : List Event) (after : WorldShape) (shown : LowView) →
         AreEyes eyes → Watches eyes (world_at_start eyes.code rows bad store) →
         IsReached eyes.code rows bad store events world → IsSeenRun eyes.code world later [] after →
         Leads eyes world shown → Leads eyes after shown }
@@ -279,34 +281,34 @@ pub fn hidden_laws()
         IsReached eyes.code rows bad store events world → IsSeenRun eyes.code world later [] after →
         Agree eyes world other → Agree eyes after other }
     // So it is after a secret turn, whatever instruction it runs.
-    ensures turn { (eyes : Eyes) (world after : WorldShape) (host : HostId) (shown : View) →
+    ensures turn { (eyes : Eyes) (world after : WorldShape) (host : HostId) (shown : LowView) →
         AreEyes eyes → IsSoundCode eyes.code → Watches eyes world → ShapeFits eyes.code world →
         ShapeFits eyes.code after → HostsKeep eyes world → IsStep eyes.code world (Turn host) after →
         IsSecret eyes.code world (Turn host) → Leads eyes world shown → Leads eyes after shown }
     // So it is after a secret take, whatever message is taken.
-    ensures take { (eyes : Eyes) (world after : WorldShape) (from to : HostId) (place : ℕ) (shown : View) →
+    ensures take { (eyes : Eyes) (world after : WorldShape) (from to : HostId) (place : ℕ) (shown : LowView) →
         AreEyes eyes → IsSoundCode eyes.code → Watches eyes world → ShapeFits eyes.code world →
         PointsHold eyes world → IsStep eyes.code world (Take from to place) after →
         IsSecret eyes.code world (Take from to place) → Leads eyes world shown → Leads eyes after shown }
     // A secret answer in flight passes its check, and so the thread goes on that waits for it.
     ensures answers { (eyes : Eyes) (world : WorldShape) (from to : HostId) (place : ℕ) (flight : Flight)
-        (state : host_state.HostShape) (shown : View) →
+        (state : host_state.HostState) (shown : LowView) →
         ShapeFits eyes.code world → PointsHold eyes world → slice_get (world.flying from to) place ≡ Some flight →
         state_at world to ≡ Some state → sees_at eyes flight.label ≡ false →
         IsSome (number_answered flight.message) → Leads eyes world shown →
-        Passes eyes.code state from flight.message }
+        PassesCheck eyes.code state from flight.message }
     // Where nothing secret is in flight and no secret thread runs, what will be seen is seen now. Then no secret thread
     // waits either, and no entry is hidden.
-    ensures quiet { (eyes : Eyes) (world : WorldShape) (shown : View) →
+    ensures quiet { (eyes : Eyes) (world : WorldShape) (shown : LowView) →
         AreEyes eyes → Watches eyes world → ShapeFits eyes.code world → IsQuiet eyes.code world →
         Leads eyes world shown →
-        Shows eyes world shown × ((host : HostId) (state : host_state.HostShape) → state_at world host ≡ Some state →
+        Shows eyes world shown × ((host : HostId) (state : host_state.HostState) → state_at world host ≡ Some state →
         (hidden_waiting eyes host state.waiting ≡ []) × (state.entries ≡ filter (is_shown eyes) state.entries)) }
     // Such a world leads to what it shows.
-    ensures calm { (eyes : Eyes) (world : WorldShape) (shown : View) →
+    ensures calm { (eyes : Eyes) (world : WorldShape) (shown : LowView) →
         AreEyes eyes → Watches eyes world → ShapeFits eyes.code world → IsQuiet eyes.code world →
         Shows eyes world shown →
-        ((host : HostId) (state : host_state.HostShape) → state_at world host ≡ Some state →
+        ((host : HostId) (state : host_state.HostState) → state_at world host ≡ Some state →
         (hidden_waiting eyes host state.waiting ≡ []) × (state.entries ≡ filter (is_shown eyes) state.entries)) →
         Leads eyes world shown }
 {}
@@ -401,13 +403,13 @@ pub fn worked_laws()
         (asked_for (pos 7))) }
     ensures asks_on { ¬ (SeenAsking small_eyes (came_to 1) (host_id 0) (carried_index (pos 0)) (came_to 2)) }
     // No value is carried that is sent to be kept where it may not be seen.
-    ensures unseen_sent { (state : host_state.HostShape) (thread : ThreadShape) →
+    ensures unseen_sent { (state : host_state.HostState) (thread : ThreadShape) →
         carried_asking small_eyes state thread (op.Send a_variable (host_id 1)) ≡ carried_value (pos 0) }
     // A value is not carried of what may not be seen, nor a guard into a block that may not be seen. Other guards are.
-    ensures unseen_value { (state : host_state.HostShape) (thread : ThreadShape) →
+    ensures unseen_value { (state : host_state.HostState) (thread : ThreadShape) →
         carried_in small_eyes state thread (op.Let a_variable seven) ≡ carried_value (pos 0) }
-    ensures seen_guard { (state : host_state.HostShape) (thread : ThreadShape) → thread.at ≡ 2 →
+    ensures seen_guard { (state : host_state.HostState) (thread : ThreadShape) → thread.at ≡ 2 →
         carried_in small_eyes state thread (op.Branch seven 6) ≡ carried_value (pos 7) }
-    ensures unseen_guard { (state : host_state.HostShape) (thread : ThreadShape) → thread.at ≡ 1 →
+    ensures unseen_guard { (state : host_state.HostState) (thread : ThreadShape) → thread.at ≡ 1 →
         carried_in small_eyes state thread (op.Branch seven 6) ≡ carried_value (pos 0) }
 {}

@@ -7,13 +7,13 @@ ghost use Rattle.host_code.specs.Sound.{IsSoundCode};
 ghost use Rattle.event_text.specs.declared.event.Event.{Event};
 ghost use Rattle.event_text.specs.declared.event.Event.TheVariants.{Turn};
 ghost use Rattle.net_world.specs.Fits.{HasOwnToken};
-ghost use Rattle.net_world.specs.Released.{AreAlike, Releases, AreReleased, released_at};
+ghost use Rattle.net_world.specs.Released.{OneIsFront, Releases, AreReleased, released_at};
 ghost use Rattle.net_world.specs.Secret.{IsQuiet, IsSeenRun, IsPrompt};
 ghost use Rattle.net_world.specs.Told.{SentMessage};
 ghost use Rattle.net_world.specs.World.{WorldShape, AreHostsOf, world_at_start, IsStep};
 ghost use Rattle.split_rules.specs.Placed.{PlacedProgram};
 ghost use Rattle.split_rules.specs.Allowed.{IsAllowed};
-ghost use Rattle.split_rules.specs.Held.{IsHeld};
+ghost use Rattle.split_rules.specs.Held.{IsWellHeld};
 ghost use Rattle.split_rules.specs.Releases.{ReleasesShape, releases_of};
 ghost use Rattle.split_rules.specs.SplitCode.{split_code};
 ghost use Rattle.split_rules.specs.Splittable.{IsSplittable};
@@ -63,7 +63,7 @@ pub fn run_laws()
         Watches eyes (world_at_start eyes.code rows bad start) → AreStartsAlike eyes store start →
         AreReleased eyes.code table (world_at_start eyes.code rows bad store) events values →
         AreReleased eyes.code table (world_at_start eyes.code rows bad start) others others_values →
-        AreAlike values others_values →
+        OneIsFront values others_values →
         All (HasOwnToken (world_at_start eyes.code rows bad store)) seen →
         IsSeenRun eyes.code (world_at_start eyes.code rows bad store) events seen one →
         IsSeenRun eyes.code (world_at_start eyes.code rows bad start) others seen other →
@@ -79,7 +79,7 @@ pub fn run_laws()
         Watches eyes (world_at_start eyes.code rows bad start) → AreStartsAlike eyes store start →
         AreReleased eyes.code table (world_at_start eyes.code rows bad store) events values →
         AreReleased eyes.code table (world_at_start eyes.code rows bad start) others others_values →
-        AreAlike values others_values →
+        OneIsFront values others_values →
         All (HasOwnToken (world_at_start eyes.code rows bad store)) seen →
         IsSeenRun eyes.code (world_at_start eyes.code rows bad store) events (seen ++ more) one →
         IsSeenRun eyes.code (world_at_start eyes.code rows bad start) others seen other →
@@ -95,16 +95,16 @@ pub fn run_laws()
         let table = releases_of placed in
         let first = world_at_start code placed.hosts.hosts bad store in
         let second = world_at_start code placed.hosts.hosts bad start in
-        IsSplittable placed → IsAllowed placed → IsHeld placed → AreResultsLabelled placed.labelled.program →
+        IsSplittable placed → IsAllowed placed → IsWellHeld placed → AreResultsLabelled placed.labelled.program →
         AreStoresAlike code first store start →
         AreReleased code table first events values → AreReleased code table second others others_values →
-        AreAlike values others_values → All (HasOwnToken first) seen →
+        OneIsFront values others_values → All (HasOwnToken first) seen →
         IsSeenRun code first events (seen ++ more) one → IsSeenRun code second others seen other →
         IsPrompt code first events → IsPrompt code second others →
         (rest : List SentMessage) × (one.sent ≡ other.sent ++ rest) }
     // A run of a program that releases nothing releases no value, so nothing need be known of what its runs release.
     ensures none { (placed : PlacedProgram) (world after : WorldShape) (events seen : List Event) →
-        IsSplittable placed → IsAllowed placed → IsHeld placed →
+        IsSplittable placed → IsAllowed placed → IsWellHeld placed →
         AreResultsLabelled placed.labelled.program → ReleasesNothing placed.labelled.program →
         IsSeenRun (split_code placed) world events seen after →
         AreReleased (split_code placed) (releases_of placed) world events [] }
@@ -113,7 +113,7 @@ pub fn run_laws()
         let code = split_code placed in
         let first = world_at_start code placed.hosts.hosts bad store in
         let second = world_at_start code placed.hosts.hosts bad start in
-        IsSplittable placed → IsAllowed placed → IsHeld placed →
+        IsSplittable placed → IsAllowed placed → IsWellHeld placed →
         AreResultsLabelled placed.labelled.program → ReleasesNothing placed.labelled.program →
         AreStoresAlike code first store start → All (HasOwnToken first) seen →
         IsSeenRun code first events (seen ++ more) one → IsSeenRun code second others seen other →
@@ -134,6 +134,6 @@ pub fn release_examples()
     ensures bad_host { released_at a_table bad_start (host_id 1) ≡ [] }
     ensures idle_host { released_at a_table good_start (host_id 1) ≡ [] }
     // Lists are alike of which one goes on where the other ends, and no others.
-    ensures alike { AreAlike (pos 7 ∷ pos 8 ∷ []) (pos 7 ∷ []) }
-    ensures alike_more { ¬ (AreAlike (pos 7 ∷ pos 8 ∷ []) (pos 8 ∷ [])) }
+    ensures alike { OneIsFront (pos 7 ∷ pos 8 ∷ []) (pos 7 ∷ []) }
+    ensures alike_more { ¬ (OneIsFront (pos 7 ∷ pos 8 ∷ []) (pos 8 ∷ [])) }
 {}

@@ -19,21 +19,23 @@ ghost use Rattle.seen_world.specs.Eyes.{Eyes, AreEyes, Watches};
 ghost use Rattle.agreement.specs.Leads.{Leads, Agree};
 ghost use Rattle.agreement.specs.Taken.{carried_taken, view_without, SeenPassing, SeenMessage, SeenTake, SeenAct};
 ghost use Rattle.agreement.specs.TakenExamples.{an_ack, waits_seen, woken_on, set_for};
-ghost use Rattle.agreement.specs.Views.{View};
+ghost use Rattle.agreement.specs.Views.{LowView};
 ghost use Rattle.agreement.specs.Worked.{small_eyes, one_entry, popped_at, a_variable, idle, set_at};
 
 /// What is seen of a message that a host takes in a quiet world, where all that is in flight may be seen.
 pub fn taken_laws()
     // A quiet world that events lead to, and that leads to a view, leads after it to what is seen of it then.
     ensures takes { (eyes : Eyes) (rows : List declared_hosts.HostShape) (bad : ℕ) (store : List (List ℤ))
-        (events : List Event) (world after : WorldShape) (from to : HostId) (place : ℕ) (view : View)
+        (events : List Event) (world after : WorldShape) (from to : HostId) (place : ℕ) (view : LowView)
         (step : IsStep eyes.code world (Take from to place) after) →
         AreEyes eyes → Watches eyes (world_at_start eyes.code rows bad store) →
         IsReached eyes.code rows bad store events world → IsQuiet eyes.code world → Leads eyes world view →
-        (seen : View) × SeenTake eyes view from to place (carried_taken eyes step.state from step.flight.message) seen
+        (seen : LowView) × SeenTake eyes view from to place (carried_taken eyes step.state from step.flight.message)
+        seen
         × Leads eyes after seen }
     // That is one view.
-    ensures once { (eyes : Eyes) (view : View) (from to : HostId) (place : ℕ) (carried : ℤ) (first second : View) →
+    ensures once { (eyes : Eyes) (view : LowView) (from to : HostId) (place : ℕ) (carried : ℤ)
+        (first second : LowView) →
         SeenTake eyes view from to place carried first → SeenTake eyes view from to place carried second →
         first ≡ second }
     // In two quiet worlds that agree the message at one place of a queue carries the same, also where the code releases
@@ -58,16 +60,16 @@ pub fn taken_laws()
         IsQuiet eyes.code one → IsQuiet eyes.code other → Agree eyes one other → Agree eyes one_after other_after }
     // So it is of what a misbehaving host makes a host take. A token of its own is one of a misbehaving host.
     ensures acts { (eyes : Eyes) (rows : List declared_hosts.HostShape) (bad : ℕ) (store : List (List ℤ))
-        (events : List Event) (world after : WorldShape) (from to : HostId) (made : BadMessage) (view : View)
+        (events : List Event) (world after : WorldShape) (from to : HostId) (made : BadMessage) (view : LowView)
         (step : IsStep eyes.code world (Act from to made) after) →
         AreEyes eyes → Watches eyes (world_at_start eyes.code rows bad store) →
         IsReached eyes.code rows bad store events world →
         HasOwnToken (world_at_start eyes.code rows bad store) (Act from to made) →
         IsQuiet eyes.code world → Leads eyes world view →
-        (seen : View) × SeenAct eyes view from to made (carried_taken eyes step.state from step.message) seen
+        (seen : LowView) × SeenAct eyes view from to made (carried_taken eyes step.state from step.message) seen
         × Leads eyes after seen }
-    ensures acts_once { (eyes : Eyes) (view : View) (from to : HostId) (made : BadMessage) (carried : ℤ)
-        (first second : View) →
+    ensures acts_once { (eyes : Eyes) (view : LowView) (from to : HostId) (made : BadMessage) (carried : ℤ)
+        (first second : LowView) →
         SeenAct eyes view from to made carried first → SeenAct eyes view from to made carried second →
         first ≡ second }
     ensures acts_carried { (eyes : Eyes) (rows : List declared_hosts.HostShape) (bad : ℕ)
@@ -123,6 +125,6 @@ pub fn taken_examples()
         (message.RgotoWith main_frame (entry_id 2) second_token ((a_variable, pos 7) ∷ (a_variable, pos 8) ∷ []))
         (pos 0) (set_at 3 (pos 7))) }
     // An element that may not be seen is not carried.
-    ensures unseen_element { (state : host_state.HostShape) (index : ℤ) →
+    ensures unseen_element { (state : host_state.HostState) (index : ℤ) →
         carried_taken small_eyes state (host_id 0) (message.Get first_request a_field index) ≡ pos 0 }
 {}

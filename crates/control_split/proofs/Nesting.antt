@@ -6,7 +6,7 @@ use Rattle.label_lattice.specs.declared.label.Label.{Label}
 use Rattle.jif_tree.specs.Trees.{Heading, ExprTree, BlockTree, done, branch, loop}
 use Rattle.host_code.specs.declared.instruction.Op.TheVariants as op
 use Rattle.split_rules.specs.Emissions.{Emission, Counts, entry, stands, lands, counts_after}
-use Rattle.split_rules.specs.Expressions.{Reading, nodes_of, readings_of, released_by}
+use Rattle.split_rules.specs.Expressions.{ElementReading, nodes_of, readings_of, released_by}
 use Rattle.split_rules.specs.Walk.{Walked, Around, lane_on, entry_id, need_of, emitted, read_emissions, expr_emissions}
 use Rattle.split_rules.specs.Walk.{block_emissions, releasing}
 use Rattle.control_split.specs.Own.{inside_of, branch_front, loop_front, own_emissions}
@@ -14,7 +14,7 @@ use Rattle.control_split.specs.Trace.{TraceShape, traced}
 use Rattle.control_split.proofs.Traces.{traced_append, traced_counts}
 
 -- reads name no entry, and are no branches
-readings_count : (host : HostId) (label : Label) (id : StmtId) (readings : List Reading) (counts : Counts) →
+readings_count : (host : HostId) (label : Label) (id : StmtId) (readings : List ElementReading) (counts : Counts) →
     counts_after counts (read_emissions host label id readings) ≡ counts
 readings_count host label id [] counts = refl
 readings_count host label id (reading ∷ others) counts = readings_count host label id others counts

@@ -9,7 +9,7 @@ use Rattle.jif_tree.specs.Trees.{ExprTree}
 use Rattle.jif_tree.specs.Sizes.{expr_nodes}
 use Rattle.host_code.specs.declared.instruction.Op.TheVariants as op
 use Rattle.split_rules.specs.Emissions.{Emission}
-use Rattle.split_rules.specs.Expressions.{Reading, reads_in, nodes_of, released_by}
+use Rattle.split_rules.specs.Expressions.{ElementReading, reads_in, nodes_of, released_by}
 use Rattle.split_rules.specs.Walk.{Walked, read_emissions, result_emissions, argument_emissions, releasing}
 use Rattle.control_split.specs.Trace.{TraceShape, traced, traced_one}
 use Rattle.split_rules.proofs.ExpressionNodes.{reads_few}
@@ -24,12 +24,12 @@ pub room_behind : (first middle most : ℕ) (left right : ExprTree) → middle �
 room_behind first middle most left right is room = omega (arith, reads_few left, is, room)
 
 pub reads_both : (start between behind : TraceShape) (host : HostId) (label : Label) (statement : StmtId)
-    (one two : List Reading) →
+    (one two : List ElementReading) →
     between ≡ traced start (read_emissions host label statement one) →
     behind ≡ traced between (read_emissions host label statement two) →
     behind ≡ traced start (read_emissions host label statement (one ++ two))
 reads_both start between behind host label statement one two first second =
-    let give : Reading → Emission =
+    let give : ElementReading → Emission =
     λ reading. releasing host label statement (op.Read reading.field reading.index) reading.released in
     second
     ∙ ap (λ (trace : TraceShape). traced trace (read_emissions host label statement two)) first

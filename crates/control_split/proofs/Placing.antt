@@ -9,13 +9,13 @@ use Rattle.js_base.specs.declared.ids.HostId.{HostId}
 use Rattle.label_lattice.specs.declared.label.Label.{Label}
 use Rattle.host_code.specs.declared.instruction.Instr.{Instr}
 use Rattle.host_code.specs.declared.code.Entry.{Entry}
-use Rattle.split_rules.specs.Emissions.{Emission, instruction, entry, stands, lands, Emitted, Named}
+use Rattle.split_rules.specs.Emissions.{Emission, instruction, entry, stands, lands, Emitted, NamedEntry}
 use Rattle.split_rules.specs.SplitCode.{emitted_on, entries_in, label_place}
 use Rattle.control_split.specs.Assembly.{AssemblyShape, list_on, noted, with_item, assembled}
 use Rattle.std.specs.List.{AllByRecursion}
 use Rattle.control_split.specs.declared.parts.TheConstants.{HOST_NUMBERS}
 use Rattle.control_split.specs.declared.trace.TraceItem.{TraceItem}
-use Rattle.split_rules.specs.Settled.{IsWithin}
+use Rattle.split_rules.specs.Settled.{IsOnSomeHost}
 use Rattle.control_split.specs.Trace.{item_of}
 
 -- the instruction that a host gets, before it is known where branches lead
@@ -27,7 +27,7 @@ raw_instruction labels one = record {
 }
 
 -- an entry, before it is known where it stands
-abbrev pub raw_entry : List Label → Named → Entry
+abbrev pub raw_entry : List Label → NamedEntry → Entry
 raw_entry labels named = record {
   host = named.host;
   at = 0;
@@ -58,7 +58,7 @@ list_on_more lists on host one within = elim (eqb_tells on.0 host.0) [
 
 -- the instructions of a host, with those that it had before
 pub lists_after : (labels : List Label) (assembly : AssemblyShape) (emissions : List Emission) (host : HostId) →
-    length assembly.lists ≡ HOST_NUMBERS → AllByRecursion (IsWithin HOST_NUMBERS) emissions →
+    length assembly.lists ≡ HOST_NUMBERS → AllByRecursion (IsOnSomeHost HOST_NUMBERS) emissions →
     list_on (assembled assembly (items_of labels emissions)).lists host
     ≡ list_on assembly.lists host ++ map (raw_instruction labels) (emitted_on host emissions)
 lists_after labels assembly [] host count within = sym (append-nil (list_on assembly.lists host))

@@ -9,13 +9,13 @@ use Rattle.js_base.specs.declared.ids.HostId.{HostId}
 use Rattle.label_lattice.specs.declared.label.Label.{Label}
 use Rattle.host_code.specs.declared.instruction.Op.{Op}
 use Rattle.host_code.specs.declared.instruction.Op.TheVariants as op
-use Rattle.split_rules.specs.Emissions.{Emission, instruction, entry, stands, lands, Named, Counts, counts_after}
+use Rattle.split_rules.specs.Emissions.{Emission, instruction, entry, stands, lands, NamedEntry, Counts, counts_after}
 use Rattle.split_rules.specs.Emissions.{one_more_branch}
 use Rattle.split_rules.specs.SplitCode.{entries_in, part_on, placed_entries}
 use Rattle.control_split.specs.declared.parts.TheConstants.{HOST_NUMBERS}
 use Rattle.control_split.specs.Assembly.{AssemblyShape, first_assembly, with_item, assembled}
 use Rattle.control_split.specs.Assembly.{settled_part, settled_parts, settled_entries}
-use Rattle.split_rules.specs.Settled.{AreSettled, IsWithin, IsOn, host_standing}
+use Rattle.split_rules.specs.Settled.{AreSettled, IsOnSomeHost, IsOn, host_standing}
 use Rattle.control_split.specs.Trace.{item_of}
 use Rattle.control_split.proofs.Placing.{items_of, entries_after}
 use Rattle.control_split.proofs.Whole.{no_instructions, assembly_from, settled_part_is, settled_from, HaveTheirs}
@@ -36,8 +36,8 @@ length_lists labels assembly (lands on number ∷ others) =
     length_lists labels (with_item assembly (item_of labels (lands on number))) others
 
 -- what holds of few hosts holds of more
-wider : (few many : ℕ) (emissions : List Emission) → few ≤ many → AllByRecursion (IsWithin few) emissions →
-    AllByRecursion (IsWithin many) emissions
+wider : (few many : ℕ) (emissions : List Emission) → few ≤ many → AllByRecursion (IsOnSomeHost few) emissions →
+    AllByRecursion (IsOnSomeHost many) emissions
 wider few many [] less within = within
 wider few many (instruction one ∷ others) less within = (omega (arith, within.0), wider few many others less within.1)
 wider few many (entry named ∷ others) less within = (omega (arith, within.0), wider few many others less within.1)
@@ -76,8 +76,8 @@ parts_are counts labels emissions hosts few settled =
 -- ---- entries
 
 -- what holds of each entry holds of all, from a number on
-theirs_from : (emissions : List Emission) (number : ℕ) (named : List Named) →
-    ((place : ℕ) (one : Named) → slice_get named place ≡ Some one →
+theirs_from : (emissions : List Emission) (number : ℕ) (named : List NamedEntry) →
+    ((place : ℕ) (one : NamedEntry) → slice_get named place ≡ Some one →
     (one.host.0 < HOST_NUMBERS) × IsOn one.host (host_standing (number + place) emissions)) →
     HaveTheirs emissions number named
 theirs_from emissions number [] each = tt
@@ -92,8 +92,8 @@ theirs_from emissions number (one ∷ others) each =
     )
 
 -- an entry is on one of the hosts
-entry_within : (count : ℕ) (emissions : List Emission) (place : ℕ) (one : Named) →
-    AllByRecursion (IsWithin count) emissions → slice_get (entries_in emissions) place ≡ Some one →
+entry_within : (count : ℕ) (emissions : List Emission) (place : ℕ) (one : NamedEntry) →
+    AllByRecursion (IsOnSomeHost count) emissions → slice_get (entries_in emissions) place ≡ Some one →
     one.host.0 < count
 entry_within count [] place one within there = absurd (grind (arith, there))
 entry_within count (instruction other ∷ others) place one within there =
@@ -104,7 +104,7 @@ entry_within count (lands on number ∷ others) place one within there =
     entry_within count others place one within.1 there
 entry_within count (entry named ∷ others) zero one within there =
     let same : named ≡ one = ap (λ found. unwrap_or found named) there in
-    let P : Named → Type 0 = λ which. which.host.0 < count in
+    let P : NamedEntry → Type 0 = λ which. which.host.0 < count in
     subst P same within.0
 entry_within count (entry named ∷ others) (suc place) one within there =
     entry_within count others place one within.1 there

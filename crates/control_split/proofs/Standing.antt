@@ -12,7 +12,7 @@ use Rattle.split_rules.specs.SplitCode.{emitted_on, before_entry, before_landing
 use Rattle.control_split.specs.Assembly.{AssemblyShape, list_on, noted, with_item, assembled}
 use Rattle.std.specs.List.{AllByRecursion}
 use Rattle.control_split.specs.declared.parts.TheConstants.{HOST_NUMBERS}
-use Rattle.split_rules.specs.Settled.{host_standing, host_landing, IsWithin}
+use Rattle.split_rules.specs.Settled.{host_standing, host_landing, IsOnSomeHost}
 use Rattle.control_split.specs.Trace.{item_of}
 use Rattle.control_split.proofs.Placing.{raw_instruction, items_of, list_on_more, settle, settle_none, noted_same}
 use Rattle.control_split.proofs.Placing.{noted_other, length_noted}
@@ -71,7 +71,7 @@ settled_first (Some earlier) place later = refl
 
 pub standing_after : (labels : List Label) (assembly : AssemblyShape) (emissions : List Emission) (number : ℕ) →
     number < length assembly.standing → length assembly.lists ≡ HOST_NUMBERS →
-    AllByRecursion (IsWithin HOST_NUMBERS) emissions →
+    AllByRecursion (IsOnSomeHost HOST_NUMBERS) emissions →
     get_or (assembled assembly (items_of labels emissions)).standing number (Some 0)
     ≡ settle (get_or assembly.standing number (Some 0)) (standing_place assembly.lists number emissions)
 standing_after labels assembly [] number there count within =
@@ -117,7 +117,7 @@ standing_after labels assembly (stands on other ∷ others) number there count w
 
 pub landing_after : (labels : List Label) (assembly : AssemblyShape) (emissions : List Emission) (number : ℕ) →
     number < length assembly.landing → length assembly.lists ≡ HOST_NUMBERS →
-    AllByRecursion (IsWithin HOST_NUMBERS) emissions →
+    AllByRecursion (IsOnSomeHost HOST_NUMBERS) emissions →
     get_or (assembled assembly (items_of labels emissions)).landing number (Some 0)
     ≡ settle (get_or assembly.landing number (Some 0)) (landing_place assembly.lists number emissions)
 landing_after labels assembly [] number there count within = sym (settle_none (get_or assembly.landing number (Some 0)))

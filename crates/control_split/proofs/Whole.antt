@@ -12,13 +12,13 @@ use Rattle.host_code.specs.declared.instruction.Instr.{Instr}
 use Rattle.host_code.specs.declared.instruction.Op.{Op}
 use Rattle.host_code.specs.declared.instruction.Op.TheVariants as op
 use Rattle.control_split.specs.declared.parts.TheConstants.{HOST_NUMBERS}
-use Rattle.split_rules.specs.Emissions.{Emission, instruction, entry, stands, lands, Emitted, Named, Counts}
+use Rattle.split_rules.specs.Emissions.{Emission, instruction, entry, stands, lands, Emitted, NamedEntry, Counts}
 use Rattle.split_rules.specs.SplitCode.{emitted_on, before_entry, before_landing, label_place}
 use Rattle.split_rules.specs.SplitCode.{placed_instruction, part_on, placed_entries, landed}
 use Rattle.control_split.specs.Assembly.{AssemblyShape, first_assembly, list_on, assembled, noted_place}
 use Rattle.control_split.specs.Assembly.{settled_entries, settled_instruction, settled_part}
 use Rattle.control_split.specs.Assembly.{settled_operation}
-use Rattle.split_rules.specs.Settled.{host_standing, host_landing, IsWithin, IsOn, BranchIsOn}
+use Rattle.split_rules.specs.Settled.{host_standing, host_landing, IsOnSomeHost, IsOn, BranchIsOn}
 use Rattle.control_split.proofs.Placing.{raw_instruction, raw_entry, items_of, lists_after, settle}
 use Rattle.control_split.proofs.Standing.{standing_place, landing_place, standing_after, landing_after}
 use Rattle.control_split.proofs.Standing.{length_standing, length_landing}
@@ -110,7 +110,7 @@ first_count : (counts : Counts) → length (first_assembly counts).lists ≡ HOS
 first_count counts = length-replicate HOST_NUMBERS no_instructions
 
 final_list : (counts : Counts) (labels : List Label) (emissions : List Emission) (host : HostId) →
-    host.0 < HOST_NUMBERS → AllByRecursion (IsWithin HOST_NUMBERS) emissions →
+    host.0 < HOST_NUMBERS → AllByRecursion (IsOnSomeHost HOST_NUMBERS) emissions →
     list_on (assembly_from counts labels emissions).lists host
     ≡ map (raw_instruction labels) (emitted_on host emissions)
 final_list counts labels emissions host there within =
@@ -119,7 +119,7 @@ final_list counts labels emissions host there within =
 
 -- what is noted for an entry that is there is where it stands
 noted_entry : (counts : Counts) (labels : List Label) (emissions : List Emission) (number end : ℕ) →
-    number < counts.entries → AllByRecursion (IsWithin HOST_NUMBERS) emissions →
+    number < counts.entries → AllByRecursion (IsOnSomeHost HOST_NUMBERS) emissions →
     noted_place (assembly_from counts labels emissions).standing number end
     ≡ unwrap_or (standing_place no_lists number emissions) end
 noted_entry counts labels emissions number end there within =
@@ -134,7 +134,7 @@ noted_entry counts labels emissions number end there within =
     (get_or-replicate counts.entries number None (Some 0) there))
 
 noted_branch : (counts : Counts) (labels : List Label) (emissions : List Emission) (number end : ℕ) →
-    number < counts.branches → AllByRecursion (IsWithin HOST_NUMBERS) emissions →
+    number < counts.branches → AllByRecursion (IsOnSomeHost HOST_NUMBERS) emissions →
     noted_place (assembly_from counts labels emissions).landing number end
     ≡ unwrap_or (landing_place no_lists number emissions) end
 noted_branch counts labels emissions number end there within =
@@ -151,15 +151,15 @@ noted_branch counts labels emissions number end there within =
 -- ---- entries
 
 -- each entry has its place
-abbrev pub HaveTheirs : List Emission → ℕ → List Named → Type 0
+abbrev pub HaveTheirs : List Emission → ℕ → List NamedEntry → Type 0
 HaveTheirs emissions number [] = ⊤
 HaveTheirs emissions number (named ∷ others) =
     (named.host.0 < HOST_NUMBERS) × IsOn named.host (host_standing number emissions)
     × HaveTheirs emissions (suc number) others
 
 pub settled_from : (counts : Counts) (labels : List Label) (emissions : List Emission) (number : ℕ)
-    (named : List Named) →
-    number + length named ≡ counts.entries → AllByRecursion (IsWithin HOST_NUMBERS) emissions →
+    (named : List NamedEntry) →
+    number + length named ≡ counts.entries → AllByRecursion (IsOnSomeHost HOST_NUMBERS) emissions →
     HaveTheirs emissions number named →
     settled_entries (assembly_from counts labels emissions) number (map (raw_entry labels) named)
     ≡ placed_entries labels emissions number named
@@ -178,7 +178,7 @@ settled_from counts labels emissions number (one ∷ others) count within theirs
 -- ---- instructions
 
 settled_one : (counts : Counts) (labels : List Label) (emissions : List Emission) (host : HostId) (one : Emitted) →
-    host.0 < HOST_NUMBERS → AllByRecursion (IsWithin HOST_NUMBERS) emissions → one.host ≡ host →
+    host.0 < HOST_NUMBERS → AllByRecursion (IsOnSomeHost HOST_NUMBERS) emissions → one.host ≡ host →
     BranchIsOn counts.branches emissions host one.op →
     settled_instruction (assembly_from counts labels emissions).landing (length (emitted_on host emissions))
     (raw_instruction labels one) ≡ placed_instruction labels emissions one
@@ -214,7 +214,7 @@ settled_one counts labels emissions host one there within same on =
 
 settled_list : (counts : Counts) (labels : List Label) (emissions : List Emission) (host : HostId) (count : ℕ)
     (list : List Emitted) → count ≡ length (emitted_on host emissions) → host.0 < HOST_NUMBERS →
-    AllByRecursion (IsWithin HOST_NUMBERS) emissions →
+    AllByRecursion (IsOnSomeHost HOST_NUMBERS) emissions →
     All (λ one. (one.host ≡ host) × BranchIsOn counts.branches emissions host one.op) list →
     map (settled_instruction (assembly_from counts labels emissions).landing count)
     (map (raw_instruction labels) list) ≡ map (placed_instruction labels emissions) list
@@ -231,7 +231,7 @@ settled_list counts labels emissions host count (one ∷ others) is there within
 
 -- the part of a host
 pub settled_part_is : (counts : Counts) (labels : List Label) (emissions : List Emission) (host : HostId) →
-    host.0 < HOST_NUMBERS → AllByRecursion (IsWithin HOST_NUMBERS) emissions →
+    host.0 < HOST_NUMBERS → AllByRecursion (IsOnSomeHost HOST_NUMBERS) emissions →
     All (λ one. (one.host ≡ host) × BranchIsOn counts.branches emissions host one.op) (emitted_on host emissions) →
     settled_part (assembly_from counts labels emissions).landing
     (list_on (assembly_from counts labels emissions).lists host) ≡ part_on labels emissions host

@@ -18,10 +18,10 @@ cut room letters = if nat_lt room (length letters) then take (room - 2) letters 
 -- ---- back again
 
 -- where a reader of an escaped text is: outside of a name, behind the `&` that begins one, or behind its first letter
-pub data Reading : Type 0 where
-  outside : Reading
-  at_name : Reading
-  inside : Reading
+pub data LetterReading : Type 0 where
+  outside : LetterReading
+  at_name : LetterReading
+  inside : LetterReading
 
 -- the character that a name with this first letter stands for
 abbrev pub named : ℕ → List ℕ
@@ -30,18 +30,18 @@ named letter =
     else (if letter == 108 then 60 ∷ [] else (if letter == 103 then 62 ∷ [] else []))
 
 -- what is read of a letter
-abbrev pub read_of : Reading → ℕ → List ℕ
+abbrev pub read_of : LetterReading → ℕ → List ℕ
 read_of outside letter = if letter == 38 then [] else letter ∷ []
 read_of at_name letter = named letter
 read_of inside letter = []
 
 -- where the reader is behind it
-abbrev pub behind : Reading → ℕ → Reading
+abbrev pub behind : LetterReading → ℕ → LetterReading
 behind outside letter = if letter == 38 then at_name else outside
 behind at_name letter = inside
 behind inside letter = if letter == 59 then outside else inside
 
 -- the text of which this is what was written
-abbrev pub unescaped : Reading → List ℕ → List ℕ
+abbrev pub unescaped : LetterReading → List ℕ → List ℕ
 unescaped reading [] = []
 unescaped reading (letter ∷ letters) = read_of reading letter ++ unescaped (behind reading letter) letters

@@ -10,7 +10,7 @@ use Rattle.std.proofs.lemmas.Option.{slice_get_past}
 use Rattle.js_base.specs.declared.ids.HostId.{HostId}
 use Rattle.host_code.specs.Code.{CodeShape}
 use Rattle.entry_check.specs.declared.ask.Ask.{Ask}
-use Rattle.entry_check.specs.Checks.{May, IsWordOf}
+use Rattle.entry_check.specs.Checks.{May, IsWordOfAsk}
 
 -- nothing is there past the end
 pub past_end : {X : Type 0} (P : X → Type 0) (items : List X) (n : ℕ) → length items ≤ n →
@@ -22,11 +22,11 @@ no_bit word from none is = let zero_is : bit_at word from ≡ 0 =
     ap (λ (w : ℕ). bit_at w from) none ∙ bit_at-zero from in cc
 
 pub of_all : (code : CodeShape) (me : HostId) (asked : ℕ → Ask) (words : List ℕ) (count : ℕ) → length words ≡ count
-    → ((n : ℕ) → n < count → IsWordOf code me (asked n) (get_or words n 0))
+    → ((n : ℕ) → n < count → IsWordOfAsk code me (asked n) (get_or words n 0))
     → ((n : ℕ) (from : HostId) → count ≤ n → May code me (asked n) from → ⊥)
-    → (n : ℕ) → IsWordOf code me (asked n) (get_or words n 0)
+    → (n : ℕ) → IsWordOfAsk code me (asked n) (get_or words n 0)
 of_all code me asked words count long within past n =
-    elim (cases_lt n count) as (λ _. IsWordOf code me (asked n) (get_or words n 0)) [
+    elim (cases_lt n count) as (λ _. IsWordOfAsk code me (asked n) (get_or words n 0)) [
       | inl lt ↦ within n lt
       | inr ge ↦ (λ from small. (
         λ is. absurd (no_bit (get_or words n 0) from.0 (get_or_past words n 0 (omega arith)) is),

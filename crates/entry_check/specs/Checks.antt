@@ -89,13 +89,14 @@ ask_of kind.Forward number = ask.Forward (record { 0 = number })
 ask_of kind.Enter number = ask.Enter (record { 0 = number })
 
 -- the word has the bits of the hosts that may
-abbrev pub IsWordOf : CodeShape → HostId → Ask → ℕ → Type 0
-IsWordOf code me asked word = (from : HostId) → from.0 < HOSTS →
+abbrev pub IsWordOfAsk : CodeShape → HostId → Ask → ℕ → Type 0
+IsWordOfAsk code me asked word = (from : HostId) → from.0 < HOSTS →
     ((bit_at word from.0 ≡ 1) ↔ May code me asked from)
 
 -- the words are those of this host with this code
 pub record AreChecksOf (code : CodeShape) (me : HostId) (checks : ChecksShape) : Type 0 where
-  pub gets : (field : FieldId) → IsWordOf code me (ask.Get field) (slice_index checks.gets field.0)
-  pub sets : (field : FieldId) → IsWordOf code me (ask.Set field) (slice_index checks.sets field.0)
-  pub forwards : (variable : VarId) → IsWordOf code me (ask.Forward variable) (slice_index checks.forwards variable.0)
-  pub enters : (entry : EntryId) → IsWordOf code me (ask.Enter entry) (slice_index checks.enters entry.0)
+  pub gets : (field : FieldId) → IsWordOfAsk code me (ask.Get field) (slice_index checks.gets field.0)
+  pub sets : (field : FieldId) → IsWordOfAsk code me (ask.Set field) (slice_index checks.sets field.0)
+  pub forwards : (variable : VarId) →
+      IsWordOfAsk code me (ask.Forward variable) (slice_index checks.forwards variable.0)
+  pub enters : (entry : EntryId) → IsWordOfAsk code me (ask.Enter entry) (slice_index checks.enters entry.0)

@@ -3,7 +3,7 @@
 ghost use Rattle.std.specs.Prelude.{◌≡◌, ◌<◌, ◌^◌, ◌↔◌, ℕ, IsTrue, IfOk, length, slice_index};
 ghost use Rattle.js_base.specs.declared.ids.HostId.{HostId};
 ghost use Rattle.host_code.specs.Code.{CodeShape};
-ghost use Rattle.entry_check.specs.Checks.{May, IsWordOf, AreChecksOf, ask_of};
+ghost use Rattle.entry_check.specs.Checks.{May, IsWordOfAsk, AreChecksOf, ask_of};
 
 use crate::ask::Ask;
 use crate::rule::may;
@@ -97,7 +97,7 @@ fn words_of(
     requires { count < 2 ^ 32 }
     ensures count { IfOk result (λ words. length words.items ≡ count) }
     ensures words { IfOk result (λ words. (number : ℕ) → number < count →
-        IsWordOf code.now me (ask_of kind number) (slice_index words.items number)) }
+        IsWordOfAsk code.now me (ask_of kind number) (slice_index words.items number)) }
 {
     let mut words = Vec::new(alloc);
     for number in 0..count {
@@ -120,7 +120,7 @@ fn ask_of(kind: Kind, number: u32) -> Ask
 
 /// The word with a bit for each host that may ask this.
 fn word_of(code: &Code, me: HostId, ask: Ask) -> u64
-    ensures { IsWordOf code.now me ask result }
+    ensures { IsWordOfAsk code.now me ask result }
 {
     let mut word = 0;
     for from in 0..HOSTS as u8 {

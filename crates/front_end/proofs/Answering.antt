@@ -12,7 +12,8 @@ use Rattle.js_base.specs.declared.sink.PutError.TheVariants as put_error
 use Rattle.front_end.specs.declared.verdict.Verdict.{Verdict}
 use Rattle.front_end.specs.Refusals.{RefusalShape, error_line, no_memory_line, refusal_status, refusal_text}
 use Rattle.front_end.specs.Verdicts.{VerdictShape, Print, Refuse, verdict_shape}
-use Rattle.front_end.specs.Answers.{SinkChange, IsUndue, IsUntouched, IsAnswered, Refuses, AnswersVerdict, AnswersTo}
+use Rattle.front_end.specs.Answers.{SinkChange, IsUndue, IsUntouched, IsAnswered, AnswersRefusal, AnswersVerdict}
+use Rattle.front_end.specs.Answers.{AnswersTo}
 
 -- whatever a put answered, a front of the text was put
 pub front_put : {T E : Type 0} (put : Result T E) (text : List ℕ) (before after : Option (List ℕ)) →
@@ -33,7 +34,8 @@ nothing_put (byte ∷ text) (Some bytes) = (0, ap Some (sym (append-nil bytes)))
 
 -- ---- answers
 
--- what a put of its line leaves of a refusal: all of it, or a front where the sink failed, or a front and then a front of
+-- what a put of its line leaves of a refusal: all of it, or a front where the sink failed, or a front and then a front
+-- of
 -- what is said where memory ran out
 pub refuses_by_put : (program : List ℕ) (refusal : RefusalShape) (put : Result ⊤ PutError) (answer : Status)
     (err : SinkChange) (taken : Option (List ℕ)) (faults : ℕ) →
@@ -45,7 +47,7 @@ pub refuses_by_put : (program : List ℕ) (refusal : RefusalShape) (put : Result
     (IsErrOf put put_error.OutOfMemory → answer ≡ NoMemory) →
     (IsErrOf put put_error.OutOfMemory → TakesFront (no_memory_line program) taken err.taken_after) →
     (¬ IsErrOf put put_error.OutOfMemory → (err.taken_after ≡ taken) × (err.faults_after ≡ faults)) →
-    Refuses program refusal answer err
+    AnswersRefusal program refusal answer err
 refuses_by_put program refusal (Ok x) answer err taken faults whole front calm rose is failed memory said same =
     let line = error_line program (refusal_text refusal) in
     let kept = same (λ no. cc) in
@@ -55,7 +57,8 @@ refuses_by_put program refusal (Ok x) answer err taken faults whole front calm r
       subst (λ (after : Option (List ℕ)). Takes line err.taken_before after) (sym kept.0) whole,
       kept.1 ∙ quiet,
     ))
-refuses_by_put program refusal (Err put_error.Failed) answer err taken faults whole front calm rose is failed memory said
+refuses_by_put program refusal (Err put_error.Failed) answer err taken faults whole front calm rose is failed memory
+    said
     same =
     let line = error_line program (refusal_text refusal) in
     let kept = same (λ no. cc) in
@@ -64,13 +67,14 @@ refuses_by_put program refusal (Err put_error.Failed) answer err taken faults wh
       subst (λ (after : ℕ). Rose err.faults_before after) (sym kept.1) (rose refl),
       subst (λ (after : Option (List ℕ)). TakesFront line err.taken_before after) (sym kept.0) front,
     ))
-refuses_by_put program refusal (Err put_error.OutOfMemory) answer err taken faults whole front calm rose is failed memory
+refuses_by_put program refusal (Err put_error.OutOfMemory) answer err taken faults whole front calm rose is failed
+    memory
     said same =
     inl (memory refl, (taken, front, said refl))
 
 -- the answer to a refusal, where nothing was put on the output
 pub refusal_answered : (program : List ℕ) (refusal : RefusalShape) (answer : Status) (out err : SinkChange) →
-    IsUntouched out → Refuses program refusal answer err → AnswersVerdict program (Refuse refusal) answer out err
+    IsUntouched out → AnswersRefusal program refusal answer err → AnswersVerdict program (Refuse refusal) answer out err
 refusal_answered program refusal answer out err untouched refuses =
     ⊎_elim (λ short. inl (short.0, (untouched, short.1))) (λ whole. inr (untouched, whole)) refuses
 

@@ -8,9 +8,11 @@
 -- `Stops`, `LoadedFiles`, `Loading`: what loads say of what is held
 -- `BlockParts`: what a walk of nested blocks collects
 -- `Answering`: what a put leaves, and what follows of answers
+-- `DueByFiles`: what is due by what files hold, or for a load that failed, is one verdict
 pub mod AbsentFiles
 pub mod Answering
 pub mod BlockParts
+pub mod DueByFiles
 pub mod LineCounts
 pub mod ListLimits
 pub mod LoadedFiles

@@ -7,7 +7,7 @@ use Rattle.need_labels.specs.Needs.{NeedsShape, AreNeedsOf}
 use Rattle.need_labels.specs.Plan.{PlanShape}
 use Rattle.place_rules.specs.Allowed.{AllowedShape}
 use Rattle.place_rules.specs.PlaceRules.{AreAllowed}
-use Rattle.place_rules.specs.Refusal.{IsRefused}
+use Rattle.place_rules.specs.Refusal.{IsPlaceRefused}
 use Rattle.place_rules.specs.declared.place_error.PlaceError.{PlaceError}
 use Rattle.place_rules.specs.declared.place_error.PlaceError.TheVariants as place
 use Rattle.placement.specs.Placing.{IsPlaced}
@@ -26,10 +26,10 @@ pub record PlaceLaws : Type 0 where
       (first second : PlanShape) → IsPlaced labelled need hosts allowed first →
       IsPlaced labelled need hosts other second → (allowed ≡ other) × (first ≡ second)
   pub one_refusal : (labelled : needs.Labelled) (need : NeedsShape) (hosts : HostsShape) (first second : PlaceError) →
-      IsRefused labelled need hosts first → IsRefused labelled need hosts second → first ≢ place.OutOfMemory →
+      IsPlaceRefused labelled need hosts first → IsPlaceRefused labelled need hosts second → first ≢ place.OutOfMemory →
       second ≢ place.OutOfMemory → first ≡ second
   pub never_both : (labelled : needs.Labelled) (need : NeedsShape) (hosts : HostsShape) (allowed : AllowedShape)
-      (why : PlaceError) → AreAllowed labelled need hosts allowed → IsRefused labelled need hosts why →
+      (why : PlaceError) → AreAllowed labelled need hosts allowed → IsPlaceRefused labelled need hosts why →
       why ≡ place.OutOfMemory
 
 same_placed : (first second : PlacedSource) → first.source ≡ second.source → first.needs ≡ second.needs →
@@ -69,14 +69,14 @@ chosen_or_not laws source placed why chosen none =
     same_needs laws source none.needs placed.needs none.needs_are chosen.needs in
     none.not_memory (laws.never_both (labelled_source source) placed.needs source.file placed.allowed why
     chosen.plan.words
-    (subst (λ (n : NeedsShape). IsRefused (labelled_source source) n source.file why) need none.refused))
+    (subst (λ (n : NeedsShape). IsPlaceRefused (labelled_source source) n source.file why) need none.refused))
 
 refused_once : PlaceLaws → (source : Source) (first second : PlaceError) → HasNoPlace source first →
     HasNoPlace source second → first ≡ second
 refused_once laws source first second one two =
     let need : two.needs ≡ one.needs = same_needs laws source two.needs one.needs two.needs_are one.needs_are in
     laws.one_refusal (labelled_source source) one.needs source.file first second one.refused
-    (subst (λ (n : NeedsShape). IsRefused (labelled_source source) n source.file second) need two.refused)
+    (subst (λ (n : NeedsShape). IsPlaceRefused (labelled_source source) n source.file second) need two.refused)
     one.not_memory two.not_memory
 
 on_hosts_once : PlaceLaws → (source : Source) → IsOne (OnHosts source)

@@ -30,7 +30,7 @@ use Rattle.label_check.specs.declared.check_error.CheckError.{CheckError}
 use Rattle.label_check.specs.declared.check_error.CheckError.TheVariants as check
 use Rattle.label_check.specs.Checking as labels
 use Rattle.front_end.specs.Stages.{given, stopped}
-use Rattle.front_end.specs.Sources.{Lexed, Parsed, HostsRead, Resolved, Source, Labelled, Drafted, Accepted}
+use Rattle.front_end.specs.Sources.{Lexed, Parsed, HostsRead, Resolved, Source, ProgramLabelled, Drafted, DraftAccepted}
 use Rattle.front_end.specs.Sources.{AcceptedWith}
 use Rattle.front_end.specs.Sources.{Sources}
 use Rattle.front_end.specs.Verdicts.{hosts_refused, labels_refused, not_lexed, not_parsed, not_resolved}
@@ -66,10 +66,10 @@ pub record NameLaws : Type 0 where
 
 pub record LabelLaws : Type 0 where
   pub one_refusal : (principals : Declared) (tree : ProgramTree) (first second : CheckError) →
-      labels.IsRefusedFor principals tree first → labels.IsRefusedFor principals tree second →
+      labels.IsLabelRefusedFor principals tree first → labels.IsLabelRefusedFor principals tree second →
       first ≢ check.OutOfMemory → second ≢ check.OutOfMemory → first ≡ second
   pub never_both : (principals : Declared) (tree : ProgramTree) (why : CheckError) →
-      IsWellLabelled principals tree → labels.IsRefusedFor principals tree why → why ≡ check.OutOfMemory
+      IsWellLabelled principals tree → labels.IsLabelRefusedFor principals tree why → why ≡ check.OutOfMemory
 
 abbrev pub LexLaw : Type 0
 LexLaw = (text : List ℕ) (first second : Reading) → ReadsAs text first → ReadsAs text second → first ≡ second
@@ -229,7 +229,7 @@ resolved_once laws file draft declared (stopped verdict) (stopped other) one two
 
 -- ---- labels
 
-labelled_once : LabelLaws → (file : HostsShape) (tree : ProgramTree) → IsOne (Labelled file tree)
+labelled_once : LabelLaws → (file : HostsShape) (tree : ProgramTree) → IsOne (ProgramLabelled file tree)
 labelled_once laws file tree (given first) (given second) one two = ap (give {X = Source}) (one.1 ∙ sym two.1)
 labelled_once laws file tree (given first) (stopped verdict) one two =
     absurd (two.2 (laws.never_both file.principals tree two.0 one.0 two.1))
@@ -248,14 +248,14 @@ drafted_once laws program =
     one_then (Lexed program) Parsed (lexed_once laws.lexing program) (λ list was. parsed_once laws.grammar list)
 
 accepted_once : SourceLaws → (file : HostsShape) (draft : DraftShape) → IsDeclared file.principals →
-    IsOne (Accepted file draft)
+    IsOne (DraftAccepted file draft)
 accepted_once laws file draft declared =
-    one_then (Resolved file draft) (Labelled file) (resolved_once laws.names file draft declared)
+    one_then (Resolved file draft) (ProgramLabelled file) (resolved_once laws.names file draft declared)
     (λ tree was. labelled_once laws.labels file tree)
 
 accepted_with_once : SourceLaws → (hosts : List ℕ) (draft : DraftShape) → IsOne (AcceptedWith hosts draft)
 accepted_with_once laws hosts draft =
-    one_then (HostsRead hosts) (λ file. Accepted file draft) (hosts_once laws.hosts hosts)
+    one_then (HostsRead hosts) (λ file. DraftAccepted file draft) (hosts_once laws.hosts hosts)
     (λ file was. accepted_once laws file draft (laws.hosts.sound hosts file was).declared)
 
 pub sources_once : SourceLaws → (program hosts : List ℕ) → IsOne (Sources program hosts)

@@ -5,7 +5,7 @@ use Rattle.jif_tree.specs.declared.program.Program.{Program}
 use Rattle.jif_tree.specs.Trees.{FieldTree, field_tree, ProgramTree, program_tree}
 use Rattle.event_text.specs.Settings.{FieldForm}
 use Rattle.event_text.specs.Start.{program_form}
-use Rattle.front_end.specs.Stages.{Outcome}
+use Rattle.front_end.specs.Stages.{StageEnd}
 use Rattle.front_end.specs.Starting.{StartingValues, long, bad_line, read}
 use Rattle.front_end.specs.Verdicts.{no_form}
 use Rattle.front_end.proofs.SeenItems.{map_seen}
@@ -24,12 +24,13 @@ same_forms program other same =
     ∙ sym (map_seen program_form field_tree form_of_tree (λ field. refl) other.fields.items)
 
 -- what a file gives for a program it gives for another with the same tree
-pub start_moved : (file start : List ℕ) (program other : Program) (end : Outcome (List (List ℤ))) →
+pub start_moved : (file start : List ℕ) (program other : Program) (end : StageEnd (List (List ℤ))) →
     program_tree program ≡ program_tree other →
     StartingValues file start (map program_form other.fields.items) end →
     StartingValues file start (map program_form program.fields.items) end
 start_moved file start program other end same values =
-    subst (λ (fields : List FieldForm). StartingValues file start fields end) (sym (same_forms program other same)) values
+    subst (λ (fields : List FieldForm). StartingValues file start fields end) (sym (same_forms program other same))
+    values
 
 pub start_once : (file start : List ℕ) (fields : List FieldForm) → IsOne (StartingValues file start fields)
 start_once file start fields _ _ (long more) (long also) = refl

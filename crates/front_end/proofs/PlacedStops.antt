@@ -3,16 +3,16 @@ use Rattle.std.proofs.Common.{◌≡◌, ℕ, List, ⊎_elim, subst, sym, refl, 
 use Rattle.std.specs.Prelude.{◌⊎◌}
 use Rattle.js_base.specs.declared.status.Status.TheVariants.{SourceRefused, InputRefused}
 use Rattle.front_end.specs.PlacedSources.{OnHosts, PlacedSources}
-use Rattle.front_end.specs.Sources.{Lexed, Parsed, Drafted, HostsRead, Resolved, Labelled, Accepted}
+use Rattle.front_end.specs.Sources.{Lexed, Parsed, Drafted, HostsRead, Resolved, ProgramLabelled, DraftAccepted}
 use Rattle.front_end.specs.Sources.{AcceptedWith, Sources}
-use Rattle.front_end.specs.Stages.{Outcome, stopped, Then}
+use Rattle.front_end.specs.Stages.{StageEnd, stopped, Then}
 use Rattle.front_end.specs.Refusals.{RefusalShape, refusal_status}
 use Rattle.front_end.specs.Verdicts.{VerdictShape, Refuse}
 use Rattle.front_end.proofs.Stages.{stop_with}
 
 -- what holds of the refusals of two stages holds of those of one after the other
-pub then_stops : (P : VerdictShape → Type 0) {X Y : Type 0} (First : Outcome X → Type 0)
-    (Next : X → Outcome Y → Type 0) → ((verdict : VerdictShape) → First (stopped verdict) → P verdict) →
+pub then_stops : (P : VerdictShape → Type 0) {X Y : Type 0} (First : StageEnd X → Type 0)
+    (Next : X → StageEnd Y → Type 0) → ((verdict : VerdictShape) → First (stopped verdict) → P verdict) →
     ((x : X) (verdict : VerdictShape) → Next x (stopped verdict) → P verdict) →
     (verdict : VerdictShape) → Then First Next (stopped verdict) → P verdict
 then_stops P {X} {Y} First Next first next verdict ends =
@@ -39,13 +39,14 @@ module _ (P : VerdictShape → Type 0) (refuses : (refusal : RefusalShape) → I
         (then_stops P (Lexed program) Parsed
         (λ verdict was. refused _ verdict (inl refl) was.3)
         (λ list verdict was. refused _ verdict (inl refl) was.3))
-        (λ draft. then_stops P (HostsRead hosts) (λ file. Accepted file draft)
+        (λ draft. then_stops P (HostsRead hosts) (λ file. DraftAccepted file draft)
         (λ verdict was. refused _ verdict (inr refl) was.3)
-        (λ file. then_stops P (Resolved file draft) (Labelled file)
+        (λ file. then_stops P (Resolved file draft) (ProgramLabelled file)
         (λ verdict was. refused _ verdict (inl refl) was.3)
         (λ tree verdict was. refused _ verdict (inl refl) was.3)))
 
-    pub placed_stops : (program hosts : List ℕ) (verdict : VerdictShape) → PlacedSources program hosts (stopped verdict) →
+    pub placed_stops : (program hosts : List ℕ) (verdict : VerdictShape) →
+        PlacedSources program hosts (stopped verdict) →
         P verdict
     placed_stops program hosts =
         then_stops P (Sources program hosts) OnHosts (sources_stop program hosts)

@@ -12,7 +12,7 @@ use Rattle.jif_grammar.specs.DraftShapes.{DraftShape}
 use Rattle.jif_grammar.specs.Programs as grammar
 use Rattle.jif_resolve.specs.Verdicts.{IsProgramOf}
 use Rattle.front_end.specs.PlacedSources.{PlacedSource, AreChosen, PlacedSources}
-use Rattle.front_end.specs.Sources.{Source, Accepted, AcceptedWith, Drafted, Sources}
+use Rattle.front_end.specs.Sources.{Source, DraftAccepted, AcceptedWith, Drafted, Sources}
 use Rattle.front_end.specs.Stages.{given, stopped}
 
 -- what is known of a source by its two files
@@ -63,13 +63,13 @@ with_tokens program draft drafted =
 
 -- what the hosts gave
 with_hosts : (hosts : List ℕ) (draft : DraftShape) (source : Source) → AcceptedWith hosts draft (given source) →
-    (file : HostsShape) × ReadsHosts hosts file × Accepted file draft (given source)
+    (file : HostsShape) × ReadsHosts hosts file × DraftAccepted file draft (given source)
 with_hosts hosts draft source accepted =
     ⊎_elim (λ both. (both.0, both.1, both.2))
     (λ no. absurd (let other : given source ≡ stopped no.0 = no.2 in cc)) accepted
 
 -- what the names gave
-with_names : (file : HostsShape) (draft : DraftShape) (source : Source) → Accepted file draft (given source) →
+with_names : (file : HostsShape) (draft : DraftShape) (source : Source) → DraftAccepted file draft (given source) →
     (tree : ProgramTree) × IsProgramOf file.principals draft tree × IsWellLabelled file.principals tree
     × (source ≡ record { file = file; tree = tree })
 with_names file draft source accepted =

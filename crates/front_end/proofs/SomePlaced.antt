@@ -9,7 +9,7 @@ use Rattle.need_labels.specs.Needs.{NeedsShape, AreNeedsOf}
 use Rattle.need_labels.specs.Plan.{PlanShape}
 use Rattle.place_rules.specs.Allowed.{AllowedShape}
 use Rattle.place_rules.specs.PlaceRules.{AreAllowed}
-use Rattle.place_rules.specs.Refusal.{IsRefused}
+use Rattle.place_rules.specs.Refusal.{IsPlaceRefused}
 use Rattle.place_rules.specs.declared.place_error.PlaceError.{PlaceError}
 use Rattle.place_rules.specs.declared.place_error.PlaceError.TheVariants as place
 use Rattle.placement.specs.Placing.{IsPlaced}
@@ -27,7 +27,7 @@ pub record PlaceCauses : Type 0 where
       (need : NeedsShape) × AreNeedsOf principals labelled need
   pub allowed_or_refused : (labelled : needs.Labelled) (need : NeedsShape) (hosts : HostsShape) →
       length hosts.hosts ≤ HOSTS → ((allowed : AllowedShape) × AreAllowed labelled need hosts allowed)
-      ⊎ ((why : PlaceError) × (why ≢ place.OutOfMemory) × IsRefused labelled need hosts why)
+      ⊎ ((why : PlaceError) × (why ≢ place.OutOfMemory) × IsPlaceRefused labelled need hosts why)
   pub some_plan : (labelled : needs.Labelled) (need : NeedsShape) (hosts : HostsShape) (allowed : AllowedShape) →
       0 < length hosts.hosts → AreAllowed labelled need hosts allowed →
       (plan : PlanShape) × IsPlaced labelled need hosts allowed plan

@@ -30,7 +30,8 @@ use Rattle.label_check.specs.declared.check_error.CheckError.{CheckError}
 use Rattle.label_check.specs.declared.check_error.CheckError.TheVariants as check
 use Rattle.label_check.specs.Checking as labels
 use Rattle.front_end.specs.Stages.{given, stopped}
-use Rattle.front_end.specs.Sources.{Lexed, Parsed, HostsRead, Resolved, Labelled, Drafted, Accepted, AcceptedWith}
+use Rattle.front_end.specs.Sources.{Lexed, Parsed, HostsRead, Resolved, ProgramLabelled, Drafted, DraftAccepted}
+use Rattle.front_end.specs.Sources.{AcceptedWith}
 use Rattle.front_end.specs.Sources.{Sources}
 use Rattle.front_end.specs.Verdicts.{hosts_refused, labels_refused, not_lexed, not_parsed, not_resolved}
 use Rattle.front_end.proofs.SomeStages.{HasOutcome, some_then}
@@ -60,7 +61,7 @@ SomeProgram = (principals : Declared) (draft : DraftShape) → IsDeclared princi
 
 abbrev pub SomeCheck : Type 0
 SomeCheck = (principals : Declared) (tree : ProgramTree) → IsWellLabelled principals tree
-    ⊎ ((why : CheckError) × (why ≢ check.OutOfMemory) × labels.IsRefusedFor principals tree why)
+    ⊎ ((why : CheckError) × (why ≢ check.OutOfMemory) × labels.IsLabelRefusedFor principals tree why)
 
 pub record SourceCauses : Type 0 where
   pub lexing : SomeTokens
@@ -148,7 +149,7 @@ resolved_some law file draft declared =
     (λ refused. names_refused file draft refused.0 refused.1)
     (law file.principals draft declared)
 
-labelled_some : SomeCheck → (file : HostsShape) (tree : ProgramTree) → HasOutcome (Labelled file tree)
+labelled_some : SomeCheck → (file : HostsShape) (tree : ProgramTree) → HasOutcome (ProgramLabelled file tree)
 labelled_some law file tree =
     ⊎_elim
     (λ well. (given (record { file = file; tree = tree }), (well, refl)))
@@ -163,14 +164,14 @@ drafted_some laws program =
     some_then (Lexed program) Parsed (lexed_some laws.lexing program) (λ list was. parsed_some laws.grammar list)
 
 accepted_some : SourceCauses → (file : HostsShape) (draft : DraftShape) → IsDeclared file.principals →
-    HasOutcome (Accepted file draft)
+    HasOutcome (DraftAccepted file draft)
 accepted_some laws file draft declared =
-    some_then (Resolved file draft) (Labelled file) (resolved_some laws.names file draft declared)
+    some_then (Resolved file draft) (ProgramLabelled file) (resolved_some laws.names file draft declared)
     (λ tree was. labelled_some laws.labels file tree)
 
 accepted_with_some : SourceCauses → (hosts : List ℕ) (draft : DraftShape) → HasOutcome (AcceptedWith hosts draft)
 accepted_with_some laws hosts draft =
-    some_then (HostsRead hosts) (λ file. Accepted file draft) (hosts_some laws.hosts hosts)
+    some_then (HostsRead hosts) (λ file. DraftAccepted file draft) (hosts_some laws.hosts hosts)
     (λ file was. accepted_some laws file draft (laws.hosts.sound hosts file was).declared)
 
 pub sources_some : SourceCauses → (program hosts : List ℕ) → HasOutcome (Sources program hosts)

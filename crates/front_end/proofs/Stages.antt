@@ -8,7 +8,7 @@ use Rattle.front_end.specs.declared.stop.Stop.{Stop}
 use Rattle.front_end.specs.declared.stop.Stop.TheVariants as stop
 use Rattle.front_end.specs.declared.verdict.Verdict.{Verdict}
 use Rattle.front_end.specs.Verdicts.{VerdictShape, verdict_shape}
-use Rattle.front_end.specs.Stages.{Outcome, given, stopped, Then, DueThen}
+use Rattle.front_end.specs.Stages.{StageEnd, given, stopped, Then, DueThen}
 use Rattle.front_end.specs.Loading.{StopsWith, EndsAs, EndsIn}
 use Rattle.front_end.proofs.Results.{both_ok}
 
@@ -36,8 +36,8 @@ refusal_stops {W} Fails memory told why due stopping fails is not made =
     (both_ok due (λ verdict. verdict_shape verdict ≡ told why) (λ _. why ≢ memory) is not)) made
 
 -- a stage that gave a value, and a result of the next
-pub then_ends : {X Y S T : Type 0} (first : S → X) (second : T → Y) (First : Outcome X → Type 0)
-    (Next : X → Outcome Y → Type 0) (value : S) (result : Result T Stop) →
+pub then_ends : {X Y S T : Type 0} (first : S → X) (second : T → Y) (First : StageEnd X → Type 0)
+    (Next : X → StageEnd Y → Type 0) (value : S) (result : Result T Stop) →
     First (given (first value)) → EndsAs second (Next (first value)) result → EndsAs second (Then First Next) result
 then_ends first second First Next value (Ok last) was ends = inl (first value, was, ends)
 then_ends first second First Next value (Err why) was ends =
@@ -45,21 +45,21 @@ then_ends first second First Next value (Err why) was ends =
     (λ verdict end. inl (first value, was, end)) ends
 
 -- a stage that stopped
-pub then_stops : {X Y : Type 0} (First : Outcome X → Type 0) (Next : X → Outcome Y → Type 0) (why : Stop) →
+pub then_stops : {X Y : Type 0} (First : StageEnd X → Type 0) (Next : X → StageEnd Y → Type 0) (why : Stop) →
     StopsWith (λ verdict. First (stopped verdict)) why → StopsWith (λ verdict. Then First Next (stopped verdict)) why
 then_stops First Next why stops =
     stops_weaker (λ verdict. First (stopped verdict)) (λ verdict. Then First Next (stopped verdict)) why
     (λ verdict was. inr (verdict, was, refl)) stops
 
 -- a stage that stopped a command
-pub due_stops : {X : Type 0} (First : Outcome X → Type 0) (Last : X → VerdictShape → Type 0) (why : Stop) →
+pub due_stops : {X : Type 0} (First : StageEnd X → Type 0) (Last : X → VerdictShape → Type 0) (why : Stop) →
     StopsWith (λ verdict. First (stopped verdict)) why → StopsWith (DueThen First Last) why
 due_stops First Last why stops =
     stops_weaker (λ verdict. First (stopped verdict)) (DueThen First Last) why (λ verdict was. inr was) stops
 
 -- a stage and what is due for what it gave, where other such are put for both
-pub due_moved : {X : Type 0} (First Other : Outcome X → Type 0) (Last Least : X → VerdictShape → Type 0)
-    (verdict : VerdictShape) → ((end : Outcome X) → First end → Other end) →
+pub due_moved : {X : Type 0} (First Other : StageEnd X → Type 0) (Last Least : X → VerdictShape → Type 0)
+    (verdict : VerdictShape) → ((end : StageEnd X) → First end → Other end) →
     ((x : X) → Last x verdict → Least x verdict) → DueThen First Last verdict → DueThen Other Least verdict
 due_moved First Other Last Least verdict first last due =
     ⊎_elim (λ left. inl (left.0, first (given left.0) left.1, last left.0 left.2))
@@ -67,7 +67,7 @@ due_moved First Other Last Least verdict first last due =
 
 -- ---- a stop that is handed on as it is
 
-pub handed_on : {X Y : Type 0} (view : X → Y) (P : Outcome Y → Type 0) (why : Stop) (result : Result X Stop) →
+pub handed_on : {X Y : Type 0} (view : X → Y) (P : StageEnd Y → Type 0) (why : Stop) (result : Result X Stop) →
     IsErr result × IsErrAnd result (λ other. other ≡ why) → StopsWith (λ verdict. P (stopped verdict)) why →
     EndsAs view P result
 handed_on view P why (Ok value) is stops = absurd is.1
@@ -91,17 +91,17 @@ ends_weaker P Q (Err why) weaker ends = stops_weaker P Q why weaker ends
 
 -- ---- one outcome
 
-abbrev pub give : {X : Type 0} → X → Outcome X
+abbrev pub give : {X : Type 0} → X → StageEnd X
 give x = given x
 
-abbrev pub stop_with : {X : Type 0} → VerdictShape → Outcome X
+abbrev pub stop_with : {X : Type 0} → VerdictShape → StageEnd X
 stop_with verdict = stopped verdict
 
-abbrev pub IsOne : {X : Type 0} → (Outcome X → Type 0) → Type 0
-IsOne {X} P = (first second : Outcome X) → P first → P second → first ≡ second
+abbrev pub IsOne : {X : Type 0} → (StageEnd X → Type 0) → Type 0
+IsOne {X} P = (first second : StageEnd X) → P first → P second → first ≡ second
 
 -- two stages have one outcome where each has
-pub one_then : {X Y : Type 0} (First : Outcome X → Type 0) (Next : X → Outcome Y → Type 0) → IsOne First →
+pub one_then : {X Y : Type 0} (First : StageEnd X → Type 0) (Next : X → StageEnd Y → Type 0) → IsOne First →
     ((x : X) → First (given x) → IsOne (Next x)) → IsOne (Then First Next)
 one_then {X} {Y} First Next one next first second one_is two_is =
     ⊎_elim
@@ -123,7 +123,7 @@ one_then {X} {Y} First Next one next first second one_is two_is =
     one_is
 
 -- a stage and what is due for what it gave are one verdict where each is one
-pub one_due : {X : Type 0} (First : Outcome X → Type 0) (Last : X → VerdictShape → Type 0)
+pub one_due : {X : Type 0} (First : StageEnd X → Type 0) (Last : X → VerdictShape → Type 0)
     (first second : VerdictShape) → IsOne First →
     ((x : X) → First (given x) → Last x first → Last x second → first ≡ second) →
     DueThen First Last first → DueThen First Last second → first ≡ second

@@ -48,21 +48,21 @@ PutsFronts first second sink =
 -- ---- answers to what is due
 
 -- all of the text was put, with no fault, and the answer is this status, or a front of it, where the sink counted one
-abbrev pub Puts : List ℕ → Status → Status → SinkChange → Type 0
-Puts text status answer sink =
+abbrev pub PutsWhole : List ℕ → Status → Status → SinkChange → Type 0
+PutsWhole text status answer sink =
     ((answer ≡ status) × Takes text sink.taken_before sink.taken_after × (sink.faults_after ≡ sink.faults_before))
     ⊎ ((answer ≡ OutFault) × Rose sink.faults_before sink.faults_after × PutsFront text sink)
 
 -- A refusal puts its line on the error output, behind the program's name, and nothing on the output. A report goes on
 -- the output, with nothing on the error output.
-abbrev pub IsRefused : (program : List ℕ) → RefusalShape → Status → SinkChange → Type 0
-IsRefused program refusal answer err =
-    Puts (error_line program (refusal_text refusal)) (refusal_status refusal) answer err
+abbrev pub IsRefusalAnswered : (program : List ℕ) → RefusalShape → Status → SinkChange → Type 0
+IsRefusalAnswered program refusal answer err =
+    PutsWhole (error_line program (refusal_text refusal)) (refusal_status refusal) answer err
 
 abbrev pub IsAnswered : (program : List ℕ) → VerdictShape → Status → SinkChange → SinkChange → Type 0
 IsAnswered program (Refuse refusal) answer out err =
-    IsUntouched out × IsRefused program refusal answer err
-IsAnswered program (Print status text) answer out err = IsUntouched err × Puts text status answer out
+    IsUntouched out × IsRefusalAnswered program refusal answer err
+IsAnswered program (Print status text) answer out err = IsUntouched err × PutsWhole text status answer out
 
 -- ---- where memory ran out
 
@@ -81,9 +81,9 @@ abbrev pub IsUndue : (program : List ℕ) → SinkChange → SinkChange → Type
 IsUndue program out err = IsUntouched out × PutsFront (no_memory_line program) err
 
 -- the answer to a refusal, or want of memory while it was put
-abbrev pub Refuses : (program : List ℕ) → RefusalShape → Status → SinkChange → Type 0
-Refuses program refusal answer err =
-    ((answer ≡ NoMemory) × IsRefusalCut program refusal err) ⊎ IsRefused program refusal answer err
+abbrev pub AnswersRefusal : (program : List ℕ) → RefusalShape → Status → SinkChange → Type 0
+AnswersRefusal program refusal answer err =
+    ((answer ≡ NoMemory) × IsRefusalCut program refusal err) ⊎ IsRefusalAnswered program refusal answer err
 
 -- the answer to what is due, or want of memory while it was put
 abbrev pub AnswersVerdict : (program : List ℕ) → VerdictShape → Status → SinkChange → SinkChange → Type 0

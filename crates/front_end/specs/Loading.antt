@@ -8,7 +8,7 @@ use Rattle.front_end.specs.declared.load.Loaded.TheVariants.{Bytes, TooLong}
 use Rattle.front_end.specs.declared.stop.Stop.{Stop}
 use Rattle.front_end.specs.declared.stop.Stop.TheVariants as stop
 use Rattle.front_end.specs.declared.verdict.Verdict.{Verdict}
-use Rattle.front_end.specs.Stages.{Outcome, given, stopped}
+use Rattle.front_end.specs.Stages.{StageEnd, given, stopped}
 use Rattle.front_end.specs.Verdicts.{VerdictShape, verdict_shape, file_fault, no_such_file}
 use Rattle.front_end.specs.Loads.{FilesChange, Told, IsHeld, LoadsWell, IsFirstAbsent, IsFileFault}
 
@@ -45,7 +45,7 @@ StopsWith P stop.OutOfMemory = ⊤
 StopsWith P (stop.Due verdict) = P (verdict_shape verdict)
 
 -- A result ends a stage: its value, seen so, is what the stage gives, and where it has none the command stops.
-abbrev pub EndsAs : {X Y : Type 0} → (X → Y) → (Outcome Y → Type 0) → Result X Stop → Type 0
+abbrev pub EndsAs : {X Y : Type 0} → (X → Y) → (StageEnd Y → Type 0) → Result X Stop → Type 0
 EndsAs view P (Ok x) = P (given (view x))
 EndsAs view P (Err why) = StopsWith (λ verdict. P (stopped verdict)) why
 

@@ -5,12 +5,12 @@ use Rattle.need_labels.specs.Labelled as needs
 use Rattle.need_labels.specs.Needs.{NeedsShape, AreNeedsOf}
 use Rattle.need_labels.specs.Plan.{PlanShape}
 use Rattle.place_rules.specs.Allowed.{AllowedShape}
-use Rattle.place_rules.specs.Refusal.{IsRefused}
+use Rattle.place_rules.specs.Refusal.{IsPlaceRefused}
 use Rattle.place_rules.specs.declared.place_error.PlaceError.{PlaceError}
 use Rattle.place_rules.specs.declared.place_error.PlaceError.TheVariants as place
 use Rattle.placement.specs.Placing.{IsPlaced}
 use Rattle.front_end.specs.Sources.{Source, Sources}
-use Rattle.front_end.specs.Stages.{Outcome, given, stopped, Then}
+use Rattle.front_end.specs.Stages.{StageEnd, given, stopped, Then}
 use Rattle.front_end.specs.Verdicts.{places_refused}
 
 -- the program with the labels that the label check finds
@@ -37,15 +37,15 @@ pub record AreChosen (source : Source) (placed : PlacedSource) : Type 0 where
 pub record HasNoPlace (source : Source) (why : PlaceError) : Type 0 where
   pub needs : NeedsShape
   pub needs_are : AreNeedsOf source.file.principals (labelled_source source) needs
-  pub refused : IsRefused (labelled_source source) needs source.file why
+  pub refused : IsPlaceRefused (labelled_source source) needs source.file why
   pub not_memory : why ≢ place.OutOfMemory
 
 -- a program gets places on its hosts
-abbrev pub OnHosts : Source → Outcome PlacedSource → Type 0
+abbrev pub OnHosts : Source → StageEnd PlacedSource → Type 0
 OnHosts source (given placed) = AreChosen source placed
 OnHosts source (stopped verdict) =
     (why : PlaceError) × HasNoPlace source why × (verdict ≡ places_refused source.tree why)
 
 -- a program and a host file, up to the places
-abbrev pub PlacedSources : List ℕ → List ℕ → Outcome PlacedSource → Type 0
+abbrev pub PlacedSources : List ℕ → List ℕ → StageEnd PlacedSource → Type 0
 PlacedSources program hosts = Then (Sources program hosts) OnHosts

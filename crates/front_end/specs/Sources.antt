@@ -27,31 +27,31 @@ use Rattle.jif_resolve.specs.Verdicts.{IsProgramOf}
 use Rattle.label_check.specs.declared.check_error.CheckError.{CheckError}
 use Rattle.label_check.specs.declared.check_error.CheckError.TheVariants as check
 use Rattle.label_check.specs.Checking as labels
-use Rattle.front_end.specs.Stages.{Outcome, given, stopped, Then}
+use Rattle.front_end.specs.Stages.{StageEnd, given, stopped, Then}
 use Rattle.front_end.specs.Verdicts.{hosts_refused, labels_refused, not_lexed, not_parsed, not_resolved}
 
 -- the tokens of a program
-abbrev pub Lexed : List ℕ → Outcome (List Token) → Type 0
+abbrev pub Lexed : List ℕ → StageEnd (List Token) → Type 0
 Lexed bytes (given list) = (length bytes ≤ PROGRAM_BYTES) × ReadsAs bytes (tokens list)
 Lexed bytes (stopped verdict) =
     (why : LexError) × LexFails bytes why × (why ≢ lex.OutOfMemory) × (verdict ≡ not_lexed why)
 
 -- the draft that tokens are
-abbrev pub Parsed : List Token → Outcome DraftShape → Type 0
+abbrev pub Parsed : List Token → StageEnd DraftShape → Type 0
 Parsed list (given draft) = grammar.IsProgramOf list draft
 Parsed list (stopped verdict) =
     (why : ParseError) × IsRefusedBy list why × (why ≢ parse.OutOfMemory)
     × (verdict ≡ not_parsed why)
 
 -- the hosts of a host file
-abbrev pub HostsRead : List ℕ → Outcome HostsShape → Type 0
+abbrev pub HostsRead : List ℕ → StageEnd HostsShape → Type 0
 HostsRead bytes (given file) = ReadsHosts bytes file
 HostsRead bytes (stopped verdict) =
     (why : HostsError) × RefusesHosts bytes why × (why ≢ hosts_error.OutOfMemory)
     × (verdict ≡ hosts_refused (refusal_shape why))
 
 -- the program of a draft
-abbrev pub Resolved : HostsShape → DraftShape → Outcome ProgramTree → Type 0
+abbrev pub Resolved : HostsShape → DraftShape → StageEnd ProgramTree → Type 0
 Resolved file draft (given tree) = IsProgramOf file.principals draft tree
 Resolved file draft (stopped verdict) =
     (why : ResolveError) × names.IsRefusedFor file.principals draft why × (why ≢ resolve.OutOfMemory)
@@ -63,27 +63,27 @@ pub record Source : Type 0 where
   pub tree : ProgramTree
 
 -- a program is accepted with these hosts where its labels keep the rules
-abbrev pub Labelled : HostsShape → ProgramTree → Outcome Source → Type 0
-Labelled file tree (given source) =
+abbrev pub ProgramLabelled : HostsShape → ProgramTree → StageEnd Source → Type 0
+ProgramLabelled file tree (given source) =
     IsWellLabelled file.principals tree × (source ≡ record { file = file; tree = tree })
-Labelled file tree (stopped verdict) =
-    (why : CheckError) × labels.IsRefusedFor file.principals tree why × (why ≢ check.OutOfMemory)
+ProgramLabelled file tree (stopped verdict) =
+    (why : CheckError) × labels.IsLabelRefusedFor file.principals tree why × (why ≢ check.OutOfMemory)
     × (verdict ≡ labels_refused file.principals (statement_lines tree) why)
 
 -- ---- the stages in order
 
 -- a program, up to its draft
-abbrev pub Drafted : List ℕ → Outcome DraftShape → Type 0
+abbrev pub Drafted : List ℕ → StageEnd DraftShape → Type 0
 Drafted program = Then (Lexed program) Parsed
 
 -- a draft, with the hosts that were read
-abbrev pub Accepted : HostsShape → DraftShape → Outcome Source → Type 0
-Accepted file draft = Then (Resolved file draft) (Labelled file)
+abbrev pub DraftAccepted : HostsShape → DraftShape → StageEnd Source → Type 0
+DraftAccepted file draft = Then (Resolved file draft) (ProgramLabelled file)
 
 -- a host file, and a draft with its hosts
-abbrev pub AcceptedWith : List ℕ → DraftShape → Outcome Source → Type 0
-AcceptedWith hosts draft = Then (HostsRead hosts) (λ file. Accepted file draft)
+abbrev pub AcceptedWith : List ℕ → DraftShape → StageEnd Source → Type 0
+AcceptedWith hosts draft = Then (HostsRead hosts) (λ file. DraftAccepted file draft)
 
 -- a program and a host file
-abbrev pub Sources : List ℕ → List ℕ → Outcome Source → Type 0
+abbrev pub Sources : List ℕ → List ℕ → StageEnd Source → Type 0
 Sources program hosts = Then (Drafted program) (AcceptedWith hosts)

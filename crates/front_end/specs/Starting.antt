@@ -3,11 +3,11 @@ use Rattle.std.specs.Prelude.{◌≡◌, ℕ, ◌<◌, ◌≤◌, ℤ, List, len
 use Rattle.js_base.specs.declared.limits.TheConstants.{SCRIPT_BYTES}
 use Rattle.event_text.specs.Settings.{FieldForm}
 use Rattle.event_text.specs.Start.{start_of}
-use Rattle.front_end.specs.Stages.{Outcome, given, stopped}
+use Rattle.front_end.specs.Stages.{StageEnd, given, stopped}
 use Rattle.front_end.specs.Verdicts.{too_long, no_form}
 
 -- what a file of this name gives that holds these bytes
-pub data StartingValues (file start : List ℕ) (fields : List FieldForm) : Outcome (List (List ℤ)) → Type 0 where
+pub data StartingValues (file start : List ℕ) (fields : List FieldForm) : StageEnd (List (List ℤ)) → Type 0 where
   long : SCRIPT_BYTES < length start → StartingValues file start fields (stopped (too_long file))
   bad_line : (line : ℕ) → length start ≤ SCRIPT_BYTES → start_of fields start ≡ Err line →
       StartingValues file start fields (stopped (no_form file line))

@@ -3,7 +3,7 @@
 ghost use Rattle.std.specs.Prelude.{◌≡◌, IfErr, IfOk, IsErrOf, OnOk};
 ghost use Rattle.std.specs.String.{string_bytes};
 ghost use Rattle.js_base.specs.Sink.{TakesFront};
-ghost use Rattle.front_end.specs.Answers.{AnswersVerdict, IsUndue, Refuses, sink_change};
+ghost use Rattle.front_end.specs.Answers.{AnswersVerdict, IsUndue, AnswersRefusal, sink_change};
 ghost use Rattle.front_end.specs.Refusals.{error_line, no_memory_line, refusal_shape, refusal_text};
 ghost use Rattle.front_end.specs.Verdicts.{verdict_shape};
 
@@ -48,7 +48,7 @@ fn refuse<E: Sink>(
     err: &mut E,
 ) -> Status
     requires { no_memory.now ≡ no_memory_line program.now }
-    ensures { Refuses program.now (refusal_shape refusal.now) result (sink_change E.Sink err.old err.new) }
+    ensures { AnswersRefusal program.now (refusal_shape refusal.now) result (sink_change E.Sink err.old err.new) }
 {
     match line_of(alloc, program, refusal) {
         Ok(line) => {

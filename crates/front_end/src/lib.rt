@@ -42,7 +42,7 @@ mod verdict;
 
 pub use answers::answer;
 pub use laws::source_laws;
-pub use load::{Asked, Loaded, as_loaded, host_file, load_all, program_file};
+pub use load::{Asked, Loaded, as_loaded, host_file, load_all, program_file, script_file};
 pub use placed::{PlacedSource, on_hosts, read_places};
 pub use placed_code::{code_of, releases_of};
 pub use refusal::{LineCause, Refusal};

@@ -4,13 +4,13 @@ ghost use Rattle.std.specs.Prelude.{◌≡◌, ◌≤◌, ◌+◌, length, map, 
 ghost use Rattle.std.specs.List.{AllZip};
 ghost use Rattle.std.specs.String.{string_bytes};
 ghost use Rattle.js_base.specs.Counts.{counted};
-ghost use Rattle.js_base.specs.declared.limits.TheConstants.{HOSTS_BYTES, PROGRAM_BYTES};
+ghost use Rattle.js_base.specs.declared.limits.TheConstants.{HOSTS_BYTES, PROGRAM_BYTES, SCRIPT_BYTES};
 ghost use Rattle.front_end.specs.Loading.{Gives, IsLoaded, IsStopOf, LoadStops, StopCounts, StopsWith, StopsLoading};
 ghost use Rattle.front_end.specs.Loads.{AreKept, counted_by, files_change};
 
 use crate::stop::{Stop, stopped};
 use crate::verdict::Verdict;
-use js_base::limits::{HOSTS_BYTES, PROGRAM_BYTES};
+use js_base::limits::{HOSTS_BYTES, PROGRAM_BYTES, SCRIPT_BYTES};
 use js_base::{Files, LoadError};
 use std::alloc::Global;
 
@@ -40,6 +40,17 @@ pub fn host_file(name: &str) -> Asked<'_>
     Asked {
         name,
         most: HOSTS_BYTES,
+    }
+}
+
+/// A file of starting values or of events.
+pub fn script_file(name: &str) -> Asked<'_>
+    ensures name { result.name.now ≡ name.now }
+    ensures most { result.most ≡ SCRIPT_BYTES }
+{
+    Asked {
+        name,
+        most: SCRIPT_BYTES,
     }
 }
 

@@ -12,7 +12,8 @@ ghost use Rattle.label_check.specs.Checking.{AreAuthorities};
 ghost use Rattle.front_end.specs.Loading.{EndsAs, IsLoaded};
 ghost use Rattle.front_end.specs.ReadPrograms.{AreShort, IsReadDraft, IsReadProgram};
 ghost use Rattle.front_end.specs.SourceShapes.{source_shape};
-ghost use Rattle.front_end.specs.Sources.{Accepted, Lexed, Parsed, Drafted, HostsRead, Resolved, Labelled, Sources};
+ghost use Rattle.front_end.specs.Sources.{DraftAccepted, Lexed, Parsed, Drafted, HostsRead, Resolved, ProgramLabelled};
+ghost use Rattle.front_end.specs.Sources.{Sources};
 
 use crate::load::Loaded;
 use crate::statements::statement_lines;
@@ -62,7 +63,7 @@ pub fn read_sources(alloc: Global, program: &Loaded, hosts: &Loaded) -> Result<S
 pub fn accepted(alloc: Global, draft: Draft, hosts: Hosts) -> Result<Source, Stop>
     requires draft { IsReadDraft (draft_shape draft) }
     requires short { AreShort hosts }
-    ensures { EndsAs source_shape (Accepted hosts (draft_shape draft)) result }
+    ensures { EndsAs source_shape (DraftAccepted hosts (draft_shape draft)) result }
 {
     let program = resolved(alloc, draft, &hosts)?;
     labelled(alloc, program, hosts)
@@ -160,7 +161,7 @@ pub fn labelled(alloc: Global, program: Program, hosts: Hosts) -> Result<Source,
     requires read { IsReadProgram (program_tree program) }
     requires authorities { AreAuthorities hosts.principals (program_tree program) }
     requires short { AreShort hosts }
-    ensures { EndsAs source_shape (Labelled hosts (program_tree program)) result }
+    ensures { EndsAs source_shape (ProgramLabelled hosts (program_tree program)) result }
 {
     let lines = statement_lines(alloc, &program)?;
     match check(alloc, program, hosts.principals()) {

@@ -26,8 +26,8 @@ use Rattle.host_code.specs.Code.{CodeShape, CodeFieldShape, CodeVariableShape, h
 abbrev pub IsHost : CodeShape → HostId → Type 0
 IsHost code host = host.0 < length code.hosts
 
-abbrev pub IsLabel : CodeShape → ℕ → Type 0
-IsLabel code label = label < length code.labels
+abbrev pub IsLabelNumber : CodeShape → ℕ → Type 0
+IsLabelNumber code label = label < length code.labels
 
 abbrev pub IsField : CodeShape → FieldId → Type 0
 IsField code field = field.0 < length code.fields
@@ -111,7 +111,7 @@ OperationFits code me count (op.CallWith entry on riders) =
     IsEntryOn code on entry × IsOther code me on × AreRiding code riders
 
 pub record InstructionFits (code : CodeShape) (me : HostId) (at : ℕ) (instruction : Instr) : Type 0 where
-  pub label : IsLabel code instruction.label
+  pub label : IsLabelNumber code instruction.label
   pub operation : OperationFits code me (temporaries_at code.entries me (part_of code me) at) instruction.op
 
 -- the last instruction of a host leaves it
@@ -137,7 +137,7 @@ HasSize field = (0 < field.size) × (field.size ≤ ARRAY_SIZE) × ((field.array
 pub record FieldFits (code : CodeShape) (field : CodeFieldShape) : Type 0 where
   pub name : IsName field.name
   pub short : length field.name ≤ MOST_ITEMS
-  pub label : IsLabel code field.label
+  pub label : IsLabelNumber code field.label
   pub size : HasSize field
   pub host : IsHost code field.host
 
@@ -150,13 +150,13 @@ IsVariableName text =
 pub record VariableFits (code : CodeShape) (variable : CodeVariableShape) : Type 0 where
   pub name : IsVariableName variable.name
   pub short : length variable.name ≤ MOST_ITEMS
-  pub label : IsLabel code variable.label
+  pub label : IsLabelNumber code variable.label
 
 -- a thread starts at an instruction of the entry's host
 pub record EntryFits (code : CodeShape) (entry : Entry) : Type 0 where
   pub host : IsHost code entry.host
   pub at : entry.at < length (part_of code entry.host)
-  pub label : IsLabel code entry.label
+  pub label : IsLabelNumber code entry.label
 
 -- the entry stands on the root host
 abbrev pub IsOnRoot : CodeShape → EntryId → Type 0

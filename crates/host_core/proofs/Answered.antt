@@ -12,7 +12,7 @@ use Rattle.host_code.specs.Thread.Awaited.{value_of_field, acknowledgement, toke
 use Rattle.host_code.specs.Code.{CodeShape, part_of}
 use Rattle.capability.specs.declared.token.Token.{Token}
 use Rattle.host_core.specs.Awaiting.{awaits, is_same_answer}
-use Rattle.host_core.specs.Host.{HostShape, with_token}
+use Rattle.host_core.specs.Host.{HostState, with_token}
 use Rattle.host_core.specs.Taking.{after_answer, place_of_awaiting}
 use Rattle.host_core.specs.Fits.{StateFits, RunningFits, WaitingFits, HeldFits, TokenFits}
 
@@ -41,7 +41,7 @@ running_again : (code : CodeShape) (me : HostId) (found : Option WaitingShape) (
 running_again code me None answered fits = tt
 running_again code me (Some waiting) answered fits = fits waiting refl
 
-waking_kept : (code : CodeShape) (host : HostShape) (place : ℕ) (answered : ThreadShape → ThreadShape) →
+waking_kept : (code : CodeShape) (host : HostState) (place : ℕ) (answered : ThreadShape → ThreadShape) →
     StateFits code host
     → ((waiting : WaitingShape) → slice_get host.waiting place ≡ Some waiting →
     RunningFits code host.me (answered waiting.thread))
@@ -61,7 +61,7 @@ waking_kept code host place answered fits runs = record {
 }
 
 -- what holds of the thread at a place
-waiting_at : (code : CodeShape) (host : HostShape) (place : ℕ) (waiting : WaitingShape) → StateFits code host
+waiting_at : (code : CodeShape) (host : HostState) (place : ℕ) (waiting : WaitingShape) → StateFits code host
     → slice_get host.waiting place ≡ Some waiting → WaitingFits code host.me waiting
 waiting_at code host place waiting fits at =
     subst (WaitingFits code host.me) (get_or_from_slice_get host.waiting place waiting waiting at)
@@ -69,7 +69,7 @@ waiting_at code host place waiting fits at =
     (slice_get_within host.waiting place waiting at) fits.waiting)
 
 -- a value or an acknowledgement
-answered_at : (code : CodeShape) (host : HostShape) (awaited : Awaited) (request : RequestId) (from : HostId)
+answered_at : (code : CodeShape) (host : HostState) (awaited : Awaited) (request : RequestId) (from : HostId)
     (answered : ThreadShape → ThreadShape) (found : Option ℕ) → StateFits code host
     → (awaited ≡ token_of_entry → ⊥)
     → ((thread : ThreadShape) → (answered thread).at ≡ thread.at) →
@@ -86,7 +86,7 @@ answered_at code host awaited request from answered (Some place) fits other at h
           (passes_at (awaits awaited request from) host.waiting place waiting is there) other holds.held);
     })
 
-pub kept_answer : (code : CodeShape) (host : HostShape) (awaited : Awaited) (request : RequestId) (from : HostId)
+pub kept_answer : (code : CodeShape) (host : HostState) (awaited : Awaited) (request : RequestId) (from : HostId)
     (answered : ThreadShape → ThreadShape) → StateFits code host → (awaited ≡ token_of_entry → ⊥)
     → ((thread : ThreadShape) → (answered thread).at ≡ thread.at) →
     ((thread : ThreadShape) → (answered thread).held ≡ thread.held)
@@ -96,7 +96,7 @@ kept_answer code host awaited request from answered fits other at held =
     held refl
 
 -- a token
-token_at : (code : CodeShape) (host : HostShape) (token : Token) (found : Option ℕ) → StateFits code host
+token_at : (code : CodeShape) (host : HostState) (token : Token) (found : Option ℕ) → StateFits code host
     → TokenFits code token → StateFits code (after_answer host found (with_token (Some token)))
 token_at code host token None fits there = fits
 token_at code host token (Some place) fits there =
@@ -105,7 +105,7 @@ token_at code host token (Some place) fits there =
       held = there;
     })
 
-pub kept_token : (code : CodeShape) (host : HostShape) (request : RequestId) (from : HostId) (token : Token)
+pub kept_token : (code : CodeShape) (host : HostState) (request : RequestId) (from : HostId) (token : Token)
     → StateFits code host → TokenFits code token
     → StateFits code (after_answer host (place_of_awaiting host token_of_entry request from) (with_token (Some token)))
 kept_token code host request from token fits there =

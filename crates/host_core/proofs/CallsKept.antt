@@ -11,7 +11,7 @@ use Rattle.entry_check.specs.Checks.{ChecksShape, AreChecksOf}
 use Rattle.host_core.specs.declared.host.HostError.{HostError}
 use Rattle.host_core.specs.declared.host.HostError.TheVariants.{Stopped}
 use Rattle.host_core.specs.Calls.{CountsCall, KeepsHost}
-use Rattle.host_core.specs.Host.{HostShape, HostModel, Outcome, IsSameHost, StepsBy, IsStopped, state_of}
+use Rattle.host_core.specs.Host.{HostState, HostModel, Outcome, IsSameHost, StepsBy, IsStopped, state_of}
 use Rattle.host_core.specs.Taking.{IsTaking}
 use Rattle.host_core.specs.Turn.{IsTurn}
 use Rattle.host_core.specs.Fits.{HostFits, OutcomeFits, SentFits, TokensFit}
@@ -35,7 +35,7 @@ step_kept code before begun after sent fits state checks same kept = (
   record {
     state = kept.0;
     checks = same_checks code before.me after.me before.checks after.checks fits.checks
-        (same.me ∙ ap (λ (h : HostShape). h.me) state) (same.checks ∙ checks);
+        (same.me ∙ ap (λ (h : HostState). h.me) state) (same.checks ∙ checks);
   },
   kept.1,
 )
@@ -47,7 +47,7 @@ pub deliver_kept : (code : CodeShape) (before begun after : HostModel) (from : H
     → HostFits code after × SentFits code before.me sent
 deliver_kept code before begun after from letter sent sound fits other tokens state checks made =
     let outcome : Outcome = record { state = state_of after; sent = sent } in
-    let taking = subst (λ (h : HostShape). IsTaking code h from letter outcome) state made.step in
+    let taking = subst (λ (h : HostState). IsTaking code h from letter outcome) state made.step in
     step_kept code before begun after sent fits state checks made.same
     (taking_kept code (state_of before) from letter outcome sound fits.state other tokens taking)
 

@@ -20,13 +20,13 @@ use Rattle.host_code.specs.declared.code.Entry.{Entry}
 use Rattle.host_code.specs.Thread.{ThreadShape, Awaited}
 use Rattle.host_code.specs.Code.{CodeShape, part_of, entry_at, halt}
 use Rattle.host_code.specs.Sound.{IsOther, IsSoundCode}
-use Rattle.host_core.specs.Host.{HostShape, with_one_ignored, with_row_written, with_variable_set, with_running}
+use Rattle.host_core.specs.Host.{HostState, with_one_ignored, with_row_written, with_variable_set, with_running}
 use Rattle.host_core.specs.Host.{after_push, after_entering, after_pop, after_asking, thread_at}
-use Rattle.host_core.specs.Fits.{StateFits, RunningFits, WaitingFits, EntryFits, HeldFits, IsEntryOf, IsPlace}
+use Rattle.host_core.specs.Fits.{StateFits, RunningFits, WaitingFits, StackEntryFits, HeldFits, IsEntryOf, IsPlace}
 use Rattle.host_core.specs.Fits.{TokenFits}
 use Rattle.host_core.proofs.CodeFacts.{some_within}
 
-pub kept_ignored : (code : CodeShape) (host : HostShape) → StateFits code host → StateFits code (with_one_ignored host)
+pub kept_ignored : (code : CodeShape) (host : HostState) → StateFits code host → StateFits code (with_one_ignored host)
 kept_ignored code host fits = record {
   me = fits.me;
   rows = fits.rows;
@@ -39,7 +39,7 @@ kept_ignored code host fits = record {
   stack = fits.stack;
 }
 
-pub kept_row : (code : CodeShape) (host : HostShape) (field : FieldId) (index value : ℤ) → StateFits code host
+pub kept_row : (code : CodeShape) (host : HostState) (field : FieldId) (index value : ℤ) → StateFits code host
     → StateFits code (with_row_written host field index value)
 kept_row code host field index value fits = record {
   me = fits.me;
@@ -53,7 +53,7 @@ kept_row code host field index value fits = record {
   stack = fits.stack;
 }
 
-pub kept_variable : (code : CodeShape) (host : HostShape) (frame : FrameId) (variable : VarId) (value : ℤ)
+pub kept_variable : (code : CodeShape) (host : HostState) (frame : FrameId) (variable : VarId) (value : ℤ)
     → StateFits code host → StateFits code (with_variable_set host frame variable value)
 kept_variable code host frame variable value fits = record {
   me = fits.me;
@@ -67,7 +67,7 @@ kept_variable code host frame variable value fits = record {
   stack = fits.stack;
 }
 
-pub kept_running : (code : CodeShape) (host : HostShape) (thread : ThreadShape) → StateFits code host
+pub kept_running : (code : CodeShape) (host : HostState) (thread : ThreadShape) → StateFits code host
     → RunningFits code host.me thread → StateFits code (with_running host (Some thread))
 kept_running code host thread fits there = record {
   me = fits.me;
@@ -81,7 +81,7 @@ kept_running code host thread fits there = record {
   stack = fits.stack;
 }
 
-pub kept_at_rest : (code : CodeShape) (host : HostShape) → StateFits code host → StateFits code (with_running host None)
+pub kept_at_rest : (code : CodeShape) (host : HostState) → StateFits code host → StateFits code (with_running host None)
 kept_at_rest code host fits = record {
   me = fits.me;
   rows = fits.rows;
@@ -94,7 +94,7 @@ kept_at_rest code host fits = record {
   stack = fits.stack;
 }
 
-pub kept_push : (code : CodeShape) (host : HostShape) (entry : EntryId) (frame : FrameId) (kept : Token)
+pub kept_push : (code : CodeShape) (host : HostState) (entry : EntryId) (frame : FrameId) (kept : Token)
     → StateFits code host → IsEntryOf code host.me entry → TokenFits code kept
     → StateFits code (after_push host entry frame kept)
 kept_push code host entry frame kept fits there held = record {
@@ -105,14 +105,14 @@ kept_push code host entry frame kept fits there held = record {
   requests = fits.requests;
   running = fits.running;
   waiting = fits.waiting;
-  entries = All-cons (EntryFits code host.me) _ host.entries
+  entries = All-cons (StackEntryFits code host.me) _ host.entries
       (record { entry = there; token = refl; kept = held }) fits.entries;
   stack = fits_more host.me host.serials host.entries _ fits.stack
       (record { host_is = refl; entry_is = refl; frame_is = refl }) refl
       (subst (λ (n : ℕ). entry.0 < n) (sym fits.serials) (some_within _ code.entries entry.0 there));
 }
 
-pub kept_frames : (code : CodeShape) (host : HostShape) (site : ℕ) (count : ℕ) → StateFits code host
+pub kept_frames : (code : CodeShape) (host : HostState) (site : ℕ) (count : ℕ) → StateFits code host
     → StateFits code (record host { frames = slice_set host.frames site count })
 kept_frames code host site count fits = record {
   me = fits.me;
@@ -126,7 +126,7 @@ kept_frames code host site count fits = record {
   stack = fits.stack;
 }
 
-pub kept_asking : (code : CodeShape) (host : HostShape) (at : ℕ) (thread : ThreadShape) (awaited : Awaited)
+pub kept_asking : (code : CodeShape) (host : HostState) (at : ℕ) (thread : ThreadShape) (awaited : Awaited)
     (asked : HostId)
     → StateFits code host → IsPlace code host.me thread → HeldFits code awaited thread.held → IsOther code host.me asked
     → StateFits code (after_asking host at thread awaited asked)
@@ -153,7 +153,7 @@ place_of_entry code me entry there sound is on =
     let at : CodeEntryFits code there = subst (CodeEntryFits code) same fits in
     subst (λ (host : HostId). there.at < length (part_of code host)) on at.at
 
-entering : (code : CodeShape) (host : HostShape) (entry : EntryId) (frame : FrameId) (token : Token)
+entering : (code : CodeShape) (host : HostState) (entry : EntryId) (frame : FrameId) (token : Token)
     (there : Option Entry)
     → entry_at code entry ≡ there → IsSoundCode code → StateFits code host
     → IsSomeAnd there (λ found. found.host ≡ host.me) → TokenFits code token
@@ -163,13 +163,13 @@ entering code host entry frame token (Some there) is sound fits on held =
     kept_running code host (thread_at there frame token) fits
     (record { place = place_of_entry code host.me entry there sound is on; held = held })
 
-pub kept_entering : (code : CodeShape) (host : HostShape) (entry : EntryId) (frame : FrameId) (token : Token)
+pub kept_entering : (code : CodeShape) (host : HostState) (entry : EntryId) (frame : FrameId) (token : Token)
     → IsSoundCode code → StateFits code host → IsEntryOf code host.me entry → TokenFits code token
     → StateFits code (after_entering host (entry_at code entry) frame token)
 kept_entering code host entry frame token sound fits on held =
     entering code host entry frame token (entry_at code entry) refl sound fits on held
 
-popped : (code : CodeShape) (host : HostShape) (entry : EntryId) (frame : FrameId) (kept : Token) (halts : Bool)
+popped : (code : CodeShape) (host : HostState) (entry : EntryId) (frame : FrameId) (kept : Token) (halts : Bool)
     → IsSoundCode code → StateFits code host → IsEntryOf code host.me entry → TokenFits code kept
     → StateFits code (if halts then record host { running = None; halted = true }
     else after_entering host (entry_at code entry) frame kept)
@@ -187,8 +187,8 @@ popped code host entry frame kept true sound fits on held = record {
 popped code host entry frame kept false sound fits on held = kept_entering code host entry frame kept sound fits on held
 
 -- the entries below the top
-below_top : (code : CodeShape) (host : HostShape) (below : List StackEntry) → StateFits code host
-    → All (EntryFits code host.me) below → StackFits host.me host.serials below
+below_top : (code : CodeShape) (host : HostState) (below : List StackEntry) → StateFits code host
+    → All (StackEntryFits code host.me) below → StackFits host.me host.serials below
     → StateFits code (record host { entries = below })
 below_top code host below fits entries stack = record {
   me = fits.me;
@@ -202,13 +202,13 @@ below_top code host below fits entries stack = record {
   stack = stack;
 }
 
-pub kept_pop : (code : CodeShape) (host : HostShape) (entries : List StackEntry) → IsSoundCode code →
+pub kept_pop : (code : CodeShape) (host : HostState) (entries : List StackEntry) → IsSoundCode code →
     StateFits code host
-    → All (EntryFits code host.me) entries → StackFits host.me host.serials entries
+    → All (StackEntryFits code host.me) entries → StackFits host.me host.serials entries
     → StateFits code (after_pop code host entries)
 kept_pop code host [] sound fits all stack = fits
 kept_pop code host (top ∷ below) sound fits all stack =
-    let on_top = All-head (EntryFits code host.me) top below all in
+    let on_top = All-head (StackEntryFits code host.me) top below all in
     popped code (record host { entries = below }) top.entry top.frame top.kept (top.entry.0 == halt.0) sound
-    (below_top code host below fits (All-tail (EntryFits code host.me) top below all)
+    (below_top code host below fits (All-tail (StackEntryFits code host.me) top below all)
     (fits_below host.me host.serials top below stack)) on_top.entry on_top.kept

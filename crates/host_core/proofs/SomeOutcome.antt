@@ -20,8 +20,8 @@ use Rattle.host_code.specs.Code.{CodeShape, CodeVariableShape, variable_at, inst
 use Rattle.entry_check.specs.declared.ask.Ask.TheVariants as ask
 use Rattle.entry_check.specs.Checks.{MayRide, label_at, label_of_host}
 use Rattle.entry_check.proofs.Decisions.{same_host, same_entry, may_see, may}
-use Rattle.host_core.specs.Host.{HostShape, Outcome, with_running, without_message}
-use Rattle.host_core.specs.Taking.{Passes, IsTaking, after_taking}
+use Rattle.host_core.specs.Host.{HostState, Outcome, with_running, without_message}
+use Rattle.host_core.specs.Taking.{PassesCheck, IsTaking, after_taking}
 use Rattle.host_core.specs.Turn.{PassesWith, MayReturn, IsRunning, IsTurnOf, IsTurn, after_operation}
 use Rattle.host_core.specs.Turn.{with_thread}
 
@@ -79,8 +79,8 @@ may_ride code me from [] = inl tt
 may_ride code me from (variable ∷ variables) =
     both _ _ (may code me (ask.Forward variable) from) (may_ride code me from variables)
 
-passes : (code : CodeShape) (host : HostShape) (from : HostId) (taken : Message) →
-    Decided (Passes code host from taken)
+passes : (code : CodeShape) (host : HostState) (from : HostId) (taken : Message) →
+    Decided (PassesCheck code host from taken)
 passes code host from (message.Get request field index) = may code host.me (ask.Get field) from
 passes code host from (message.Set request field index value) = may code host.me (ask.Set field) from
 passes code host from (message.Forward request frame variable value) = may code host.me (ask.Forward variable) from
@@ -98,7 +98,7 @@ truth : (P : Type 0) → Decided P → (holds : Bool) × (IsTrue holds ↔ P)
 truth P (inl is) = (true, (λ _. is, λ _. refl))
 truth P (inr not) = (false, (λ is. absurd (cc), λ is. absurd (not is)))
 
-pub some_taking : (code : CodeShape) (state : HostShape) (from : HostId) (taken : Message) →
+pub some_taking : (code : CodeShape) (state : HostState) (from : HostId) (taken : Message) →
     (outcome : Outcome) × IsTaking code state from taken outcome
 some_taking code state from taken =
     let checked = truth _ (passes code state from taken) in
@@ -111,7 +111,7 @@ may_return : (code : CodeShape) (variable : Option CodeVariableShape) (to : Host
 may_return code None to = inr (λ may. may)
 may_return code (Some variable) to = may_see (label_at code variable.label) (label_of_host code to)
 
-passes_with : (code : CodeShape) (host : HostShape) (operation : Op) (held : Option Token) →
+passes_with : (code : CodeShape) (host : HostState) (operation : Op) (held : Option Token) →
     Decided (PassesWith code host operation held)
 passes_with code host (op.Ret variable value) (Some held) =
     implied _ _ (never _ (cases_eq held.host.0 host.me.0)) (may_return code (variable_at code variable) held.host)
@@ -119,18 +119,18 @@ passes_with code host op.Back (Some held) =
     implied _ _ (cases_eq held.host.0 host.me.0) (some_token (top_token host.entries) held)
 passes_with code host operation held = inl tt
 
-some_running : (code : CodeShape) (host : HostShape) (thread : ThreadShape) (instruction : Option Instr) →
+some_running : (code : CodeShape) (host : HostState) (thread : ThreadShape) (instruction : Option Instr) →
     (outcome : Outcome) × IsRunning code host thread instruction outcome
 some_running code host thread None = (with_thread host thread, refl)
 some_running code host thread (Some instruction) =
     let checked = truth _ (passes_with code host instruction.op thread.held) in
     (after_operation code host thread instruction.op checked.0, (checked.0, checked.1, refl))
 
-some_turn_of : (code : CodeShape) (host : HostShape) (running : Option ThreadShape) →
+some_turn_of : (code : CodeShape) (host : HostState) (running : Option ThreadShape) →
     (outcome : Outcome) × IsTurnOf code host running outcome
 some_turn_of code host None = (without_message host, refl)
 some_turn_of code host (Some thread) =
     some_running code (with_running host None) thread (instruction_at code host.me thread.at)
 
-pub some_turn : (code : CodeShape) (state : HostShape) → (outcome : Outcome) × IsTurn code state outcome
+pub some_turn : (code : CodeShape) (state : HostState) → (outcome : Outcome) × IsTurn code state outcome
 some_turn code state = some_turn_of code state state.running

@@ -9,9 +9,9 @@ use Rattle.host_code.specs.declared.code.Entry.{Entry}
 use Rattle.host_code.specs.Code.{CodeShape, CodeFieldShape, halt, part_of, entry_at}
 use Rattle.host_code.specs.Sound.{IsHost, IsSoundCode}
 use Rattle.host_stores.specs.Stores.{own_rows}
-use Rattle.host_core.specs.Host.{HostShape, new_token, after_push}
+use Rattle.host_core.specs.Host.{HostState, new_token, after_push}
 use Rattle.host_core.specs.Start.{main_frame, last_token, idle_host, root_host}
-use Rattle.host_core.specs.Fits.{StateFits, WaitingFits, EntryFits}
+use Rattle.host_core.specs.Fits.{StateFits, WaitingFits, StackEntryFits}
 use Rattle.host_core.proofs.Kept.{kept_push, kept_entering}
 
 -- there is a row for each field
@@ -30,7 +30,7 @@ idle_fits code store key me there = record {
   requests = length-replicate (length (part_of code me)) 0;
   running = tt;
   waiting = All-nil (WaitingFits code me);
-  entries = All-nil (EntryFits code me);
+  entries = All-nil (StackEntryFits code me);
   stack = fits_empty me (replicate (length code.entries) 0);
 }
 
@@ -45,7 +45,7 @@ main_on_root : (code : CodeShape) (me : HostId) (there : Option Entry) → me �
 main_on_root code me None same on = on
 main_on_root code me (Some found) same on = on ∙ sym same
 
-pub root_fits : (code : CodeShape) (idle : HostShape) → IsSoundCode code → StateFits code idle → idle.me ≡ code.root
+pub root_fits : (code : CodeShape) (idle : HostState) → IsSoundCode code → StateFits code idle → idle.me ≡ code.root
     → StateFits code (root_host code idle)
 root_fits code idle sound fits root =
     kept_entering code (after_push idle halt main_frame (last_token idle.me)) code.main main_frame

@@ -12,9 +12,9 @@ use Rattle.host_code.specs.Thread.Awaited.{value_of_field, acknowledgement}
 use Rattle.host_code.specs.Riders.{Rider}
 use Rattle.host_code.specs.Code.{CodeShape, entry_at}
 use Rattle.host_code.specs.Sound.{IsOther, IsSoundCode}
-use Rattle.host_core.specs.Host.{HostShape, Outcome, with_temporary, with_variable_set, with_variables_set}
+use Rattle.host_core.specs.Host.{HostState, Outcome, with_temporary, with_variable_set, with_variables_set}
 use Rattle.host_core.specs.Host.{after_entering}
-use Rattle.host_core.specs.Taking.{Passes, IsTaking, after_taking}
+use Rattle.host_core.specs.Taking.{PassesCheck, IsTaking, after_taking}
 use Rattle.host_core.specs.Fits.{OutcomeFits, StateFits, IsEntryOf, TokenFits, TokensFit}
 use Rattle.host_core.proofs.Kept.{kept_ignored, kept_row, kept_variable, kept_push, kept_entering, kept_pop}
 use Rattle.host_core.proofs.Answered.{kept_answer, kept_token}
@@ -26,18 +26,19 @@ on_host me P Q None on = on
 on_host me P Q (Some found) on = on.0
 
 -- a thread that starts where variables were set
-riders_kept : (code : CodeShape) (host : HostShape) (entry : EntryId) (frame : FrameId) (token : Token)
+riders_kept : (code : CodeShape) (host : HostState) (entry : EntryId) (frame : FrameId) (token : Token)
     (riders : List Rider) → IsSoundCode code → StateFits code host → IsEntryOf code host.me entry → TokenFits code token
     → StateFits code (after_entering (with_variables_set host frame riders) (entry_at code entry) frame token)
-riders_kept code host entry frame token [] sound fits on held = kept_entering code host entry frame token sound fits on held
+riders_kept code host entry frame token [] sound fits on held = kept_entering code host entry frame token sound fits on
+    held
 riders_kept code host entry frame token (rider ∷ riders) sound fits on held =
     riders_kept code (with_variable_set host frame rider.0 rider.1) entry frame token riders sound
     (kept_variable code host frame rider.0 rider.1 fits) on held
 
-message_kept : (code : CodeShape) (host : HostShape) (from : HostId) (letter : Message) (passes : Bool) →
+message_kept : (code : CodeShape) (host : HostState) (from : HostId) (letter : Message) (passes : Bool) →
     IsSoundCode code
     → StateFits code host → IsOther code host.me from → TokensFit code letter
-    → (IsTrue passes → Passes code host from letter)
+    → (IsTrue passes → PassesCheck code host from letter)
     → OutcomeFits code host.me (after_taking code host from letter passes)
 message_kept code host from letter false sound fits other tokens check = (kept_ignored code host fits, tt)
 message_kept code host from (message.Get request field index) true sound fits other tokens check = (fits, (other, tt))
@@ -74,7 +75,7 @@ message_kept code host from (message.Ack request) true sound fits other tokens c
 message_kept code host from (message.Token request token) true sound fits other tokens check =
     (kept_token code host request from token fits tokens, tt)
 
-pub taking_kept : (code : CodeShape) (host : HostShape) (from : HostId) (letter : Message) (outcome : Outcome)
+pub taking_kept : (code : CodeShape) (host : HostState) (from : HostId) (letter : Message) (outcome : Outcome)
     → IsSoundCode code → StateFits code host → IsOther code host.me from → TokensFit code letter
     → IsTaking code host from letter outcome → OutcomeFits code host.me outcome
 taking_kept code host from letter outcome sound fits other tokens step =

@@ -10,7 +10,7 @@ use Rattle.ics_stack.specs.declared.stack.StackEntry.{StackEntry}
 use Rattle.ics_stack.specs.Stack.{StackFits, IsOwnEntry, top_token}
 use Rattle.host_code.specs.Code.{CodeShape, halt}
 use Rattle.host_code.specs.Sound.{IsSoundCode}
-use Rattle.host_core.specs.Host.{HostShape, HostModel, state_of, with_running}
+use Rattle.host_core.specs.Host.{HostState, HostModel, state_of, with_running}
 use Rattle.host_core.specs.Fits.{HostFits, StateFits}
 use Rattle.host_core.specs.Told.{StartsThread, settled}
 use Rattle.host_core.proofs.CallsKept.{same_checks}
@@ -30,7 +30,7 @@ starts_thread host serials (first ∷ below) top test fits is tells =
 
 -- ---- what an open step leaves
 
-settled_fits : (code : CodeShape) (host : HostShape) (passes : Bool) → IsSoundCode code → StateFits code host
+settled_fits : (code : CodeShape) (host : HostState) (passes : Bool) → IsSoundCode code → StateFits code host
     → StateFits code (settled code host passes)
 settled_fits code host true sound fits =
     kept_pop code (with_running host None) host.entries sound (kept_at_rest code host fits) fits.entries fits.stack

@@ -1,5 +1,6 @@
 -- A turn keeps what holds of a host of the code, and what it sends fits.
-use Rattle.std.proofs.Common.{◌≡◌, ◌≢◌, ℕ, ◌+◌, ◌-◌, ◌<◌, ◌≤◌, ◌⊎◌, ℤ, pos, Bool, true, false, List, [], ◌∷◌, length, get_or}
+use Rattle.std.proofs.Common.{◌≡◌, ◌≢◌, ℕ, ◌+◌, ◌-◌, ◌<◌, ◌≤◌, ◌⊎◌, ℤ, pos, Bool, true, false, List, [], ◌∷◌, length}
+use Rattle.std.proofs.Common.{get_or}
 use Rattle.std.proofs.Common.{ap, subst, refl, arith, inl, inr}
 use Rattle.std.specs.Prelude.{Option, Some, None, IfSome, IsSomeAnd, slice_get, slice_index, ◌==◌, if◌then◌else◌}
 use Rattle.std.specs.List.{AllByRecursion}
@@ -28,7 +29,7 @@ use Rattle.host_code.specs.Thread.Awaited.{value_of_field, acknowledgement, toke
 use Rattle.host_code.specs.Code.{CodeShape, CodeFieldShape, field_at, entry_at, instruction_at, part_of}
 use Rattle.host_code.specs.Sound.{IsHost, IsOther, IsField, IsVariable, IsSoundCode, FieldFits, IsLeaving, PartFits}
 use Rattle.host_code.specs.Sound.{OperationFits, temporaries_at}
-use Rattle.host_core.specs.Host.{HostShape, Outcome, without_message, with_message, with_running, with_token}
+use Rattle.host_core.specs.Host.{HostState, Outcome, without_message, with_message, with_running, with_token}
 use Rattle.host_core.specs.Host.{with_temporary}
 use Rattle.host_core.specs.Host.{after_step, after_clearing}
 use Rattle.host_core.specs.Host.{value_in_thread, next_request, after_push, after_asking, after_pop, with_variable_set}
@@ -92,17 +93,17 @@ host_of_field code field there sound is =
 -- ---- the rows
 
 -- What a row is given: the code, the state, and the running thread, which has a next instruction.
-record Given (code : CodeShape) (host : HostShape) (thread : ThreadShape) : Type 0 where
+record Given (code : CodeShape) (host : HostState) (thread : ThreadShape) : Type 0 where
   sound : IsSoundCode code
   fits : StateFits code host
   runs : RunningFits code host.me thread
   next : thread.at + 1 < length (part_of code host.me)
 
-goes_on : (code : CodeShape) (host : HostShape) (thread : ThreadShape) → StateFits code host
+goes_on : (code : CodeShape) (host : HostState) (thread : ThreadShape) → StateFits code host
     → RunningFits code host.me thread → OutcomeFits code host.me (with_thread host thread)
 goes_on code host thread fits runs = (kept_running code host thread fits runs, tt)
 
-read_on : (code : CodeShape) (host : HostShape) (thread : ThreadShape) (field : FieldId) (place : ℤ)
+read_on : (code : CodeShape) (host : HostState) (thread : ThreadShape) (field : FieldId) (place : ℤ)
     (there : CodeFieldShape)
     (here : Bool) → Given code host thread → IsField code field → IsHost code there.host
     → (there.host.0 == host.me.0) ≡ here
@@ -120,7 +121,7 @@ read_on code host thread field place there false given is_field is_host here =
       (other, is_field),
     )
 
-read_kept : (code : CodeShape) (host : HostShape) (thread : ThreadShape) (field : FieldId) (index : List Node)
+read_kept : (code : CodeShape) (host : HostState) (thread : ThreadShape) (field : FieldId) (index : List Node)
     (there : Option CodeFieldShape) → Given code host thread → field_at code field ≡ there
     → OutcomeFits code host.me (after_read host thread field index there)
 read_kept code host thread field index None given is = goes_on code host thread given.fits given.runs
@@ -128,7 +129,7 @@ read_kept code host thread field index (Some there) given is =
     read_on code host thread field (value_in_thread host thread index) there (there.host.0 == host.me.0) given
     (slice_get_within code.fields field.0 there is) (host_of_field code field there given.sound is) refl
 
-put_on : (code : CodeShape) (host : HostShape) (thread : ThreadShape) (field : FieldId) (place number : ℤ)
+put_on : (code : CodeShape) (host : HostState) (thread : ThreadShape) (field : FieldId) (place number : ℤ)
     (there : CodeFieldShape) (here : Bool) → Given code host thread → IsField code field → IsHost code there.host
     → (there.host.0 == host.me.0) ≡ here
     → OutcomeFits code host.me (if here
@@ -146,7 +147,7 @@ put_on code host thread field place number there false given is_field is_host he
       (other, is_field),
     )
 
-put_kept : (code : CodeShape) (host : HostShape) (thread : ThreadShape) (field : FieldId) (index value : List Node)
+put_kept : (code : CodeShape) (host : HostState) (thread : ThreadShape) (field : FieldId) (index value : List Node)
     (there : Option CodeFieldShape) → Given code host thread → field_at code field ≡ there
     → OutcomeFits code host.me (after_put host thread field index value there)
 put_kept code host thread field index value None given is = goes_on code host thread given.fits given.runs
@@ -155,20 +156,20 @@ put_kept code host thread field index value (Some there) given is =
     (there.host.0 == host.me.0) given
     (slice_get_within code.fields field.0 there is) (host_of_field code field there given.sound is) refl
 
-let_kept : (code : CodeShape) (host : HostShape) (thread : ThreadShape) (frame : FrameId) (variable : VarId)
+let_kept : (code : CodeShape) (host : HostState) (thread : ThreadShape) (frame : FrameId) (variable : VarId)
     (value : List Node) → Given code host thread → OutcomeFits code host.me (after_let host thread frame variable value)
 let_kept code host thread frame variable value given =
     let number = value_in_thread host thread value in
     goes_on code (with_variable_set host frame variable number) (after_clearing thread)
     (kept_variable code host frame variable number given.fits) (record { place = given.next; held = given.runs.held })
 
-forward_kept : (code : CodeShape) (host : HostShape) (at : ℕ) (later : ThreadShape) (frame : FrameId) (variable : VarId)
+forward_kept : (code : CodeShape) (host : HostState) (at : ℕ) (later : ThreadShape) (frame : FrameId) (variable : VarId)
     (value : ℤ) (to : HostId) → StateFits code host → RunningFits code host.me later → IsOther code host.me to
     → IsVariable code variable → OutcomeFits code host.me (after_forward host at later frame variable value to)
 forward_kept code host at later frame variable value to fits runs other is_variable =
     (kept_asking code host at later acknowledgement to fits runs.place runs.held other, (other, is_variable))
 
-frame_kept : (code : CodeShape) (host : HostShape) (thread : ThreadShape) (site : SiteId) → Given code host thread
+frame_kept : (code : CodeShape) (host : HostState) (thread : ThreadShape) (site : SiteId) → Given code host thread
     → OutcomeFits code host.me (after_frame host thread site)
 frame_kept code host thread site given = (
   kept_running code _ _ (kept_frames code host site.0 (slice_index host.frames site.0 + 1) given.fits)
@@ -176,7 +177,7 @@ frame_kept code host thread site given = (
   tt,
 )
 
-branch_on : (code : CodeShape) (host : HostShape) (thread : ThreadShape) (target : ℕ) (zero_guard : Bool)
+branch_on : (code : CodeShape) (host : HostState) (thread : ThreadShape) (target : ℕ) (zero_guard : Bool)
     → Given code host thread → target < length (part_of code host.me)
     → OutcomeFits code host.me (if zero_guard
     then with_thread host (record (after_clearing thread) { at = target })
@@ -186,7 +187,7 @@ branch_on code host thread target true given there =
 branch_on code host thread target false given there =
     (kept_running code host _ given.fits (record { place = given.next; held = given.runs.held }), tt)
 
-push_kept : (code : CodeShape) (host : HostShape) (thread : ThreadShape) (entry : EntryId) (held : Option Token)
+push_kept : (code : CodeShape) (host : HostState) (thread : ThreadShape) (entry : EntryId) (held : Option Token)
     → Given code host thread → IsSomeAnd held (TokenFits code) → IsEntryOf code host.me entry
     → OutcomeFits code host.me (after_own_push host thread entry held)
 push_kept code host thread entry None given holds there = absurd holds
@@ -197,7 +198,7 @@ push_kept code host thread entry (Some held) given holds there = (
   tt,
 )
 
-ask_kept : (code : CodeShape) (host : HostShape) (thread : ThreadShape) (entry : EntryId) (on : HostId)
+ask_kept : (code : CodeShape) (host : HostState) (thread : ThreadShape) (entry : EntryId) (on : HostId)
     (held : Option Token)
     → Given code host thread → IsSomeAnd held (TokenFits code) → IsOther code host.me on
     → OutcomeFits code host.me (after_ask host thread entry on held)
@@ -208,19 +209,19 @@ ask_kept code host thread entry on (Some held) given holds other = (
   (other, holds),
 )
 
-go_kept : (code : CodeShape) (host : HostShape) (thread : ThreadShape) (frame : FrameId) (entry : EntryId) (on : HostId)
+go_kept : (code : CodeShape) (host : HostState) (thread : ThreadShape) (frame : FrameId) (entry : EntryId) (on : HostId)
     (held : Option Token) → StateFits code host → IsSomeAnd held (TokenFits code) → IsOther code host.me on
     → OutcomeFits code host.me (after_go host thread frame entry on held)
 go_kept code host thread frame entry on None fits holds other = absurd holds
 go_kept code host thread frame entry on (Some held) fits holds other = (kept_at_rest code host fits, (other, holds))
 
 -- the variables that ride are the code's
-riders_fit : (code : CodeShape) (host : HostShape) (frame : FrameId) (variables : List VarId) →
+riders_fit : (code : CodeShape) (host : HostState) (frame : FrameId) (variables : List VarId) →
     AllByRecursion (IsVariable code) variables → AreOfCode code (riders_of host frame variables)
 riders_fit code host frame [] all = tt
 riders_fit code host frame (variable ∷ variables) all = (all.0, riders_fit code host frame variables all.1)
 
-go_with_kept : (code : CodeShape) (host : HostShape) (thread : ThreadShape) (frame : FrameId) (entry : EntryId)
+go_with_kept : (code : CodeShape) (host : HostState) (thread : ThreadShape) (frame : FrameId) (entry : EntryId)
     (on : HostId) (variables : List VarId) (held : Option Token) → StateFits code host → IsSomeAnd held (TokenFits code)
     → IsOther code host.me on → AllByRecursion (IsVariable code) variables
     → OutcomeFits code host.me (after_go_with host thread frame entry on variables held)
@@ -228,7 +229,7 @@ go_with_kept code host thread frame entry on variables None fits holds other all
 go_with_kept code host thread frame entry on variables (Some held) fits holds other all =
     (kept_at_rest code host fits, (other, (holds, riders_fit code host frame variables all)))
 
-own_call_kept : (code : CodeShape) (host : HostShape) (thread : ThreadShape) (entry : EntryId) (there : Option Entry)
+own_call_kept : (code : CodeShape) (host : HostState) (thread : ThreadShape) (entry : EntryId) (there : Option Entry)
     → Given code host thread → entry_at code entry ≡ there → IsSomeAnd there (λ found. found.host ≡ host.me)
     → OutcomeFits code host.me (after_own_call host thread there)
 own_call_kept code host thread entry None given is on = absurd on
@@ -238,7 +239,7 @@ own_call_kept code host thread entry (Some there) given is on = (
   tt,
 )
 
-call_on : (code : CodeShape) (host : HostShape) (thread : ThreadShape) (entry : EntryId) (on : HostId) (here : Bool)
+call_on : (code : CodeShape) (host : HostState) (thread : ThreadShape) (entry : EntryId) (on : HostId) (here : Bool)
     → Given code host thread → IsEntryOf code on entry → IsHost code on → (on.0 == host.me.0) ≡ here
     → OutcomeFits code host.me (if here
     then after_own_call host thread (entry_at code entry)
@@ -250,7 +251,7 @@ call_on code host thread entry on false given there is_host here =
     go_kept code host thread thread.new_frame entry on thread.held given.fits given.runs.held
     (other_host code on host.me is_host here)
 
-return_on : (code : CodeShape) (host : HostShape) (thread : ThreadShape) (variable : VarId) (number : ℤ) (held : Token)
+return_on : (code : CodeShape) (host : HostState) (thread : ThreadShape) (variable : VarId) (number : ℤ) (held : Token)
     (here passes : Bool) → Given code host thread → TokenFits code held → IsVariable code variable
     → (held.host.0 == host.me.0) ≡ here
     → OutcomeFits code host.me (if here
@@ -268,7 +269,7 @@ return_on code host thread variable number held false true given holds is_variab
 return_on code host thread variable number held false false given holds is_variable here =
     goes_on code host (after_clearing thread) given.fits (record { place = given.next; held = given.runs.held })
 
-return_kept : (code : CodeShape) (host : HostShape) (thread : ThreadShape) (variable : VarId) (value : List Node)
+return_kept : (code : CodeShape) (host : HostState) (thread : ThreadShape) (variable : VarId) (value : List Node)
     (held : Option Token) (passes : Bool) → Given code host thread → IsSomeAnd held (TokenFits code)
     → IsVariable code variable → OutcomeFits code host.me (after_return host thread variable value held passes)
 return_kept code host thread variable value None passes given holds is_variable = absurd holds
@@ -277,7 +278,7 @@ return_kept code host thread variable value (Some held) passes given holds is_va
     given holds
     is_variable refl
 
-back_on : (code : CodeShape) (host : HostShape) (held : Token) (here passes : Bool) → IsSoundCode code
+back_on : (code : CodeShape) (host : HostState) (held : Token) (here passes : Bool) → IsSoundCode code
     → StateFits code host → TokenFits code held → (held.host.0 == host.me.0) ≡ here
     → OutcomeFits code host.me (if here
     then without_message (if passes
@@ -293,7 +294,7 @@ back_on code host held true false sound fits holds here =
 back_on code host held false passes sound fits holds here =
     (kept_at_rest code host fits, (other_host code held.host host.me holds here, holds))
 
-back_kept : (code : CodeShape) (host : HostShape) (thread : ThreadShape) (held : Option Token) (passes : Bool)
+back_kept : (code : CodeShape) (host : HostState) (thread : ThreadShape) (held : Option Token) (passes : Bool)
     → IsSoundCode code → StateFits code host → IsSomeAnd held (TokenFits code)
     → OutcomeFits code host.me (after_back code host thread held passes)
 back_kept code host thread None passes sound fits holds = absurd holds
@@ -303,7 +304,7 @@ back_kept code host thread (Some held) passes sound fits holds =
 -- ---- the instructions
 
 -- the parts of what is known where an instruction runs
-given_next : (code : CodeShape) (host : HostShape) (thread : ThreadShape) (instruction : Instr) → IsSoundCode code
+given_next : (code : CodeShape) (host : HostState) (thread : ThreadShape) (instruction : Instr) → IsSoundCode code
     → StateFits code host → RunningFits code host.me thread → instruction_at code host.me thread.at ≡ Some instruction
     → (IsLeaving instruction.op → ⊥) → Given code host thread
 given_next code host thread instruction sound fits runs there stays =
@@ -314,7 +315,7 @@ given_next code host thread instruction sound fits runs there stays =
       next = next_place code host.me thread.at instruction (sound.parts host.me fits.me) there stays;
     }
 
-operation_kept : (code : CodeShape) (host : HostShape) (thread : ThreadShape) (operation : Op) (count : ℕ)
+operation_kept : (code : CodeShape) (host : HostState) (thread : ThreadShape) (operation : Op) (count : ℕ)
     (passes : Bool)
     → IsSoundCode code → StateFits code host → RunningFits code host.me thread →
     OperationFits code host.me count operation
@@ -358,7 +359,7 @@ operation_kept code host thread (op.GoWith entry on riders) count passes sound f
 operation_kept code host thread (op.CallWith entry on riders) count passes sound fits runs names given =
     go_with_kept code host thread thread.new_frame entry on riders thread.held fits runs.held names.1 names.2.1
 
-running_kept : (code : CodeShape) (host : HostShape) (thread : ThreadShape) (there : Option Instr) (outcome : Outcome)
+running_kept : (code : CodeShape) (host : HostState) (thread : ThreadShape) (there : Option Instr) (outcome : Outcome)
     → IsSoundCode code → StateFits code host → RunningFits code host.me thread
     → instruction_at code host.me thread.at ≡ there → IsRunning code host thread there outcome
     → OutcomeFits code host.me outcome
@@ -371,7 +372,7 @@ running_kept code host thread (Some instruction) outcome sound fits runs is step
     sound fits runs ((sound.parts host.me fits.me).instructions thread.at instruction is).operation
     (given_next code host thread instruction sound fits runs is))
 
-thread_kept : (code : CodeShape) (host : HostShape) (running : Option ThreadShape) (outcome : Outcome) →
+thread_kept : (code : CodeShape) (host : HostState) (running : Option ThreadShape) (outcome : Outcome) →
     IsSoundCode code
     → StateFits code host → host.running ≡ running → IfSome running (RunningFits code host.me)
     → IsTurnOf code host running outcome → OutcomeFits code host.me outcome
@@ -380,7 +381,7 @@ thread_kept code host (Some thread) outcome sound fits is runs step =
     running_kept code (with_running host None) thread (instruction_at code host.me thread.at) outcome sound
     (kept_at_rest code host fits) runs refl step
 
-pub turn_kept : (code : CodeShape) (host : HostShape) (outcome : Outcome) → IsSoundCode code → StateFits code host
+pub turn_kept : (code : CodeShape) (host : HostState) (outcome : Outcome) → IsSoundCode code → StateFits code host
     → IsTurn code host outcome → OutcomeFits code host.me outcome
 turn_kept code host outcome sound fits step =
     thread_kept code host host.running outcome sound fits refl fits.running step

@@ -15,7 +15,7 @@ use Rattle.host_code.specs.Code.{CodeShape, part_of, entry_at}
 use Rattle.host_code.specs.Sound.{IsHost, IsOther}
 use Rattle.host_code.specs.Messages.{MessageFits}
 use Rattle.entry_check.specs.Checks.{AreChecksOf}
-use Rattle.host_core.specs.Host.{HostShape, HostModel, Outcome, state_of}
+use Rattle.host_core.specs.Host.{HostState, HostModel, Outcome, state_of}
 
 -- the entry is one of the host's
 abbrev pub IsEntryOf : CodeShape → HostId → EntryId → Type 0
@@ -43,12 +43,12 @@ pub record WaitingFits (code : CodeShape) (me : HostId) (waiting : WaitingShape)
   pub held : HeldFits code waiting.awaited waiting.thread.held
   pub asked : IsOther code me waiting.asked
 
-pub record EntryFits (code : CodeShape) (me : HostId) (on_stack : StackEntry) : Type 0 where
+pub record StackEntryFits (code : CodeShape) (me : HostId) (on_stack : StackEntry) : Type 0 where
   pub entry : IsEntryOf code me on_stack.entry
   pub token : on_stack.token.host ≡ me
   pub kept : TokenFits code on_stack.kept
 
-pub record StateFits (code : CodeShape) (host : HostShape) : Type 0 where
+pub record StateFits (code : CodeShape) (host : HostState) : Type 0 where
   pub me : IsHost code host.me
   pub rows : length host.rows ≡ length code.fields
   pub serials : length host.serials ≡ length code.entries
@@ -56,7 +56,7 @@ pub record StateFits (code : CodeShape) (host : HostShape) : Type 0 where
   pub requests : length host.requests ≡ length (part_of code host.me)
   pub running : IfSome host.running (RunningFits code host.me)
   pub waiting : All (WaitingFits code host.me) host.waiting
-  pub entries : All (EntryFits code host.me) host.entries
+  pub entries : All (StackEntryFits code host.me) host.entries
   pub stack : StackFits host.me host.serials host.entries
 
 -- the host runs this code

@@ -28,7 +28,7 @@ use Rattle.host_core.specs.Values.{value_of_nodes}
 -- where the field is elsewhere, and a value for each variable of a frame. The top of the control stack stands first.
 -- Beside it are counted: for each entry its pushes, for each call site (by its number) its frames, and for each
 -- instruction its requests.
-pub record HostShape : Type 0 where
+pub record HostState : Type 0 where
   pub me : HostId
   pub key : List ℕ
   pub rows : List (List ℤ)
@@ -44,13 +44,13 @@ pub record HostShape : Type 0 where
 
 -- what a step of a host leaves, and what it sends to whom
 pub record Outcome : Type 0 where
-  pub state : HostShape
+  pub state : HostState
   pub sent : Option (HostId × Message)
 
-abbrev pub without_message : HostShape → Outcome
+abbrev pub without_message : HostState → Outcome
 without_message host = record { state = host; sent = None }
 
-abbrev pub with_message : HostShape → HostId → Message → Outcome
+abbrev pub with_message : HostState → HostId → Message → Outcome
 with_message host to message = record { state = host; sent = Some (to, message) }
 
 -- What is sent carries the place of a label among the code's labels: for what a turn sends that of the instruction that
@@ -66,37 +66,37 @@ with_label label (Some sent) = Some (record { to = sent.0; message = sent.1; lab
 
 -- ---- changes
 
-abbrev pub with_one_ignored : HostShape → HostShape
+abbrev pub with_one_ignored : HostState → HostState
 with_one_ignored host = record host { ignored = host.ignored + 1 }
 
-abbrev pub with_row_written : HostShape → FieldId → ℤ → ℤ → HostShape
+abbrev pub with_row_written : HostState → FieldId → ℤ → ℤ → HostState
 with_row_written host field index value = record host { rows = store_after_write host.rows field.0 index value }
 
-abbrev pub with_variable_set : HostShape → FrameId → VarId → ℤ → HostShape
+abbrev pub with_variable_set : HostState → FrameId → VarId → ℤ → HostState
 with_variable_set host frame variable value =
     record host { variables = with_variable host.variables frame variable value }
 
 -- each of some variables of a frame becomes a value, in order; of a variable that comes twice the last one counts
-abbrev pub with_variables_set : HostShape → FrameId → List Rider → HostShape
+abbrev pub with_variables_set : HostState → FrameId → List Rider → HostState
 with_variables_set host frame [] = host
 with_variables_set host frame (rider ∷ riders) =
     with_variables_set (with_variable_set host frame rider.0 rider.1) frame riders
 
-abbrev pub with_running : HostShape → Option ThreadShape → HostShape
+abbrev pub with_running : HostState → Option ThreadShape → HostState
 with_running host thread = record host { running = thread }
 
 -- ---- the control stack
 
-abbrev pub stack_of : HostShape → StackShape
+abbrev pub stack_of : HostState → StackShape
 stack_of host =
     record { host = host.me; key = host.key; entries = host.entries; serials = host.serials; pushes = 0; room = 0 }
 
 -- the token of the next push of an entry in a frame
-abbrev pub new_token : HostShape → EntryId → FrameId → Token
+abbrev pub new_token : HostState → EntryId → FrameId → Token
 new_token host entry frame = next_token (stack_of host) entry frame
 
 -- the entry is pushed in its frame, with the token that is kept for its thread
-abbrev pub after_push : HostShape → EntryId → FrameId → Token → HostShape
+abbrev pub after_push : HostState → EntryId → FrameId → Token → HostState
 after_push host entry frame kept =
     record host {
       entries = entries_after_push (stack_of host) entry frame kept;
@@ -109,19 +109,19 @@ thread_at entry frame token =
     record { at = entry.at; frame = frame; new_frame = frame; temporaries = []; held = Some token }
 
 -- a thread starts at an entry; none does where the code lacks the entry
-abbrev pub after_entering : HostShape → Option Entry → FrameId → Token → HostShape
+abbrev pub after_entering : HostState → Option Entry → FrameId → Token → HostState
 after_entering host None frame token = with_running host None
 after_entering host (Some entry) frame token = with_running host (Some (thread_at entry frame token))
 
 -- the thread of an entry that was taken off the stack starts, and the entry that ends the program halts the host
-abbrev pub after_popped : CodeShape → HostShape → EntryId → FrameId → Token → HostShape
+abbrev pub after_popped : CodeShape → HostState → EntryId → FrameId → Token → HostState
 after_popped code host entry frame kept =
     if entry.0 == halt.0
     then record host { running = None; halted = true }
     else after_entering host (entry_at code entry) frame kept
 
 -- the top entry is taken off the stack, and its thread starts
-abbrev pub after_pop : CodeShape → HostShape → List StackEntry → HostShape
+abbrev pub after_pop : CodeShape → HostState → List StackEntry → HostState
 after_pop code host [] = host
 after_pop code host (top ∷ below) = after_popped code (record host { entries = below }) top.entry top.frame top.kept
 
@@ -142,21 +142,21 @@ abbrev pub with_token : Option Token → ThreadShape → ThreadShape
 with_token token thread = record thread { held = token }
 
 -- the value of an expression in the thread
-abbrev pub value_in_thread : HostShape → ThreadShape → List Node → ℤ
+abbrev pub value_in_thread : HostState → ThreadShape → List Node → ℤ
 value_in_thread host thread nodes = value_of_nodes (host.variables thread.frame) thread.temporaries nodes
 
 -- the value of an expression in the running thread, 0 where none runs
-abbrev pub value_in_running : HostShape → Option ThreadShape → List Node → ℤ
+abbrev pub value_in_running : HostState → Option ThreadShape → List Node → ℤ
 value_in_running host None nodes = pos 0
 value_in_running host (Some thread) nodes = value_in_thread host thread nodes
 
 -- the next request of an instruction
-abbrev pub next_request : HostShape → ℕ → RequestId
+abbrev pub next_request : HostState → ℕ → RequestId
 next_request host at = record { at = at; count = slice_index host.requests at }
 
 -- A thread waits for the answer to the next request of an instruction, from the host that was asked. It is kept as it
 -- goes on when the answer comes.
-abbrev pub after_asking : HostShape → ℕ → ThreadShape → Awaited → HostId → HostShape
+abbrev pub after_asking : HostState → ℕ → ThreadShape → Awaited → HostId → HostState
 after_asking host at thread awaited asked =
     record host {
       running = None;
@@ -185,7 +185,7 @@ pub record HostModel : Type 0 where
   pub stopped : Bool
 
 -- the state of a host, of which the table speaks
-abbrev pub state_of : HostModel → HostShape
+abbrev pub state_of : HostModel → HostState
 state_of host =
     record {
       me = host.me;
@@ -214,7 +214,7 @@ pub record IsSameHost (before after : HostModel) : Type 0 where
   pub stopped : after.stopped ≡ before.stopped
 
 -- what no step touches is the same, and this is the state of the host
-pub record Becomes (old new : HostModel) (state : HostShape) : Type 0 where
+pub record Becomes (old new : HostModel) (state : HostState) : Type 0 where
   pub same : IsSameHost old new
   pub state_is : state_of new ≡ state
 

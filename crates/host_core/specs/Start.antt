@@ -8,7 +8,7 @@ use Rattle.capability.specs.declared.token.Token.{Token}
 use Rattle.capability.specs.declared.tags.TheConstants.{TAG_BYTES}
 use Rattle.host_code.specs.Code.{CodeShape, halt, part_of, entry_at}
 use Rattle.host_stores.specs.Stores.{own_rows}
-use Rattle.host_core.specs.Host.{HostShape, new_token, after_push, after_entering}
+use Rattle.host_core.specs.Host.{HostState, new_token, after_push, after_entering}
 
 -- the frame of `main`
 abbrev pub main_frame : FrameId
@@ -21,7 +21,7 @@ last_token root =
 
 -- A host on which nothing was started: its fields have the values of the store, and all else is empty. Sites count from
 -- 1, and so the first count of frames stands for no call.
-abbrev pub idle_host : CodeShape → List (List ℤ) → List ℕ → HostId → HostShape
+abbrev pub idle_host : CodeShape → List (List ℤ) → List ℕ → HostId → HostState
 idle_host code store key me =
     record {
       me = me;
@@ -39,11 +39,11 @@ idle_host code store key me =
     }
 
 -- the entry that ends the program is on the stack, and the thread at `main` holds its token
-abbrev pub root_host : CodeShape → HostShape → HostShape
+abbrev pub root_host : CodeShape → HostState → HostState
 root_host code idle =
     after_entering (after_push idle halt main_frame (last_token idle.me)) (entry_at code code.main) main_frame
     (new_token idle halt main_frame)
 
-abbrev pub host_at_start : CodeShape → List (List ℤ) → List ℕ → HostId → HostShape
+abbrev pub host_at_start : CodeShape → List (List ℤ) → List ℕ → HostId → HostState
 host_at_start code store key me =
     if me.0 == code.root.0 then root_host code (idle_host code store key me) else idle_host code store key me

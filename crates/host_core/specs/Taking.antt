@@ -20,33 +20,33 @@ use Rattle.host_code.specs.Code.{CodeShape, entry_at}
 use Rattle.entry_check.specs.declared.ask.Ask.TheVariants as ask
 use Rattle.entry_check.specs.Checks.{May, MayRide}
 use Rattle.host_core.specs.Awaiting.{awaits}
-use Rattle.host_core.specs.Host.{HostShape, Outcome, without_message, with_message, with_one_ignored, with_row_written}
+use Rattle.host_core.specs.Host.{HostState, Outcome, without_message, with_message, with_one_ignored, with_row_written}
 use Rattle.host_core.specs.Host.{with_variable_set, with_variables_set}
 use Rattle.host_core.specs.Host.{new_token, after_push, after_entering, after_pop, with_temporary, with_token}
 
 -- ---- the checks
 
 -- the place of the thread that waits for such an answer to this request from this host
-abbrev pub place_of_awaiting : HostShape → Awaited → RequestId → HostId → Option ℕ
+abbrev pub place_of_awaiting : HostState → Awaited → RequestId → HostId → Option ℕ
 place_of_awaiting host awaited request from = position (awaits awaited request from) host.waiting
 
-abbrev pub Passes : CodeShape → HostShape → HostId → Message → Type 0
-Passes code host from (message.Get request field index) = May code host.me (ask.Get field) from
-Passes code host from (message.Set request field index value) = May code host.me (ask.Set field) from
-Passes code host from (message.Forward request frame variable value) = May code host.me (ask.Forward variable) from
-Passes code host from (message.Sync request frame entry token) = May code host.me (ask.Enter entry) from
-Passes code host from (message.Rgoto frame entry token) = May code host.me (ask.Enter entry) from
-Passes code host from (message.RgotoWith frame entry token riders) =
+abbrev pub PassesCheck : CodeShape → HostState → HostId → Message → Type 0
+PassesCheck code host from (message.Get request field index) = May code host.me (ask.Get field) from
+PassesCheck code host from (message.Set request field index value) = May code host.me (ask.Set field) from
+PassesCheck code host from (message.Forward request frame variable value) = May code host.me (ask.Forward variable) from
+PassesCheck code host from (message.Sync request frame entry token) = May code host.me (ask.Enter entry) from
+PassesCheck code host from (message.Rgoto frame entry token) = May code host.me (ask.Enter entry) from
+PassesCheck code host from (message.RgotoWith frame entry token riders) =
     May code host.me (ask.Enter entry) from × MayRide code host.me from (names_of riders)
-Passes code host from (message.Lgoto token) = top_token host.entries ≡ Some token
-Passes code host from (message.Value request value) = IsSome (place_of_awaiting host value_of_field request from)
-Passes code host from (message.Ack request) = IsSome (place_of_awaiting host acknowledgement request from)
-Passes code host from (message.Token request token) = IsSome (place_of_awaiting host token_of_entry request from)
+PassesCheck code host from (message.Lgoto token) = top_token host.entries ≡ Some token
+PassesCheck code host from (message.Value request value) = IsSome (place_of_awaiting host value_of_field request from)
+PassesCheck code host from (message.Ack request) = IsSome (place_of_awaiting host acknowledgement request from)
+PassesCheck code host from (message.Token request token) = IsSome (place_of_awaiting host token_of_entry request from)
 
 -- ---- the changes and answers
 
 -- the thread that waits at this place runs again, as it is after the answer
-abbrev pub after_answer : HostShape → Option ℕ → (ThreadShape → ThreadShape) → HostShape
+abbrev pub after_answer : HostState → Option ℕ → (ThreadShape → ThreadShape) → HostState
 after_answer host None answered = host
 after_answer host (Some place) answered =
     record host {
@@ -55,7 +55,7 @@ after_answer host (Some place) answered =
     }
 
 -- what a message does that passes its check
-abbrev pub after_passing : CodeShape → HostShape → HostId → Message → Outcome
+abbrev pub after_passing : CodeShape → HostState → HostId → Message → Outcome
 after_passing code host from (message.Get request field index) =
     with_message host from (message.Value request (element_at (row_of host.rows field.0) index))
 after_passing code host from (message.Set request field index value) =
@@ -78,12 +78,12 @@ after_passing code host from (message.Token request token) =
 
 -- What taking a message leaves, where its check passes or fails. A failed check counts one more message as ignored, and
 -- does nothing else.
-abbrev pub after_taking : CodeShape → HostShape → HostId → Message → Bool → Outcome
+abbrev pub after_taking : CodeShape → HostState → HostId → Message → Bool → Outcome
 after_taking code host from message passes =
     if passes then after_passing code host from message else without_message (with_one_ignored host)
 
 -- this is what taking the message leaves and sends
-abbrev pub IsTaking : CodeShape → HostShape → HostId → Message → Outcome → Type 0
+abbrev pub IsTaking : CodeShape → HostState → HostId → Message → Outcome → Type 0
 IsTaking code host from message outcome =
-    (passes : Bool) × (IsTrue passes ↔ Passes code host from message)
+    (passes : Bool) × (IsTrue passes ↔ PassesCheck code host from message)
     × (after_taking code host from message passes ≡ outcome)

@@ -17,7 +17,7 @@ use Rattle.host_code.specs.declared.message.Message.{Message}
 use Rattle.host_code.specs.declared.message.Message.TheVariants as message
 use Rattle.host_code.specs.Thread.{ThreadShape}
 use Rattle.host_code.specs.Code.{CodeShape, halt, instruction_at}
-use Rattle.host_core.specs.Host.{HostShape, Outcome, without_message, with_running, with_one_ignored, after_pop}
+use Rattle.host_core.specs.Host.{HostState, Outcome, without_message, with_running, with_one_ignored, after_pop}
 use Rattle.host_core.specs.Taking.{IsTaking, after_taking}
 use Rattle.host_core.specs.Turn.{IsTurn, after_operation}
 
@@ -53,47 +53,47 @@ IsUnsure None token = ⊥
 IsUnsure (Some top) token = (token ≢ top) × (top ≡ record token { tag = top.tag })
 
 -- an lgoto presents such a token
-abbrev pub IsOpenTaking : HostShape → Message → Type 0
+abbrev pub IsOpenTaking : HostState → Message → Type 0
 IsOpenTaking host (message.Lgoto token) = IsUnsure (top_token host.entries) token
 IsOpenTaking host _ = ⊥
 
-abbrev pub IsOpenOperation : HostShape → Option Token → Op → Type 0
+abbrev pub IsOpenOperation : HostState → Option Token → Op → Type 0
 IsOpenOperation host (Some held) op.Back = IsUnsure (top_token host.entries) held
 IsOpenOperation host held operation = ⊥
 
-abbrev pub IsOpenInstruction : HostShape → Option Token → Option Instr → Type 0
+abbrev pub IsOpenInstruction : HostState → Option Token → Option Instr → Type 0
 IsOpenInstruction host held None = ⊥
 IsOpenInstruction host held (Some instruction) = IsOpenOperation host held instruction.op
 
 -- the thread runs and gives back such a token
-abbrev pub IsOpenTurnOf : CodeShape → HostShape → Option ThreadShape → Type 0
+abbrev pub IsOpenTurnOf : CodeShape → HostState → Option ThreadShape → Type 0
 IsOpenTurnOf code host None = ⊥
 IsOpenTurnOf code host (Some thread) = IsOpenInstruction host thread.held (instruction_at code host.me thread.at)
 
-abbrev pub IsOpenTurn : CodeShape → HostShape → Type 0
+abbrev pub IsOpenTurn : CodeShape → HostState → Type 0
 IsOpenTurn code host = IsOpenTurnOf code host host.running
 
 -- ---- what steps leave
 
 -- this is what taking the message leaves and sends, where the host is told whether an open one passes
-abbrev pub IsToldTaking : CodeShape → HostShape → HostId → Message → Bool → Outcome → Type 0
+abbrev pub IsToldTaking : CodeShape → HostState → HostId → Message → Bool → Outcome → Type 0
 IsToldTaking code host from message passes outcome =
     (IsOpenTaking host message → after_taking code host from message passes ≡ outcome)
     × (¬ IsOpenTaking host message → IsTaking code host from message outcome)
 
 -- the running thread gives its token back
-abbrev pub after_told_back : CodeShape → HostShape → Option ThreadShape → Bool → Outcome
+abbrev pub after_told_back : CodeShape → HostState → Option ThreadShape → Bool → Outcome
 after_told_back code host None passes = without_message host
 after_told_back code host (Some thread) passes = after_operation code (with_running host None) thread op.Back passes
 
 -- and a turn likewise
-abbrev pub IsToldTurn : CodeShape → HostShape → Bool → Outcome → Type 0
+abbrev pub IsToldTurn : CodeShape → HostState → Bool → Outcome → Type 0
 IsToldTurn code host passes outcome =
     (IsOpenTurn code host → after_told_back code host host.running passes ≡ outcome)
     × (¬ IsOpenTurn code host → IsTurn code host outcome)
 
 -- An open step on the host: no thread runs, and the top entry is taken off, or one more token is ignored.
-abbrev pub settled : CodeShape → HostShape → Bool → HostShape
+abbrev pub settled : CodeShape → HostState → Bool → HostState
 settled code host passes =
     if passes
     then after_pop code (with_running host None) host.entries

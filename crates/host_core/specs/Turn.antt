@@ -26,20 +26,20 @@ use Rattle.host_code.specs.Thread.Awaited.{value_of_field, acknowledgement, toke
 use Rattle.host_code.specs.Code.{CodeShape, CodeFieldShape, CodeVariableShape, field_at, variable_at, entry_at}
 use Rattle.host_code.specs.Code.{instruction_at}
 use Rattle.entry_check.specs.Checks.{MaySee, label_at, label_of_host}
-use Rattle.host_core.specs.Host.{HostShape, Outcome, without_message, with_message, with_one_ignored, with_row_written}
+use Rattle.host_core.specs.Host.{HostState, Outcome, without_message, with_message, with_one_ignored, with_row_written}
 use Rattle.host_core.specs.Host.{with_variable_set}
 use Rattle.host_core.specs.Host.{with_running, new_token, after_push, after_pop, after_step, after_clearing}
 use Rattle.host_core.specs.Host.{with_temporary, with_token}
 use Rattle.host_core.specs.Host.{value_in_thread, next_request, after_asking}
 
 -- the thread goes on as this one, and nothing is sent
-abbrev pub with_thread : HostShape → ThreadShape → Outcome
+abbrev pub with_thread : HostState → ThreadShape → Outcome
 with_thread host thread = without_message (with_running host (Some thread))
 
 -- ---- fields
 
 -- one more temporary: the element of a field of this host, or a get to the field's host
-abbrev pub after_read : HostShape → ThreadShape → FieldId → List Node → Option CodeFieldShape → Outcome
+abbrev pub after_read : HostState → ThreadShape → FieldId → List Node → Option CodeFieldShape → Outcome
 after_read host thread field index None = with_thread host thread
 after_read host thread field index (Some there) =
     let place = value_in_thread host thread index in
@@ -49,7 +49,7 @@ after_read host thread field index (Some there) =
     (message.Get (next_request host thread.at) field place)
 
 -- the element of a field of this host becomes a value, or a set to the field's host
-abbrev pub after_put : HostShape → ThreadShape → FieldId → List Node → List Node → Option CodeFieldShape →
+abbrev pub after_put : HostState → ThreadShape → FieldId → List Node → List Node → Option CodeFieldShape →
     Outcome
 after_put host thread field index value None = with_thread host thread
 after_put host thread field index value (Some there) =
@@ -63,32 +63,32 @@ after_put host thread field index value (Some there) =
 -- ---- variables
 
 -- a variable of a frame becomes a value
-abbrev pub after_let : HostShape → ThreadShape → FrameId → VarId → List Node → Outcome
+abbrev pub after_let : HostState → ThreadShape → FrameId → VarId → List Node → Outcome
 after_let host thread frame variable value =
     with_thread (with_variable_set host frame variable (value_in_thread host thread value)) (after_clearing thread)
 
 -- An instruction forwards a value to a host for a variable of a frame. The thread is kept as it goes on when that is
 -- acknowledged.
-abbrev pub after_forward : HostShape → ℕ → ThreadShape → FrameId → VarId → ℤ → HostId → Outcome
+abbrev pub after_forward : HostState → ℕ → ThreadShape → FrameId → VarId → ℤ → HostId → Outcome
 after_forward host at later frame variable value to =
     with_message (after_asking host at later acknowledgement to) to
     (message.Forward (next_request host at) frame variable value)
 
 -- a variable of a frame is forwarded to a host
-abbrev pub after_send : HostShape → ThreadShape → FrameId → VarId → HostId → Outcome
+abbrev pub after_send : HostState → ThreadShape → FrameId → VarId → HostId → Outcome
 after_send host thread frame variable to =
     after_forward host thread.at (after_step thread) frame variable (host.variables frame variable) to
 
 -- ---- frames and branches
 
 -- a new frame for a call at a site
-abbrev pub after_frame : HostShape → ThreadShape → SiteId → Outcome
+abbrev pub after_frame : HostState → ThreadShape → SiteId → Outcome
 after_frame host thread site =
     with_thread (record host { frames = slice_set host.frames site.0 (slice_index host.frames site.0 + 1) })
     (record (after_step thread) { new_frame = record { site = site; count = slice_index host.frames site.0 } })
 
 -- the thread goes on at the target where the guard is 0
-abbrev pub after_branch : HostShape → ThreadShape → List Node → ℕ → Outcome
+abbrev pub after_branch : HostState → ThreadShape → List Node → ℕ → Outcome
 after_branch host thread guard target =
     if int_eq (value_in_thread host thread guard) (pos 0)
     then with_thread host (record (after_clearing thread) { at = target })
@@ -97,41 +97,41 @@ after_branch host thread guard target =
 -- ---- the token of the thread, without which it stays where it is
 
 -- an entry is pushed in the thread's frame, and the thread holds the new token
-abbrev pub after_own_push : HostShape → ThreadShape → EntryId → Option Token → Outcome
+abbrev pub after_own_push : HostState → ThreadShape → EntryId → Option Token → Outcome
 after_own_push host thread entry None = with_thread host thread
 after_own_push host thread entry (Some held) =
     with_thread (after_push host entry thread.frame held)
     (with_token (Some (new_token host entry thread.frame)) (after_step thread))
 
 -- a host is asked to push an entry, and keeps the token that the thread held
-abbrev pub after_ask : HostShape → ThreadShape → EntryId → HostId → Option Token → Outcome
+abbrev pub after_ask : HostState → ThreadShape → EntryId → HostId → Option Token → Outcome
 after_ask host thread entry on None = with_thread host thread
 after_ask host thread entry on (Some held) =
     with_message (after_asking host thread.at (with_token None (after_step thread)) token_of_entry on) on
     (message.Sync (next_request host thread.at) thread.frame entry held)
 
 -- the thread ends, and is handed over to a host at an entry and in a frame
-abbrev pub after_go : HostShape → ThreadShape → FrameId → EntryId → HostId → Option Token → Outcome
+abbrev pub after_go : HostState → ThreadShape → FrameId → EntryId → HostId → Option Token → Outcome
 after_go host thread frame entry on None = with_thread host thread
 after_go host thread frame entry on (Some held) =
     with_message (with_running host None) on (message.Rgoto frame entry held)
 
 -- the variables with their values in a frame
-abbrev pub riders_of : HostShape → FrameId → List VarId → List Rider
+abbrev pub riders_of : HostState → FrameId → List VarId → List Rider
 riders_of host frame variables = map (λ variable. (variable, host.variables frame variable)) variables
 
 -- the thread ends likewise, and the values of these variables in the frame ride with it
-abbrev pub after_go_with : HostShape → ThreadShape → FrameId → EntryId → HostId → List VarId → Option Token → Outcome
+abbrev pub after_go_with : HostState → ThreadShape → FrameId → EntryId → HostId → List VarId → Option Token → Outcome
 after_go_with host thread frame entry on variables None = with_thread host thread
 after_go_with host thread frame entry on variables (Some held) =
     with_message (with_running host None) on (message.RgotoWith frame entry held (riders_of host frame variables))
 
 -- the thread goes on at an entry of this host, in its new frame
-abbrev pub after_own_call : HostShape → ThreadShape → Option Entry → Outcome
+abbrev pub after_own_call : HostState → ThreadShape → Option Entry → Outcome
 after_own_call host thread None = with_thread host thread
 after_own_call host thread (Some there) = with_thread host (record thread { at = there.at; frame = thread.new_frame })
 
-abbrev pub after_call : CodeShape → HostShape → ThreadShape → EntryId → HostId → Outcome
+abbrev pub after_call : CodeShape → HostState → ThreadShape → EntryId → HostId → Outcome
 after_call code host thread entry on =
     if on.0 == host.me.0
     then after_own_call host thread (entry_at code entry)
@@ -139,7 +139,7 @@ after_call code host thread entry on =
 
 -- The result goes to the host and the frame that the token names. To another host it is forwarded where its label may
 -- flow there; otherwise nothing is sent, and the thread goes on.
-abbrev pub after_return : HostShape → ThreadShape → VarId → List Node → Option Token → Bool → Outcome
+abbrev pub after_return : HostState → ThreadShape → VarId → List Node → Option Token → Bool → Outcome
 after_return host thread variable value None passes = with_thread host thread
 after_return host thread variable value (Some held) passes =
     let number = value_in_thread host thread value in
@@ -151,7 +151,7 @@ after_return host thread variable value (Some held) passes =
 
 -- The thread ends, and gives its token back to the host that the token names. On this host that is what taking an lgoto
 -- with it would do.
-abbrev pub after_back : CodeShape → HostShape → ThreadShape → Option Token → Bool → Outcome
+abbrev pub after_back : CodeShape → HostState → ThreadShape → Option Token → Bool → Outcome
 after_back code host thread None passes = with_thread host thread
 after_back code host thread (Some held) passes =
     if held.host.0 == host.me.0
@@ -162,7 +162,7 @@ after_back code host thread (Some held) passes =
 
 -- ---- the instructions
 
-abbrev pub after_operation : CodeShape → HostShape → ThreadShape → Op → Bool → Outcome
+abbrev pub after_operation : CodeShape → HostState → ThreadShape → Op → Bool → Outcome
 after_operation code host thread (op.Read field index) passes =
     after_read host thread field index (field_at code field)
 after_operation code host thread (op.Let variable value) passes = after_let host thread thread.frame variable value
@@ -194,7 +194,7 @@ MayReturn code (Some variable) to = MaySee (label_at code variable.label) (label
 
 -- A result that goes to another host may be seen there, and a token that is given back on its own host is that of the
 -- top entry.
-abbrev pub PassesWith : CodeShape → HostShape → Op → Option Token → Type 0
+abbrev pub PassesWith : CodeShape → HostState → Op → Option Token → Type 0
 PassesWith code host (op.Ret variable value) (Some held) =
     held.host.0 ≢ host.me.0 → MayReturn code (variable_at code variable) held.host
 PassesWith code host op.Back (Some held) = held.host.0 ≡ host.me.0 → top_token host.entries ≡ Some held
@@ -208,36 +208,36 @@ PushesWithin count (op.Push entry) = entry.0 < count
 PushesWithin count _ = ⊤
 
 -- this is what a return leaves and sends
-abbrev pub IsReturning : CodeShape → HostShape → ThreadShape → VarId → List Node → Outcome → Type 0
+abbrev pub IsReturning : CodeShape → HostState → ThreadShape → VarId → List Node → Outcome → Type 0
 IsReturning code host thread variable value outcome =
     (passes : Bool) × (IsTrue passes ↔ PassesWith code host (op.Ret variable value) thread.held)
     × (after_return host thread variable value thread.held passes ≡ outcome)
 
 -- this is what giving the token back leaves and sends
-abbrev pub IsGivingBack : CodeShape → HostShape → ThreadShape → Outcome → Type 0
+abbrev pub IsGivingBack : CodeShape → HostState → ThreadShape → Outcome → Type 0
 IsGivingBack code host thread outcome =
     (passes : Bool) × (IsTrue passes ↔ PassesWith code host op.Back thread.held)
     × (after_back code host thread thread.held passes ≡ outcome)
 
 -- this is what the instruction leaves and sends, where its check passes or fails
-abbrev pub IsOperation : CodeShape → HostShape → ThreadShape → Op → Outcome → Type 0
+abbrev pub IsOperation : CodeShape → HostState → ThreadShape → Op → Outcome → Type 0
 IsOperation code host thread operation outcome =
     (passes : Bool) × (IsTrue passes ↔ PassesWith code host operation thread.held)
     × (after_operation code host thread operation passes ≡ outcome)
 
 -- the thread runs this instruction, and stays where it is where the code lacks it
-abbrev pub IsRunning : CodeShape → HostShape → ThreadShape → Option Instr → Outcome → Type 0
+abbrev pub IsRunning : CodeShape → HostState → ThreadShape → Option Instr → Outcome → Type 0
 IsRunning code host thread None outcome = with_thread host thread ≡ outcome
 IsRunning code host thread (Some instruction) outcome = IsOperation code host thread instruction.op outcome
 
 -- the running thread is taken, and runs its instruction
-abbrev pub IsTurnOf : CodeShape → HostShape → Option ThreadShape → Outcome → Type 0
+abbrev pub IsTurnOf : CodeShape → HostState → Option ThreadShape → Outcome → Type 0
 IsTurnOf code host None outcome = without_message host ≡ outcome
 IsTurnOf code host (Some thread) outcome =
     IsRunning code (with_running host None) thread (instruction_at code host.me thread.at) outcome
 
 -- this is what a turn leaves and sends
-abbrev pub IsTurn : CodeShape → HostShape → Outcome → Type 0
+abbrev pub IsTurn : CodeShape → HostState → Outcome → Type 0
 IsTurn code host outcome = IsTurnOf code host host.running outcome
 
 -- the place of the label of the instruction that a turn runs
@@ -246,5 +246,5 @@ label_of_thread code me None = None
 label_of_thread code me (Some thread) =
     option_and_then (λ instruction. Some instruction.label) (instruction_at code me thread.at)
 
-abbrev pub label_of_turn : CodeShape → HostShape → Option ℕ
+abbrev pub label_of_turn : CodeShape → HostState → Option ℕ
 label_of_turn code host = label_of_thread code host.me host.running

@@ -11,12 +11,12 @@ use Rattle.host_code.specs.declared.message.Message.TheVariants as message
 use Rattle.host_code.specs.Code.{CodeShape, halt, field_at, variable_at, entry_at}
 use Rattle.entry_check.specs.Checks.{MayAffect, IsTrustedFor, label_at, label_of_host}
 use Rattle.entry_check.proofs.Decisions.{some_and, same_host, same_entry, may_see}
-use Rattle.host_core.specs.Host.{HostShape}
+use Rattle.host_core.specs.Host.{HostState}
 use Rattle.host_core.proofs.SomeOutcome.{some_token}
 use Rattle.ignored_reasons.specs.declared.why.Why.{Why}
 use Rattle.ignored_reasons.specs.declared.why.Why.TheVariants as reason
 use Rattle.ignored_reasons.specs.Parts.{GivesTop, IsAwaited}
-use Rattle.ignored_reasons.specs.Reasons.{Holds}
+use Rattle.ignored_reasons.specs.Reasons.{PartHolds}
 
 may_affect : (host label : Option Label) → Decided (MayAffect host label)
 may_affect (Some host) (Some label) = integ_flows host label
@@ -31,18 +31,18 @@ is_some : {X : Type 0} (found : Option X) → Decided (IsSome found)
 is_some None = inr (λ there. cc)
 is_some (Some x) = inl refl
 
-gives_top : (host : HostShape) (taken : Message) → Decided (GivesTop host taken)
+gives_top : (host : HostState) (taken : Message) → Decided (GivesTop host taken)
 gives_top host (message.Lgoto token) = some_token (top_token host.entries) token
 gives_top host _ = inr (λ gives. gives)
 
-is_awaited : (host : HostShape) (from : HostId) (taken : Message) → Decided (IsAwaited host from taken)
+is_awaited : (host : HostState) (from : HostId) (taken : Message) → Decided (IsAwaited host from taken)
 is_awaited host from (message.Value request value) = is_some _
 is_awaited host from (message.Ack request) = is_some _
 is_awaited host from (message.Token request token) = is_some _
 is_awaited host from _ = inr (λ awaited. awaited)
 
-pub part : (code : CodeShape) (host : HostShape) (from : HostId) (taken : Message) (why : Why) →
-    Decided (Holds code host from taken why)
+pub part : (code : CodeShape) (host : HostState) (from : HostId) (taken : Message) (why : Why) →
+    Decided (PartHolds code host from taken why)
 part code host from taken (reason.FieldElsewhere field) =
     some_and _ (λ there. same_host there.host host.me) (field_at code field)
 part code host from taken (reason.MayNotSee field) =

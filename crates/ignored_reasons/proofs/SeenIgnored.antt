@@ -13,39 +13,39 @@ use Rattle.host_code.specs.declared.message.Message.TheVariants as message
 use Rattle.host_code.specs.Riders.{Rider}
 use Rattle.host_code.specs.Thread.{ThreadShape}
 use Rattle.host_code.specs.Code.{CodeShape, halt, entry_at}
-use Rattle.host_core.specs.Host.{HostShape, Outcome, after_entering, after_pop, with_variables_set}
+use Rattle.host_core.specs.Host.{HostState, Outcome, after_entering, after_pop, with_variables_set}
 use Rattle.host_core.specs.Host.{with_variable_set}
-use Rattle.host_core.specs.Taking.{Passes, IsTaking, after_answer, after_passing}
+use Rattle.host_core.specs.Taking.{PassesCheck, IsTaking, after_answer, after_passing}
 
-entered : (host : HostShape) (entry : Option Entry) (frame : FrameId) (token : Token) →
+entered : (host : HostState) (entry : Option Entry) (frame : FrameId) (token : Token) →
     (after_entering host entry frame token).ignored ≡ host.ignored
 entered host None frame token = refl
 entered host (Some entry) frame token = refl
 
-popped : (code : CodeShape) (host : HostShape) (entry : EntryId) (frame : FrameId) (kept : Token) (ends : Bool) →
+popped : (code : CodeShape) (host : HostState) (entry : EntryId) (frame : FrameId) (kept : Token) (ends : Bool) →
     (if ends then record host { running = None; halted = true }
     else after_entering host (entry_at code entry) frame kept).ignored ≡ host.ignored
 popped code host entry frame kept true = refl
 popped code host entry frame kept false = entered host (entry_at code entry) frame kept
 
-taken_off : (code : CodeShape) (host : HostShape) (entries : List StackEntry) →
+taken_off : (code : CodeShape) (host : HostState) (entries : List StackEntry) →
     (after_pop code host entries).ignored ≡ host.ignored
 taken_off code host [] = refl
 taken_off code host (top ∷ below) =
     popped code (record host { entries = below }) top.entry top.frame top.kept (top.entry.0 == halt.0)
 
-variables_set : (host : HostShape) (frame : FrameId) (riders : List Rider) →
+variables_set : (host : HostState) (frame : FrameId) (riders : List Rider) →
     (with_variables_set host frame riders).ignored ≡ host.ignored
 variables_set host frame [] = refl
 variables_set host frame (rider ∷ riders) =
     variables_set (with_variable_set host frame rider.0 rider.1) frame riders
 
-answered : (host : HostShape) (place : Option ℕ) (after : ThreadShape → ThreadShape) →
+answered : (host : HostState) (place : Option ℕ) (after : ThreadShape → ThreadShape) →
     (after_answer host place after).ignored ≡ host.ignored
 answered host None after = refl
 answered host (Some place) after = refl
 
-passed : (code : CodeShape) (host : HostShape) (from : HostId) (taken : Message) →
+passed : (code : CodeShape) (host : HostState) (from : HostId) (taken : Message) →
     (after_passing code host from taken).state.ignored ≡ host.ignored
 passed code host from (message.Get request field index) = refl
 passed code host from (message.Set request field index value) = refl
@@ -59,9 +59,9 @@ passed code host from (message.Value request value) = answered host _ _
 passed code host from (message.Ack request) = answered host _ _
 passed code host from (message.Token request token) = answered host _ _
 
-pub seen : (code : CodeShape) (host : HostShape) (from : HostId) (taken : Message) (outcome : Outcome) →
+pub seen : (code : CodeShape) (host : HostState) (from : HostId) (taken : Message) (outcome : Outcome) →
     IsTaking code host from taken outcome →
-    ((outcome.state.ignored ≡ host.ignored) ↔ Passes code host from taken)
+    ((outcome.state.ignored ≡ host.ignored) ↔ PassesCheck code host from taken)
 seen code host from taken outcome (true, checked, leaves) = (
   λ same. checked.0 refl,
   λ passes. ap (λ (out : Outcome). out.state.ignored) (sym leaves) ∙ passed code host from taken,

@@ -11,7 +11,7 @@ use Rattle.host_code.specs.declared.message.Message.TheVariants as message
 use Rattle.host_code.specs.Code.{CodeShape, field_at, variable_at, entry_at}
 use Rattle.host_code.specs.Thread.Awaited.{value_of_field, acknowledgement, token_of_entry}
 use Rattle.entry_check.specs.Checks.{MaySee, MayAffect, IsTrustedFor, label_at, label_of_host}
-use Rattle.host_core.specs.Host.{HostShape}
+use Rattle.host_core.specs.Host.{HostState}
 use Rattle.host_core.specs.Taking.{place_of_awaiting}
 
 -- ---- what the code decides
@@ -20,13 +20,13 @@ abbrev pub IsFieldOn : CodeShape → HostId → FieldId → Type 0
 IsFieldOn code me field = IsSomeAnd (field_at code field) (λ there. there.host ≡ me)
 
 -- what the field's label forbids, the sender's label forbids
-abbrev pub SeesField : CodeShape → HostId → FieldId → Type 0
-SeesField code from field =
+abbrev pub SenderSeesField : CodeShape → HostId → FieldId → Type 0
+SenderSeesField code from field =
     IsSomeAnd (field_at code field) (λ there. MaySee (label_at code there.label) (label_of_host code from))
 
 -- who trusts the field trusts the sender
-abbrev pub SetsField : CodeShape → HostId → FieldId → Type 0
-SetsField code from field =
+abbrev pub SenderSetsField : CodeShape → HostId → FieldId → Type 0
+SenderSetsField code from field =
     IsSomeAnd (field_at code field) (λ there. MayAffect (label_of_host code from) (label_at code there.label))
 
 -- who trusts the variable trusts the sender
@@ -35,8 +35,8 @@ SetsVariable code from variable =
     IsSomeAnd (variable_at code variable) (λ there. MayAffect (label_of_host code from) (label_at code there.label))
 
 -- who is in the need of the entry trusts the sender
-abbrev pub IsTrustedAt : CodeShape → HostId → EntryId → Type 0
-IsTrustedAt code from entry =
+abbrev pub IsSenderTrustedAt : CodeShape → HostId → EntryId → Type 0
+IsSenderTrustedAt code from entry =
     IsSomeAnd (entry_at code entry) (λ there. IsTrustedFor (label_of_host code from) there.need)
 
 -- the sender may see the program label of the entry
@@ -47,12 +47,12 @@ KnowsOf code from entry =
 -- ---- what the state of the host decides
 
 -- the token that a message gives back is that of the top entry
-abbrev pub GivesTop : HostShape → Message → Type 0
+abbrev pub GivesTop : HostState → Message → Type 0
 GivesTop host (message.Lgoto token) = top_token host.entries ≡ Some token
 GivesTop host _ = ⊥
 
 -- a thread waits for this answer from the sender
-abbrev pub IsAwaited : HostShape → HostId → Message → Type 0
+abbrev pub IsAwaited : HostState → HostId → Message → Type 0
 IsAwaited host from (message.Value request value) = IsSome (place_of_awaiting host value_of_field request from)
 IsAwaited host from (message.Ack request) = IsSome (place_of_awaiting host acknowledgement request from)
 IsAwaited host from (message.Token request token) = IsSome (place_of_awaiting host token_of_entry request from)

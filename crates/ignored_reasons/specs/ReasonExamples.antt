@@ -10,7 +10,7 @@ use Rattle.capability.specs.declared.token.Token.{Token}
 use Rattle.host_code.specs.declared.message.Message.{Message}
 use Rattle.host_code.specs.declared.message.Message.TheVariants as message
 use Rattle.host_code.specs.Code.{CodeShape}
-use Rattle.host_core.specs.Host.{HostShape}
+use Rattle.host_core.specs.Host.{HostState}
 use Rattle.host_core.specs.Start.{main_frame, last_token, idle_host}
 
 abbrev pub host_a : HostId
@@ -53,7 +53,7 @@ small_code label_of_b label need =
     }
 
 -- a host on which nothing was started
-abbrev pub resting : CodeShape → HostId → HostShape
+abbrev pub resting : CodeShape → HostId → HostState
 resting code me = idle_host code [] [] me
 
 abbrev pub gets : Message

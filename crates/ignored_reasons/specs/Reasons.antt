@@ -12,25 +12,26 @@ use Rattle.host_code.specs.declared.message.Message.TheVariants as message
 use Rattle.host_code.specs.Riders.{names_of}
 use Rattle.host_code.specs.Code.{CodeShape}
 use Rattle.host_code.specs.Sound.{IsEntryOn}
-use Rattle.host_core.specs.Host.{HostShape}
+use Rattle.host_core.specs.Host.{HostState}
 use Rattle.ignored_reasons.specs.declared.asked.Asked.{Asked}
 use Rattle.ignored_reasons.specs.declared.asked.Asked.TheVariants as asked
 use Rattle.ignored_reasons.specs.declared.why.Why.{Why}
 use Rattle.ignored_reasons.specs.declared.why.Why.TheVariants as why
-use Rattle.ignored_reasons.specs.Parts.{IsFieldOn, SeesField, SetsField, SetsVariable, IsTrustedAt, KnowsOf}
+use Rattle.ignored_reasons.specs.Parts.{IsFieldOn, SenderSeesField, SenderSetsField, SetsVariable, IsSenderTrustedAt}
+use Rattle.ignored_reasons.specs.Parts.{KnowsOf}
 use Rattle.ignored_reasons.specs.Parts.{GivesTop, IsAwaited}
 
 -- the part of the message's check that the reason says is false
-abbrev pub Holds : CodeShape → HostShape → HostId → Message → Why → Type 0
-Holds code host from taken (why.FieldElsewhere field) = IsFieldOn code host.me field
-Holds code host from taken (why.MayNotSee field) = SeesField code from field
-Holds code host from taken (why.MayNotSet field) = SetsField code from field
-Holds code host from taken (why.MayNotForward variable) = SetsVariable code from variable
-Holds code host from taken (why.NoEntry entry) = IsEntryOn code host.me entry
-Holds code host from taken (why.MayNotEnter entry) = IsTrustedAt code from entry
-Holds code host from taken (why.MayNotKnow entry) = KnowsOf code from entry
-Holds code host from taken why.NotOnTop = GivesTop host taken
-Holds code host from taken why.NoneWaits = IsAwaited host from taken
+abbrev pub PartHolds : CodeShape → HostState → HostId → Message → Why → Type 0
+PartHolds code host from taken (why.FieldElsewhere field) = IsFieldOn code host.me field
+PartHolds code host from taken (why.MayNotSee field) = SenderSeesField code from field
+PartHolds code host from taken (why.MayNotSet field) = SenderSetsField code from field
+PartHolds code host from taken (why.MayNotForward variable) = SetsVariable code from variable
+PartHolds code host from taken (why.NoEntry entry) = IsEntryOn code host.me entry
+PartHolds code host from taken (why.MayNotEnter entry) = IsSenderTrustedAt code from entry
+PartHolds code host from taken (why.MayNotKnow entry) = KnowsOf code from entry
+PartHolds code host from taken why.NotOnTop = GivesTop host taken
+PartHolds code host from taken why.NoneWaits = IsAwaited host from taken
 
 -- the parts of the check at an entry
 abbrev pub parts_at : EntryId → List Why
@@ -74,5 +75,5 @@ IsFirstFalse holds (part ∷ parts) found =
     (holds part × IsFirstFalse holds parts found) ⊎ (¬ holds part × (found ≡ Some part))
 
 -- why the host ignores the message of the sender, none where it does not
-abbrev pub IsWhy : CodeShape → HostShape → HostId → Message → Option Why → Type 0
-IsWhy code host from taken found = IsFirstFalse (Holds code host from taken) (parts_of taken) found
+abbrev pub IsWhy : CodeShape → HostState → HostId → Message → Option Why → Type 0
+IsWhy code host from taken found = IsFirstFalse (PartHolds code host from taken) (parts_of taken) found

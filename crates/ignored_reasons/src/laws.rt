@@ -8,9 +8,9 @@ ghost use Rattle.label_lattice.specs.Label.{ConfFlows, IntegFlows, IsTrustedBy};
 ghost use Rattle.host_code.specs.Code.{CodeShape, halt};
 ghost use Rattle.host_code.specs.declared.message.Message.TheVariants as message;
 ghost use Rattle.host_code.specs.declared.message.Message.{Message};
-ghost use Rattle.host_core.specs.Host.{HostShape, Outcome};
-ghost use Rattle.host_core.specs.Taking.{Passes, IsTaking};
-ghost use Rattle.ignored_reasons.specs.Reasons.{Holds, IsWhy, parts_of};
+ghost use Rattle.host_core.specs.Host.{HostState, Outcome};
+ghost use Rattle.host_core.specs.Taking.{PassesCheck, IsTaking};
+ghost use Rattle.ignored_reasons.specs.Reasons.{PartHolds, IsWhy, parts_of};
 ghost use Rattle.ignored_reasons.specs.declared.why.Why.{Why};
 ghost use Rattle.ignored_reasons.specs.declared.why.Why.TheVariants as reason;
 ghost use Rattle.ignored_reasons.specs.ReasonExamples.{host_a, host_b, the_field, the_variable, the_entry, the_request};
@@ -20,22 +20,22 @@ ghost use Rattle.ignored_reasons.specs.ReasonExamples.{enters, enters_with};
 /// What a reason says of the check of a message, with any code and in any state of the host.
 pub fn reason_laws()
     // There is no reason exactly where the check passes.
-    ensures why_due { (code : CodeShape) (host : HostShape) (from : HostId) (taken : Message) (found : Option Why) →
-        IsWhy code host from taken found → ((found ≡ None) ↔ Passes code host from taken) }
+    ensures why_due { (code : CodeShape) (host : HostState) (from : HostId) (taken : Message) (found : Option Why) →
+        IsWhy code host from taken found → ((found ≡ None) ↔ PassesCheck code host from taken) }
     // The part that a reason names is one of the check's. It is false, and all parts before it hold.
-    ensures why_true { (code : CodeShape) (host : HostShape) (from : HostId) (taken : Message) (why : Why) →
+    ensures why_true { (code : CodeShape) (host : HostState) (from : HostId) (taken : Message) (why : Why) →
         IsWhy code host from taken (Some why) →
         (before behind : List Why) × (parts_of taken ≡ before ++ why ∷ behind)
-        × AllByRecursion (Holds code host from taken) before × ¬ Holds code host from taken why }
+        × AllByRecursion (PartHolds code host from taken) before × ¬ PartHolds code host from taken why }
     // There is one answer, and no other.
-    ensures some_why { (code : CodeShape) (host : HostShape) (from : HostId) (taken : Message) →
+    ensures some_why { (code : CodeShape) (host : HostState) (from : HostId) (taken : Message) →
         (found : Option Why) × IsWhy code host from taken found }
-    ensures one_why { (code : CodeShape) (host : HostShape) (from : HostId) (taken : Message) (one other : Option Why) →
+    ensures one_why { (code : CodeShape) (host : HostState) (from : HostId) (taken : Message) (one other : Option Why) →
         IsWhy code host from taken one → IsWhy code host from taken other → one ≡ other }
     // Whether a message passed is seen from the count of those that were ignored.
-    ensures seen { (code : CodeShape) (host : HostShape) (from : HostId) (taken : Message) (outcome : Outcome) →
+    ensures seen { (code : CodeShape) (host : HostState) (from : HostId) (taken : Message) (outcome : Outcome) →
         IsTaking code host from taken outcome →
-        ((outcome.state.ignored ≡ host.ignored) ↔ Passes code host from taken) }
+        ((outcome.state.ignored ≡ host.ignored) ↔ PassesCheck code host from taken) }
 {}
 
 /// Reasons that are worked out. Host A has the field, the variable and the entry, and B asks for them, but where it is

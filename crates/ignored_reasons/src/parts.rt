@@ -3,7 +3,8 @@
 ghost use Rattle.std.specs.Prelude.{◌↔◌, IsTrue};
 ghost use Rattle.host_code.specs.Sound.{IsEntryOn};
 ghost use Rattle.entry_check.specs.Checks.{MaySee, MayAffect, label_at, label_of_host};
-ghost use Rattle.ignored_reasons.specs.Parts.{IsFieldOn, SeesField, SetsField, SetsVariable, IsTrustedAt, KnowsOf};
+ghost use Rattle.ignored_reasons.specs.Parts.{IsFieldOn, SenderSeesField, SenderSetsField, SetsVariable};
+ghost use Rattle.ignored_reasons.specs.Parts.{IsSenderTrustedAt, KnowsOf};
 
 use host_code::Code;
 use js_base::{EntryId, FieldId, HostId, VarId};
@@ -23,7 +24,7 @@ pub fn is_field_on(code: &Code, me: HostId, field: FieldId) -> bool
 
 /// Whether the sender may see the field.
 pub fn sees_field(code: &Code, from: HostId, field: FieldId) -> bool
-    ensures { IsTrue result ↔ SeesField code.now from field }
+    ensures { IsTrue result ↔ SenderSeesField code.now from field }
 {
     match code.field(field) {
         Some(there) => may_see(code, from, there.label()),
@@ -33,7 +34,7 @@ pub fn sees_field(code: &Code, from: HostId, field: FieldId) -> bool
 
 /// Whether the sender is trusted to set the field.
 pub fn sets_field(code: &Code, from: HostId, field: FieldId) -> bool
-    ensures { IsTrue result ↔ SetsField code.now from field }
+    ensures { IsTrue result ↔ SenderSetsField code.now from field }
 {
     match code.field(field) {
         Some(there) => may_affect(code, from, there.label()),
@@ -63,7 +64,7 @@ pub fn is_entry_on(code: &Code, me: HostId, entry: EntryId) -> bool
 
 /// Whether the sender is trusted to enter.
 pub fn is_trusted_at(code: &Code, from: HostId, entry: EntryId) -> bool
-    ensures { IsTrue result ↔ IsTrustedAt code.now from entry }
+    ensures { IsTrue result ↔ IsSenderTrustedAt code.now from entry }
 {
     match (code.entry(entry), code.host(from)) {
         (Some(there), Some(host)) => host.label().is_trusted_by(there.need),

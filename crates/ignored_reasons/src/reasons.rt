@@ -3,9 +3,9 @@
 ghost use Rattle.std.specs.Prelude.{◌≡◌, ◌↔◌, ◌∷◌, ◌++◌, [], None, Some, IsTrue, if◌then◌else◌};
 ghost use Rattle.host_code.specs.Riders.{names_of};
 ghost use Rattle.host_code.specs.declared.message.Message.{Message};
-ghost use Rattle.host_core.specs.Host.{HostShape};
-ghost use Rattle.host_core.specs.Taking.{Passes};
-ghost use Rattle.ignored_reasons.specs.Reasons.{Holds, IsFirstFalse, IsWhy, asked_of, parts_at, parts_riding};
+ghost use Rattle.host_core.specs.Host.{HostState};
+ghost use Rattle.host_core.specs.Taking.{PassesCheck};
+ghost use Rattle.ignored_reasons.specs.Reasons.{PartHolds, IsFirstFalse, IsWhy, asked_of, parts_at, parts_riding};
 ghost use Rattle.ignored_reasons.specs.declared.why.Why.TheVariants as reason;
 
 use crate::asked::Asked;
@@ -27,8 +27,8 @@ pub fn why_ignored(
     asked: &Asked,
     passes: bool,
 ) -> Option<Why>
-    ensures { (host : HostShape) (taken : Message) → host.me ≡ me → asked_of taken ≡ asked.now →
-        (IsTrue passes ↔ Passes code.now host from taken) → IsWhy code.now host from taken result }
+    ensures { (host : HostState) (taken : Message) → host.me ≡ me → asked_of taken ≡ asked.now →
+        (IsTrue passes ↔ PassesCheck code.now host from taken) → IsWhy code.now host from taken result }
 {
     match asked {
         Asked::Get(field) => why_not_get(code, me, from, *field),
@@ -45,8 +45,8 @@ pub fn why_ignored(
 
 /// Why the sender may not ask for the field.
 fn why_not_get(code: &Code, me: HostId, from: HostId, field: FieldId) -> Option<Why>
-    ensures { (host : HostShape) (taken : Message) → host.me ≡ me →
-        IsFirstFalse (Holds code.now host from taken)
+    ensures { (host : HostState) (taken : Message) → host.me ≡ me →
+        IsFirstFalse (PartHolds code.now host from taken)
         (reason.FieldElsewhere field ∷ reason.MayNotSee field ∷ []) result }
 {
     if !is_field_on(code, me, field) {
@@ -57,8 +57,8 @@ fn why_not_get(code: &Code, me: HostId, from: HostId, field: FieldId) -> Option<
 
 /// Why the sender may not set the field.
 fn why_not_set(code: &Code, me: HostId, from: HostId, field: FieldId) -> Option<Why>
-    ensures { (host : HostShape) (taken : Message) → host.me ≡ me →
-        IsFirstFalse (Holds code.now host from taken)
+    ensures { (host : HostState) (taken : Message) → host.me ≡ me →
+        IsFirstFalse (PartHolds code.now host from taken)
         (reason.FieldElsewhere field ∷ reason.MayNotSet field ∷ []) result }
 {
     if !is_field_on(code, me, field) {
@@ -69,16 +69,16 @@ fn why_not_set(code: &Code, me: HostId, from: HostId, field: FieldId) -> Option<
 
 /// Why the sender may not set the variable.
 fn why_not_forward(code: &Code, from: HostId, var: VarId) -> Option<Why>
-    ensures { (host : HostShape) (taken : Message) →
-        IsFirstFalse (Holds code.now host from taken) (reason.MayNotForward var ∷ []) result }
+    ensures { (host : HostState) (taken : Message) →
+        IsFirstFalse (PartHolds code.now host from taken) (reason.MayNotForward var ∷ []) result }
 {
     unless(sets_variable(code, from, var), Why::MayNotForward(var))
 }
 
 /// Why the sender may not enter.
 fn why_not_enter(code: &Code, me: HostId, from: HostId, entry: EntryId) -> Option<Why>
-    ensures { (host : HostShape) (taken : Message) → host.me ≡ me →
-        IsFirstFalse (Holds code.now host from taken) (parts_at entry) result }
+    ensures { (host : HostState) (taken : Message) → host.me ≡ me →
+        IsFirstFalse (PartHolds code.now host from taken) (parts_at entry) result }
 {
     if !is_entry_on(code, me, entry) {
         return Some(Why::NoEntry(entry));
@@ -97,8 +97,8 @@ fn why_not_enter_with(
     entry: EntryId,
     riders: &[(VarId, i64)],
 ) -> Option<Why>
-    ensures { (host : HostShape) (taken : Message) → host.me ≡ me →
-        IsFirstFalse (Holds code.now host from taken)
+    ensures { (host : HostState) (taken : Message) → host.me ≡ me →
+        IsFirstFalse (PartHolds code.now host from taken)
         (parts_at entry ++ parts_riding (names_of riders.now)) result }
 {
     match why_not_enter(code, me, from, entry) {
@@ -109,8 +109,8 @@ fn why_not_enter_with(
 
 /// Why the sender may not set each variable that rides.
 fn why_not_ride(code: &Code, from: HostId, riders: &[(VarId, i64)]) -> Option<Why>
-    ensures { (host : HostShape) (taken : Message) →
-        IsFirstFalse (Holds code.now host from taken) (parts_riding (names_of riders.now)) result }
+    ensures { (host : HostState) (taken : Message) →
+        IsFirstFalse (PartHolds code.now host from taken) (parts_riding (names_of riders.now)) result }
 {
     match riders {
         [] => None,

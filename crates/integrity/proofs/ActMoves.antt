@@ -14,8 +14,8 @@ use Rattle.host_code.specs.declared.message.Message.TheVariants as message
 use Rattle.host_code.specs.Thread.{ThreadShape, WaitingShape, Awaited}
 use Rattle.host_code.specs.Thread.Awaited.{value_of_field, acknowledgement, token_of_entry}
 use Rattle.host_core.specs.Awaiting.{awaits, is_same_answer}
-use Rattle.host_core.specs.Host.{HostShape, Outcome, without_message, with_one_ignored, with_temporary}
-use Rattle.host_core.specs.Taking.{after_taking, after_answer, place_of_awaiting, Passes}
+use Rattle.host_core.specs.Host.{HostState, Outcome, without_message, with_one_ignored, with_temporary}
+use Rattle.host_core.specs.Taking.{after_taking, after_answer, place_of_awaiting, PassesCheck}
 use Rattle.event_text.specs.declared.event.BadMessage.{BadMessage}
 use Rattle.event_text.specs.declared.event.BadMessage.TheVariants as bad
 use Rattle.net_world.specs.Told.{message_made, token_presented}
@@ -39,15 +39,15 @@ use Rattle.token_laws.proofs.WorldTokens.{Accounts, account}
 use Rattle.integrity.specs.Exposed.{bad_labels}
 use Rattle.integrity.proofs.TightLaws.{lawful}
 use Rattle.typed_steps.specs.Threads.{IsAt}
-use Rattle.typed_steps.specs.Variables.{Sends}
+use Rattle.typed_steps.specs.Variables.{HasWhatIsOwed}
 use Rattle.typed_steps.specs.Views.{Split, View, entries_of}
 use Rattle.typed_steps.proofs.HeldSteps.{holds_same}
-use Rattle.integrity.specs.Holding.{IsAmong, Holder, runs, stuck, halted, IsOwn, OwnsWaiting, OwnsMessage}
+use Rattle.integrity.specs.Holding.{IsAmong, Holder, runs, stuck, halted, IsHoldersEvent, OwnsWaiting, OwnsMessage}
 use Rattle.integrity.specs.Holding.{StateIsOutside}
 use Rattle.integrity.specs.Holding.{IsStanding}
 use Rattle.integrity.specs.Outside.{Threat, ThreadIsOpen, MessageIsOpen}
 use Rattle.integrity.specs.Standing as standing
-use Rattle.integrity.specs.Standing.{threat_in, IsFor, StandsBy, Goes}
+use Rattle.integrity.specs.Standing.{threat_in, GoesOnWhatever, StandsBy, Goes}
 use Rattle.integrity.proofs.Among.{each_among, some_of, same_item}
 use Rattle.integrity.proofs.FliesOn.{FlyAs}
 use Rattle.integrity.proofs.HolderStays.{on_some}
@@ -181,7 +181,7 @@ module _ (split : Split) (c : Configuration) (view : View) (host : HostId) (w : 
       after_answer t.step.state (Some among.0) change ≡ t.step.outcome.state → Goes split c after
   goes_on change at is =
       let old = t.step.state in
-      let new : HostShape = after_answer old (Some among.0) change in
+      let new : HostState = after_answer old (Some among.0) change in
       let thread = change w.thread in
       let next = runs host thread in
       let moved : Moved world host new world.flying after =
@@ -226,10 +226,10 @@ module _ (split : Split) (c : Configuration) (view : View) (host : HostId) (w : 
             });
         holds = holds_same split c view world after host old new world.flying t.stands.holds t.step.obeys moved refl
             refl refl;
-        sends = some_of (state_at after host) (λ s. Sends split view s host) new there
-            (subst (λ o. IsSomeAnd o (λ s. Sends split view s host)) t.step.obeys t.stands.sends);
+        sends = some_of (state_at after host) (λ s. HasWhatIsOwed split view s host) new there
+            (subst (λ o. IsSomeAnd o (λ s. HasWhatIsOwed split view s host)) t.step.obeys t.stands.sends);
         does = (t.stands.does.0, at);
-        halts = not_halted next (ap (λ (s : HostShape). s.halted) (sym is));
+        halts = not_halted next (ap (λ (s : HostState). s.halted) (sym is));
       })
 
   -- ---- it is none that the thread waits for
@@ -238,7 +238,7 @@ module _ (split : Split) (c : Configuration) (view : View) (host : HostId) (w : 
       StandsBy split c view (stuck host w) after
   ignores is =
       let old = t.step.state in
-      let new : HostShape = with_one_ignored old in
+      let new : HostState = with_one_ignored old in
       let state_is : new ≡ t.step.outcome.state = ap (λ (o : Outcome). o.state) is in
       let moved : Moved world host new world.flying after =
       subst (λ s. Moved world host s world.flying after) (sym state_is) t.moved in
@@ -272,10 +272,10 @@ module _ (split : Split) (c : Configuration) (view : View) (host : HostId) (w : 
             });
         holds = holds_same split c view world after host old new world.flying t.stands.holds t.step.obeys moved refl
             refl refl;
-        sends = some_of (state_at after host) (λ s. Sends split view s host) new there
-            (subst (λ o. IsSomeAnd o (λ s. Sends split view s host)) t.step.obeys t.stands.sends);
+        sends = some_of (state_at after host) (λ s. HasWhatIsOwed split view s host) new there
+            (subst (λ o. IsSomeAnd o (λ s. HasWhatIsOwed split view s host)) t.step.obeys t.stands.sends);
         does = t.stands.does;
-        halts = not_halted (stuck host w) (ap (λ (s : HostShape). s.halted) (sym state_is));
+        halts = not_halted (stuck host w) (ap (λ (s : HostState). s.halted) (sym state_is));
       }
 
   -- ---- whatever is answered
@@ -308,24 +308,25 @@ module _ (split : Split) (c : Configuration) (view : View) (host : HostId) (w : 
       ap (λ o. after_answer t.step.state o change) (sym found) ∙ ap (λ (o : Outcome). o.state) is
 
   takes : (m : Message) → t.step.message ≡ m → number_answered m ≡ Some w.request → MessageHasNumbers m →
-      (b : Bool) → (b ≡ true → Passes split.code t.step.state w.asked m) →
+      (b : Bool) → (b ≡ true → PassesCheck split.code t.step.state w.asked m) →
       after_taking split.code t.step.state w.asked m b ≡ t.step.outcome →
       Goes split c after ⊎ StandsBy split c view (stuck host w) after
   takes m is number numbers false check taken = inr (ignores taken)
   takes (message.Value request value) is number numbers true check taken =
       let same : request ≡ w.request = cc in
       let found = kind_found value_of_field request same _ refl (check refl) in
-      inl (goes_on (with_temporary value) (subst (IsFor split c view host w) found.0 t.stands.does.1 value numbers)
+      inl (goes_on (with_temporary value)
+      (subst (GoesOnWhatever split c view host w) found.0 t.stands.does.1 value numbers)
       (after_is _ (with_temporary value) found.1 taken))
   takes (message.Ack request) is number numbers true check taken =
       let same : request ≡ w.request = cc in
       let found = kind_found acknowledgement request same _ refl (check refl) in
-      inl (goes_on (λ thread. thread) (subst (IsFor split c view host w) found.0 t.stands.does.1)
+      inl (goes_on (λ thread. thread) (subst (GoesOnWhatever split c view host w) found.0 t.stands.does.1)
       (after_is _ (λ thread. thread) found.1 taken))
   takes (message.Token request token) is number numbers true check taken =
       let same : request ≡ w.request = cc in
       let found = kind_found token_of_entry request same _ refl (check refl) in
-      absurd (subst (IsFor split c view host w) found.0 t.stands.does.1)
+      absurd (subst (GoesOnWhatever split c view host w) found.0 t.stands.does.1)
   takes (message.Get request field index) is number numbers true check taken = absurd (cc)
   takes (message.Set request field index value) is number numbers true check taken = absurd (cc)
   takes (message.Forward request frame x value) is number numbers true check taken = absurd (cc)
@@ -366,7 +367,7 @@ module _ (split : Split) (rows : List declared_hosts.HostShape) (bad : ℕ) (sto
   pub holder_acted : (made : BadMessage) →
       HasOwnToken (world_at_start split.code rows bad store) (Act w.asked host made) →
       (step : IsActStep split.code world w.asked host made after) → MessageHasNumbers step.message →
-      IsOwn (stuck host w) world (Act w.asked host made) →
+      IsHoldersEvent (stuck host w) world (Act w.asked host made) →
       Goes split c after ⊎ StandsBy split c view (stuck host w) after
   holder_acted made own step numbers its =
       let mine = subst (λ o. IsSomeAnd o (OwnsMessage (stuck host w) w.asked host)) step.makes its in

@@ -10,7 +10,7 @@ use Rattle.jif_tree.specs.declared.program.Program.{Program}
 use Rattle.host_code.specs.declared.code.Entry.{Entry}
 use Rattle.host_code.specs.Code.{CodeShape, entry_at}
 use Rattle.host_code.specs.Sound.{IsHost, IsSoundCode, EntryFits}
-use Rattle.host_core.specs.Host.{HostShape}
+use Rattle.host_core.specs.Host.{HostState}
 use Rattle.host_core.specs.Start.{host_at_start}
 use Rattle.event_text.specs.declared.event.Event.{Event}
 use Rattle.split_rules.specs.Placed.{PlacedProgram}
@@ -22,7 +22,7 @@ use Rattle.token_laws.proofs.HeldLaws.{all_at}
 use Rattle.token_laws.proofs.Tests.{number_same}
 use Rattle.simulation.specs.Obeying.{IsSet}
 use Rattle.simulation.proofs.Obeyed.{typed_split}
-use Rattle.integrity.specs.Altering.{FollowsAltered}
+use Rattle.integrity.specs.Altering.{WorldFollowsAltered}
 use Rattle.integrity.specs.Exposed.{exposure_of}
 use Rattle.integrity.proofs.AlteredRuns.{follows}
 use Rattle.integrity.proofs.Among.{one_of_some}
@@ -37,7 +37,7 @@ root_is_host code sound =
 
 obeys_before : (code : CodeShape) (store : List (List ℤ)) (bad number : ℕ) (rows : List declared_hosts.HostShape)
     (place at : ℕ) → place < length rows → at ≡ number + place → (bit_at bad at == 1) ≡ false →
-    (state : HostShape) × (given (slice_get (hosts_before code store bad number rows) place) ≡ Some state)
+    (state : HostState) × (given (slice_get (hosts_before code store bad number rows) place) ≡ Some state)
 obeys_before code store bad number [] place at within is obeys = absurd (omega arith)
 obeys_before code store bad number (row ∷ rows) zero at within is obeys =
     let same : number ≡ at = omega arith in
@@ -56,10 +56,10 @@ module _ (laws : AreSplitLaws) (program : Program) (placed : PlacedProgram) (bad
     (code_numbers : CodeHasNumbers (split_code placed)) (store_numbers : RowsHaveNumbers store)
     (reach : IsReached (split_code placed) placed.hosts.hosts bad store events world)
     (said : All EventHasNumbers events) where
-  where_root_obeys : (state : HostShape) →
+  where_root_obeys : (state : HostState) →
       state_at (world_at_start (split_code placed) placed.hosts.hosts bad store)
       (split_code placed).root ≡ Some state →
-      FollowsAltered program (exposure_of placed bad) (split_code placed) placed.hosts.hosts bad store events world
+      WorldFollowsAltered program (exposure_of placed bad) (split_code placed) placed.hosts.hosts bad store events world
   unfolding typed_split
   where_root_obeys state obeys =
       let typed =
@@ -70,7 +70,7 @@ module _ (laws : AreSplitLaws) (program : Program) (placed : PlacedProgram) (bad
       follows laws.opening split placed bad store refl set.splittable set.allowed set.held
       code_numbers store_numbers events world state reach said obeys
 
-  pub follows_always : FollowsAltered program (exposure_of placed bad)
+  pub follows_always : WorldFollowsAltered program (exposure_of placed bad)
       (split_code placed) placed.hosts.hosts bad store events world
   follows_always =
       let code = split_code placed in

@@ -9,12 +9,12 @@ use Rattle.jif_tree.specs.Altered as altering
 use Rattle.jif_tree.specs.Altered.{MayStep}
 use Rattle.jif_tree.specs.SourceRun.{Configuration, IsAtEnd, configuration_at_start}
 use Rattle.host_code.specs.Thread.{WaitingShape}
-use Rattle.host_core.specs.Host.{HostShape}
+use Rattle.host_core.specs.Host.{HostState}
 use Rattle.event_text.specs.declared.event.Event.{Event}
 use Rattle.event_text.specs.declared.event.Event.TheVariants.{Take, Turn, Act}
 use Rattle.event_text.specs.declared.event.BadMessage.{BadMessage}
 use Rattle.split_rules.specs.Placed.{PlacedProgram}
-use Rattle.split_rules.specs.Held.{IsHeld}
+use Rattle.split_rules.specs.Held.{IsWellHeld}
 use Rattle.split_rules.specs.Allowed.{IsAllowed}
 use Rattle.split_rules.specs.Splittable.{IsSplittable}
 use Rattle.net_world.specs.Fits.{HasOwnToken}
@@ -25,15 +25,16 @@ use Rattle.token_laws.specs.Numbers.{CodeHasNumbers, RowsHaveNumbers, EventHasNu
 use Rattle.token_laws.specs.Reached.{IsReached}
 use Rattle.token_laws.proofs.Walks.{one_more}
 use Rattle.typed_steps.specs.Views.{Split, View}
-use Rattle.integrity.specs.Altering.{StandsFor, GoesOnAltered, FollowsAltered}
+use Rattle.integrity.specs.Altering.{StandsFor, GoesOnAltered, WorldFollowsAltered}
 use Rattle.integrity.specs.Exposed.{bad_labels}
-use Rattle.integrity.specs.Holding.{Holder, runs, asked, answered, stuck, passes, lost, halted, IsOwn, OwnsRunning}
+use Rattle.integrity.specs.Holding.{Holder, runs, asked, answered, stuck, passes, lost, halted, IsHoldersEvent}
+use Rattle.integrity.specs.Holding.{OwnsRunning}
 use Rattle.integrity.specs.Holding.{OwnsMessage}
 use Rattle.integrity.specs.Loose as loosening
 use Rattle.integrity.specs.Loose.{StandsLoosely, Loosens, Recovers}
 use Rattle.integrity.specs.Outside.{Threat, threat_of}
 use Rattle.integrity.specs.Standing as standing
-use Rattle.integrity.specs.Standing.{threat_in, StandsBy, Goes, Stalls, Does}
+use Rattle.integrity.specs.Standing.{threat_in, StandsBy, Goes, Stalls, HolderDoes}
 use Rattle.integrity.proofs.ActMoves.{answer_numbers, holder_acted}
 use Rattle.integrity.proofs.LooseLaws.{recovers}
 use Rattle.integrity.proofs.LooseTurns.{holder_goes}
@@ -66,9 +67,9 @@ record IsLawfulEvent (start : WorldShape) (event : Event) : Type 0 where
   numbers : EventHasNumbers event
 
 -- the fields and the end of a configuration
-halted_ends : (split : Split) (c : Configuration) (view : View) (holder : Holder) → Does split c view holder →
+halted_ends : (split : Split) (c : Configuration) (view : View) (holder : Holder) → HolderDoes split c view holder →
     holder ≡ halted → IsAtEnd c
-halted_ends split c view holder does is = (subst (Does split c view) is does).2
+halted_ends split c view holder does is = (subst (HolderDoes split c view) is does).2
 
 same_or : {X : Type 0} (x y : X) (A : Type 0) → (x ≡ y) ⊎ A → ¬ A → x ≡ y
 same_or x y A (inl same) never = same
@@ -90,7 +91,7 @@ stands_for split world c (loose view stands) = record {
 module _ (laws : AreLaws) (split : Split) (placed : PlacedProgram) (bad : ℕ) (store : List (List ℤ))
     (same : threat_in split ≡ threat_of placed split.table bad)
     (splittable : IsSplittable placed) (allowed : IsAllowed placed)
-    (held : IsHeld placed)
+    (held : IsWellHeld placed)
     (code_numbers : CodeHasNumbers split.code) (store_numbers : RowsHaveNumbers store) where
   abbrev Fits : Event → Type 0
   Fits = IsLawfulEvent (world_at_start split.code placed.hosts.hosts bad store)
@@ -153,7 +154,8 @@ module _ (laws : AreLaws) (split : Split) (placed : PlacedProgram) (bad : ℕ) (
     turn_on host (inr (inr loosens)) = loosens_on loosens
 
     module _ (view : View) where
-      outside : (holder : Holder) → StandsBy split c view holder world → ¬ IsOwn holder world event → GoesOnHere c after
+      outside : (holder : Holder) → StandsBy split c view holder world → ¬ IsHoldersEvent holder world event →
+          GoesOnHere c after
       outside holder stands apart =
           here (tight view holder
           (stands_kept laws split placed bad store it.events world after event c view holder same
@@ -179,7 +181,7 @@ module _ (laws : AreLaws) (split : Split) (placed : PlacedProgram) (bad : ℕ) (
       acted_on host waiting (inr stands) = here (tight view (stuck host waiting) stands)
 
       answered_at : (host : HostId) (w : WaitingShape) (made : BadMessage) →
-          IsOwn (stuck host w) world (Act w.asked host made) →
+          IsHoldersEvent (stuck host w) world (Act w.asked host made) →
           (acts : IsActStep split.code world w.asked host made after) →
           HasOwnToken (world_at_start split.code placed.hosts.hosts bad store) (Act w.asked host made) →
           MessageHasNumbers acts.message → StandsBy split c view (stuck host w) world → GoesOnHere c after
@@ -190,22 +192,23 @@ module _ (laws : AreLaws) (split : Split) (placed : PlacedProgram) (bad : ℕ) (
           own_token acts numbers own)
 
       answered_by : (host : HostId) (w : WaitingShape) (from to : HostId) (made : BadMessage) → w.asked ≡ from →
-          host ≡ to → IsOwn (stuck host w) world (Act from to made) →
+          host ≡ to → IsHoldersEvent (stuck host w) world (Act from to made) →
           (acts : IsActStep split.code world from to made after) →
           HasOwnToken (world_at_start split.code placed.hosts.hosts bad store) (Act from to made) →
           MessageHasNumbers acts.message → StandsBy split c view (stuck host w) world → GoesOnHere c after
       answered_by host w from to made first second =
-          subst (λ f. IsOwn (stuck host w) world (Act f to made) →
+          subst (λ f. IsHoldersEvent (stuck host w) world (Act f to made) →
           (acts : IsActStep split.code world f to made after) →
           HasOwnToken (world_at_start split.code placed.hosts.hosts bad store) (Act f to made) →
           MessageHasNumbers acts.message → StandsBy split c view (stuck host w) world → GoesOnHere c after) first
-          (subst (λ t. IsOwn (stuck host w) world (Act w.asked t made) →
+          (subst (λ t. IsHoldersEvent (stuck host w) world (Act w.asked t made) →
           (acts : IsActStep split.code world w.asked t made after) →
           HasOwnToken (world_at_start split.code placed.hosts.hosts bad store) (Act w.asked t made) →
           MessageHasNumbers acts.message → StandsBy split c view (stuck host w) world → GoesOnHere c after) second
           (answered_at host w made))
 
-      act_own : (holder : Holder) (from to : HostId) (made : BadMessage) → IsOwn holder world (Act from to made) →
+      act_own : (holder : Holder) (from to : HostId) (made : BadMessage) →
+          IsHoldersEvent holder world (Act from to made) →
           (acts : IsActStep split.code world from to made after) →
           HasOwnToken (world_at_start split.code placed.hosts.hosts bad store) (Act from to made) →
           EventHasNumbers (Act from to made) → StandsBy split c view holder world → GoesOnHere c after
@@ -266,10 +269,10 @@ module _ (laws : AreLaws) (split : Split) (placed : PlacedProgram) (bad : ℕ) (
       (Follows split placed.hosts.hosts bad store)
   kept world after c event it fits step = kept_by world after c event it fits step it.stands
 
-  pub follows : (events : List Event) (last : WorldShape) (state : HostShape) →
+  pub follows : (events : List Event) (last : WorldShape) (state : HostState) →
       IsReached split.code placed.hosts.hosts bad store events last → All EventHasNumbers events →
       state_at (world_at_start split.code placed.hosts.hosts bad store) split.code.root ≡ Some state →
-      FollowsAltered split.program split.exposure split.code placed.hosts.hosts bad store events last
+      WorldFollowsAltered split.program split.exposure split.code placed.hosts.hosts bad store events last
   follows events last state reach said obeys =
       let start = world_at_start split.code placed.hosts.hosts bad store in
       let begin = stands_at_start split placed.hosts.hosts bad store state obeys in

@@ -7,7 +7,7 @@ use Rattle.js_base.specs.declared.ids.HostId.{HostId}
 use Rattle.jif_tree.specs.SourceRun.{Configuration}
 use Rattle.host_code.specs.declared.message.Message.{Message}
 use Rattle.host_code.specs.Thread.{WaitingShape}
-use Rattle.host_core.specs.Host.{HostShape, Outcome}
+use Rattle.host_core.specs.Host.{HostState, Outcome}
 use Rattle.host_core.specs.Taking.{IsTaking, after_answer}
 use Rattle.host_code.specs.declared.message.Message.TheVariants as message
 use Rattle.net_world.proofs.Present.{same_id}
@@ -18,7 +18,7 @@ use Rattle.net_world.proofs.Fitting.{bad_differs}
 use Rattle.net_world.proofs.Moved.{Moved, mover_state, other_state, moved_silent, moved_posted}
 use Rattle.token_laws.proofs.AskedLaws.{waits_once}
 use Rattle.typed_steps.specs.Takes as takes
-use Rattle.typed_steps.specs.Variables.{Sends}
+use Rattle.typed_steps.specs.Variables.{HasWhatIsOwed}
 use Rattle.typed_steps.specs.Views.{Split, View, entries_of}
 use Rattle.typed_steps.specs.Weights.{STEP}
 use Rattle.typed_steps.proofs.HeldSteps.{holds_same}
@@ -27,7 +27,7 @@ use Rattle.integrity.specs.Holding.{IsAmong, Holder, runs, asked, answered}
 use Rattle.integrity.specs.Holding.{OwnsWaiting, OwnsMessage}
 use Rattle.integrity.specs.Outside.{ThreadIsOpen, MessageIsOpen}
 use Rattle.integrity.specs.Standing as standing
-use Rattle.integrity.specs.Standing.{threat_in, IsResult, StandsBy, Goes}
+use Rattle.integrity.specs.Standing.{threat_in, IsResultGiven, StandsBy, Goes}
 use Rattle.integrity.proofs.Among.{one_of_some, some_of, last_at}
 use Rattle.integrity.proofs.ChainMoves.{linked_of, grown_keeps, grown_entries, grown_stands, grown_known}
 use Rattle.integrity.proofs.FliesOn.{FlyAs, all_posted}
@@ -45,7 +45,7 @@ use Rattle.integrity.proofs.TurnMoves.{own_cell}
 module _ (split : Split) (c : Configuration) (view : View) (host : HostId) (w : WaitingShape) (m : Message)
     (world after : WorldShape) (place : ℕ)
     (t : Taking split c view (asked host w m) world after host w.asked place) where
-  host_state : (state : HostShape) × (state_at world host ≡ Some state) × IsAmong state.waiting w
+  host_state : (state : HostState) × (state_at world host ≡ Some state) × IsAmong state.waiting w
   host_state =
       let at = one_of_some (state_at world host) (λ s. IsAmong s.waiting w) t.stands.tight.there.0 in
       (at.one, at.is, at.has)
@@ -62,7 +62,7 @@ module _ (split : Split) (c : Configuration) (view : View) (host : HostId) (w : 
 
   -- the owner's state has changed, and its answer is in flight
   answers : (now : Configuration) (more : ℕ) (enough : ℕ → Type 0) →
-      takes.Answers split view world host w.asked w t.step.state enough now more t.step.outcome →
+      takes.AnswersRequest split view world host w.asked w t.step.state enough now more t.step.outcome →
       (seen : View) × (next : Holder) × standing.IsFree next × StandsBy split now seen next after
   answers now more enough a =
       let owner = w.asked in
@@ -143,9 +143,9 @@ module _ (split : Split) (c : Configuration) (view : View) (host : HostId) (w : 
                     (inl (refl, refl, number)));
               });
           holds = a.keeps after moved.hosts;
-          sends = some_of (state_at after host) (λ s. Sends split a.seen s host) host_state.0 host_there
+          sends = some_of (state_at after host) (λ s. HasWhatIsOwed split a.seen s host) host_state.0 host_there
               (a.sent host_state.0 (subst (λ o. IsSomeAnd o
-              (λ s. Sends split view s host)) host_state.1 t.stands.sends));
+              (λ s. HasWhatIsOwed split view s host)) host_state.1 t.stands.sends));
           does = (a.is_chain, a.ready);
           halts = none_halted split c view (asked host w m) world after host owner place t next a.new
               (λ same. absurd (cc)) moved.hosts a.steady.halted;
@@ -168,7 +168,7 @@ module _ (split : Split) (c : Configuration) (view : View) (host : HostId) (w : 
   }
 
   asks_or_gives : (said : Message) → t.step.flight.message ≡ said →
-      IsRequest split c view host w.asked w said ⊎ IsResult split c view host w said → Goes split c after
+      IsRequest split c view host w.asked w said ⊎ IsResultGiven split c view host w said → Goes split c after
   asks_or_gives said is (inl request) =
       answered_any _ (request_taken split c view world host w.asked w t.step.state owner_is said request t.step.outcome
       (subst (λ x. IsTaking split.code t.step.state host x t.step.outcome) is t.step.takes))
@@ -208,7 +208,7 @@ module _ (split : Split) (c : Configuration) (view : View) (host : HostId) (w : 
   answered_goes =
       let old = t.step.state in
       let r = resumes in
-      let new : HostShape = after_answer old (Some among.0) r.change in
+      let new : HostState = after_answer old (Some among.0) r.change in
       let thread = r.change w.thread in
       let next = runs host thread in
       let silent =
@@ -259,8 +259,8 @@ module _ (split : Split) (c : Configuration) (view : View) (host : HostId) (w : 
             });
         holds = holds_same split c view world after host old new flying t.stands.holds t.step.obeys moved refl refl
             refl;
-        sends = some_of (state_at after host) (λ s. Sends split view s host) new there
-            (subst (λ o. IsSomeAnd o (λ s. Sends split view s host)) t.step.obeys t.stands.sends);
+        sends = some_of (state_at after host) (λ s. HasWhatIsOwed split view s host) new there
+            (subst (λ o. IsSomeAnd o (λ s. HasWhatIsOwed split view s host)) t.step.obeys t.stands.sends);
         does = (t.stands.does.0, r.at);
         halts = none_halted split c view (answered host w m) world after w.asked host place t next new
             (λ same. absurd (cc)) moved.hosts refl;

@@ -13,10 +13,10 @@ use Rattle.event_text.specs.declared.event.Event.TheVariants.{Turn}
 use Rattle.msg_cost.specs.Moves.{PlannedShape}
 use Rattle.split_rules.specs.TypedCode.{Table}
 use Rattle.net_world.specs.World.{WorldShape, has_halted}
-use Rattle.token_laws.specs.Holders.{HoldsAt, running_on, IsSent}
+use Rattle.token_laws.specs.Holders.{HoldsAt, running_on, IsTokenSent}
 use Rattle.token_laws.specs.TokenExamples.{host_id, small, start, first_token, given}
 use Rattle.typed_steps.specs.Views.{Split, View}
-use Rattle.integrity.specs.Holding.{runs, lost, halted, IsOwn, AreLinked, IsOutsideBut, IsStanding, IsTight}
+use Rattle.integrity.specs.Holding.{runs, lost, halted, IsHoldersEvent, AreLinked, IsOutsideBut, IsStanding, IsTight}
 use Rattle.integrity.specs.Outside.{Threat}
 use Rattle.integrity.specs.Standing.{StandsBy}
 
@@ -34,17 +34,17 @@ not_outside planned table exposure outside =
       | inr may ↦ may.0 refl
     ]
 
-pub sent_falls : IsSent given first_token → (on_stack : StackEntry) → on_stack.token ≡ first_token →
+pub sent_falls : IsTokenSent given first_token → (on_stack : StackEntry) → on_stack.token ≡ first_token →
     ¬ IsStanding given on_stack
-sent_falls sent on_stack same standing = standing.unsent (subst (IsSent given) (sym same) sent)
+sent_falls sent on_stack same standing = standing.unsent (subst (IsTokenSent given) (sym same) sent)
 
-pub own_turn : (thread : ThreadShape) → IsOwn (runs (host_id 0) thread) start (Turn (host_id 0))
+pub own_turn : (thread : ThreadShape) → IsHoldersEvent (runs (host_id 0) thread) start (Turn (host_id 0))
 own_turn thread = refl
 
 not_both : (n : ℕ) → n ≡ 1 → n ≡ 0 → ⊥
 not_both n one none = omega arith
 
-pub other_turn : (thread : ThreadShape) → ¬ IsOwn (runs (host_id 0) thread) start (Turn (host_id 1))
+pub other_turn : (thread : ThreadShape) → ¬ IsHoldersEvent (runs (host_id 0) thread) start (Turn (host_id 1))
 other_turn thread own = not_both (host_id 1).0 refl (ap (λ (h : HostId). h.0) own)
 
 pub unlinked : (one next : StackEntry) → one.kept ≢ next.token → ¬ AreLinked (one ∷ next ∷ [])

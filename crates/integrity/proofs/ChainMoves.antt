@@ -9,13 +9,13 @@ use Rattle.capability.specs.declared.token.Token.{Token}
 use Rattle.ics_stack.specs.declared.stack.StackEntry.{StackEntry}
 use Rattle.ics_stack.specs.Stack.{IsOwnEntry}
 use Rattle.host_code.specs.Code.{CodeShape, halt}
-use Rattle.host_core.specs.Host.{HostShape}
+use Rattle.host_core.specs.Host.{HostState}
 use Rattle.net_world.specs.Fits.{ShapeFits}
 use Rattle.net_world.specs.Told.{tokens_in}
 use Rattle.net_world.specs.World.{WorldShape, state_at}
 use Rattle.net_world.proofs.Moved.{mover_state}
 use Rattle.std.specs.Prelude.{Contains}
-use Rattle.token_laws.specs.Holders.{IsSent}
+use Rattle.token_laws.specs.Holders.{IsTokenSent}
 use Rattle.token_laws.proofs.Held.{AreHeld, IsOnly}
 use Rattle.token_laws.proofs.HeldLaws.{all_at, sent_some}
 use Rattle.token_laws.proofs.OneToken.{only_serial}
@@ -23,7 +23,7 @@ use Rattle.token_laws.proofs.WorldTokens.{the_state}
 use Rattle.token_laws.proofs.Worth.{one_of}
 use Rattle.typed_steps.specs.Chains.{IsChain}
 use Rattle.typed_steps.specs.Turns.{Grows, stays, grows}
-use Rattle.typed_steps.specs.Views.{Split, Naming, Link, entries_of}
+use Rattle.typed_steps.specs.Views.{Split, CallNaming, Link, entries_of}
 use Rattle.integrity.specs.Holding.{IsAmong, AreLinked, IsStanding}
 use Rattle.integrity.specs.Outside.{Threat, EntryIsOpen}
 use Rattle.integrity.proofs.Among.{among_cons, some_of}
@@ -32,7 +32,7 @@ use Rattle.integrity.proofs.HolderStays.{on_some}
 use Rattle.integrity.proofs.StackMoves as stacks
 use Rattle.integrity.proofs.StackMoves.{Restacks}
 
-pub linked_of : (split : Split) (naming : Naming) (chain : List Link) → IsChain split naming chain →
+pub linked_of : (split : Split) (naming : CallNaming) (chain : List Link) → IsChain split naming chain →
     AreLinked (entries_of chain)
 linked_of split naming [] is = tt
 linked_of split naming (link ∷ []) is = tt
@@ -73,7 +73,7 @@ grown_entries threat host chain now old new (grows link on same is) all =
     keeps_more (inr may) = inr may
 
 -- the entries are on the stacks
-grown_stand : (world after : WorldShape) (me : HostId) (old new : HostShape) → state_at world me ≡ Some old →
+grown_stand : (world after : WorldShape) (me : HostId) (old new : HostState) → state_at world me ≡ Some old →
     after.hosts ≡ slice_set world.hosts me.0 (Some new) → (link : Link) (chain : List StackEntry) →
     link.entry.token.host ≡ me → new.entries ≡ link.entry ∷ old.entries →
     ((e : StackEntry) → IsAmong chain e → StandsThere world e) → (e : StackEntry) →
@@ -89,7 +89,7 @@ grown_stand world after me old new obeys puts link chain on is standing e (suc p
     on_some world after me e.token.host old new obeys puts (λ state. IsAmong state.entries e) (standing e (place, at))
     (λ same has. subst (λ list. IsAmong list e) (sym is) (among_cons old.entries link.entry e has))
 
-pub grown_stands : (world after : WorldShape) (me : HostId) (old new : HostShape) → state_at world me ≡ Some old →
+pub grown_stands : (world after : WorldShape) (me : HostId) (old new : HostState) → state_at world me ≡ Some old →
     after.hosts ≡ slice_set world.hosts me.0 (Some new) → (chain now : List Link) →
     Grows me chain now old.entries new.entries →
     ((e : StackEntry) → IsAmong (entries_of chain) e → StandsThere world e) → (e : StackEntry) →
@@ -110,7 +110,7 @@ no_longer x xs ys same more =
     let second : length xs ≡ length (x ∷ ys) = ap length more in
     omega arith
 
-next_serial : (P : Token → Type 0) (old new : HostShape) (e : StackEntry) → Restacks P old new →
+next_serial : (P : Token → Type 0) (old new : HostState) (e : StackEntry) → Restacks P old new →
     new.entries ≡ e ∷ old.entries → e.token.serial ≡ slice_index old.serials e.entry.0
 next_serial P old new e (stacks.stays same halts) is = absurd (no_longer e new.entries old.entries same is)
 next_serial P old new e (stacks.pushes on_stack same halts next) is =
@@ -123,10 +123,10 @@ next_serial P old new e (stacks.pops top same given halts) is =
     absurd (omega arith)
 
 -- misbehaving hosts were not sent it
-pub new_unsent : (code : CodeShape) (world after : WorldShape) (me : HostId) (old new : HostShape) (e : StackEntry)
+pub new_unsent : (code : CodeShape) (world after : WorldShape) (me : HostId) (old new : HostState) (e : StackEntry)
     (P : Token → Type 0) → AreHeld world → ShapeFits code after → state_at world me ≡ Some old →
     state_at after me ≡ Some new → Restacks P old new → new.entries ≡ e ∷ old.entries → e.entry ≢ halt →
-    after.sent ≡ world.sent → ¬ IsSent after e.token
+    after.sent ≡ world.sent → ¬ IsTokenSent after e.token
 new_unsent code world after me old new e P held fits obeys now moved is named quiet sent =
     let serial = next_serial P old new e moved is in
     let state_is = the_state code after me new fits now in
@@ -144,27 +144,28 @@ new_unsent code world after me old new e P held fits obeys now moved is named qu
     omega arith
 
 -- the entry that ends the program has nothing below it
-named_of : (split : Split) (naming before : Naming) (link : Link) (chain : List Link) →
+named_of : (split : Split) (naming before : CallNaming) (link : Link) (chain : List Link) →
     IsChain split naming (link ∷ chain) → IsChain split before chain → link.entry.entry ≢ halt
 named_of split naming before link [] is below = absurd below
 named_of split naming before link (next ∷ chain) is below = is.0.0
 
 pushed_known : (split : Split) (world after : WorldShape) (chain : List StackEntry) (top e : StackEntry) →
-    ¬ IsSent after top.token → ((x : StackEntry) → IsAmong chain x → IsStanding world x) → IsAmong (top ∷ chain) e →
-    IsStanding world e ⊎ (¬ IsSent after e.token)
+    ¬ IsTokenSent after top.token → ((x : StackEntry) → IsAmong chain x → IsStanding world x) →
+    IsAmong (top ∷ chain) e →
+    IsStanding world e ⊎ (¬ IsTokenSent after e.token)
 pushed_known split world after chain top e unsent standing (zero, at) =
     let same : top ≡ e = cc in
-    inr (subst (λ (x : StackEntry). ¬ IsSent after x.token) same unsent)
+    inr (subst (λ (x : StackEntry). ¬ IsTokenSent after x.token) same unsent)
 pushed_known split world after chain top e unsent standing (suc place, at) = inl (standing e (place, at))
 
 -- each entry of the chain stood before, or was pushed, and its token was not sent
-pub grown_known : (split : Split) (before naming : Naming) (world after : WorldShape) (me : HostId)
-    (old new : HostShape) (P : Token → Type 0) → AreHeld world → ShapeFits split.code after →
+pub grown_known : (split : Split) (before naming : CallNaming) (world after : WorldShape) (me : HostId)
+    (old new : HostState) (P : Token → Type 0) → AreHeld world → ShapeFits split.code after →
     state_at world me ≡ Some old → state_at after me ≡ Some new → Restacks P old new → after.sent ≡ world.sent →
     (chain now : List Link) → IsChain split before chain → IsChain split naming now →
     Grows me chain now old.entries new.entries →
     ((e : StackEntry) → IsAmong (entries_of chain) e → IsStanding world e) → (e : StackEntry) →
-    IsAmong (entries_of now) e → IsStanding world e ⊎ (¬ IsSent after e.token)
+    IsAmong (entries_of now) e → IsStanding world e ⊎ (¬ IsTokenSent after e.token)
 grown_known split before naming world after me old new P held fits obeys there moved quiet chain now is later
     (stays same is_same) standing e among =
     inl (standing e (subst (λ list. IsAmong (entries_of list) e) same among))

@@ -11,7 +11,7 @@ use Rattle.jif_tree.specs.SourceRun as plain
 use Rattle.jif_tree.specs.SourceRun.{Configuration, calls_after}
 use Rattle.jif_tree.specs.Store.{row_of, store_after_write}
 use Rattle.host_code.specs.Code.{CodeFieldShape}
-use Rattle.host_core.specs.Host.{HostShape}
+use Rattle.host_core.specs.Host.{HostState}
 use Rattle.msg_cost.specs.Terms.{reads_on}
 use Rattle.net_world.specs.World.{WorldShape, state_at, misbehaves}
 use Rattle.net_world.proofs.Fitting.{bad_differs}
@@ -19,8 +19,8 @@ use Rattle.net_world.proofs.Present.{get_other}
 use Rattle.split_rules.specs.Positions.{Forward, IsOut, without_forward}
 use Rattle.typed_steps.specs.Threads.{NoneKept}
 use Rattle.typed_steps.specs.Values.{AreRowsAlike}
-use Rattle.typed_steps.specs.Variables.{HaveFields, Holds}
-use Rattle.typed_steps.specs.Requests.{IsFieldOn}
+use Rattle.typed_steps.specs.Variables.{HaveFields, HostsHold}
+use Rattle.typed_steps.specs.Requests.{FieldIsOn}
 use Rattle.typed_steps.specs.Views.{Split, View, values_set, with_out}
 use Rattle.typed_steps.proofs.Alike.{alike_on}
 use Rattle.typed_steps.proofs.Calls.{long_set, value_set, named_set}
@@ -35,7 +35,7 @@ rows_on split number has row now (inr may) same = inr may
 
 -- no obeying host has the field
 fields_elsewhere : (split : Split) (world : WorldShape) (store : List (List ℤ)) (field : FieldId) (to : HostId)
-    (index value : ℤ) → HaveFields split world store → IsFieldOn split.code field to → misbehaves world to ≡ true →
+    (index value : ℤ) → HaveFields split world store → FieldIsOn split.code field to → misbehaves world to ≡ true →
     HaveFields split world (store_after_write store field.0 index value)
 fields_elsewhere split world store field to index value has on bad number one state there at =
     elim (eqb_tells number field.0) [
@@ -52,9 +52,9 @@ fields_elsewhere split world store field to index value has on bad number one st
 
 -- what all hosts have of a configuration after a step that writes a field of a misbehaving host
 pub holds_elsewhere : (split : Split) (c now : Configuration) (view : View) (world : WorldShape) (field : FieldId)
-    (to : HostId) (index value : ℤ) → Holds split c view world → IsFieldOn split.code field to →
+    (to : HostId) (index value : ℤ) → HostsHold split c view world → FieldIsOn split.code field to →
     misbehaves world to ≡ true → now.store ≡ store_after_write c.store field.0 index value → now.calls ≡ c.calls →
-    NoneKept now → Holds split now view world
+    NoneKept now → HostsHold split now view world
 holds_elsewhere split c now view world field to index value holds on bad store calls none = record {
   fields = subst (HaveFields split world) (sym store)
       (fields_elsewhere split world c.store field to index value holds.fields on bad);
@@ -79,7 +79,7 @@ holds_elsewhere split c now view world field to index value holds on bad store c
 -- ---- a variable
 
 -- what is still to be sent, but for what was sent to a misbehaving host
-out_elsewhere : (world : WorldShape) (x y : VarId) (to host : HostId) (state : HostShape) (out : List Forward)
+out_elsewhere : (world : WorldShape) (x y : VarId) (to host : HostId) (state : HostState) (out : List Forward)
     (A B : Type 0) → misbehaves world to ≡ true → state_at world host ≡ Some state →
     (A × IsOut out y host) ⊎ B → (A × IsOut (without_forward x to out) y host) ⊎ B
 out_elsewhere world x y to host state out A B bad there (inl (is, is_out)) =
@@ -88,8 +88,8 @@ out_elsewhere world x y to host state out A B bad there (inr alike) = inr alike
 
 -- a misbehaving host was sent a variable
 pub holds_sent : (split : Split) (c : Configuration) (view : View) (world : WorldShape) (to : HostId) (x : VarId) →
-    Holds split c view world → misbehaves world to ≡ true →
-    Holds split c (with_out view (without_forward x to view.out)) world
+    HostsHold split c view world → misbehaves world to ≡ true →
+    HostsHold split c (with_out view (without_forward x to view.out)) world
 holds_sent split c view world to x holds bad = record {
   fields = holds.fields;
   known = holds.known;
@@ -120,10 +120,10 @@ value_unread split values call x value unread k y host reads =
 
 -- a misbehaving host was given the result of a call
 pub holds_result_sent : (split : Split) (c now : Configuration) (view : View) (world : WorldShape) (to : HostId)
-    (call : ℕ) (x : VarId) (value : ℤ) → Holds split c view world → misbehaves world to ≡ true →
+    (call : ℕ) (x : VarId) (value : ℤ) → HostsHold split c view world → misbehaves world to ≡ true →
     call < length c.calls → ((other : ℕ) → reads_on split.planned x other ≡ true → ⊥) → now.store ≡ c.store →
     now.calls ≡ calls_after c.calls call x.0 value →
-    Holds split now (record view { values = values_set view.values call x.0 value; keeper = to }) world
+    HostsHold split now (record view { values = values_set view.values call x.0 value; keeper = to }) world
 holds_result_sent split c now view world to call x value holds bad made unread store calls =
     let many : length now.calls ≡ length c.calls = ap length calls ∙ long_set c.calls call x.0 value made in
     record {

@@ -17,7 +17,7 @@ use Rattle.host_code.specs.declared.message.Message.{Message}
 use Rattle.host_code.specs.declared.message.Message.TheVariants as message
 use Rattle.host_code.specs.Code.{CodeShape, CodeFieldShape, field_at, entry_at}
 use Rattle.host_code.specs.Thread.{ThreadShape}
-use Rattle.host_core.specs.Host.{HostShape, Outcome, with_message, without_message}
+use Rattle.host_core.specs.Host.{HostState, Outcome, with_message, without_message}
 use Rattle.host_core.specs.Host.{value_in_thread}
 use Rattle.host_core.specs.Turn.{after_operation, after_read, after_put, after_own_push, after_ask, after_go}
 use Rattle.host_core.specs.Turn.{after_go_with, after_own_call, after_return, after_back}
@@ -48,8 +48,8 @@ entered_host other = None
 
 -- A token goes to the host that the instruction enters, or back to its own host.
 pub data Sends (it : Op) (outcome : Outcome) : Type 0 where
-  silent : (new : HostShape) → without_message new ≡ outcome → Sends it outcome
-  sends : (new : HostShape) (to : HostId) (m : Message) → with_message new to m ≡ outcome →
+  silent : (new : HostState) → without_message new ≡ outcome → Sends it outcome
+  sends : (new : HostState) (to : HostId) (m : Message) → with_message new to m ≡ outcome →
       ((token : Token) → token_in m ≡ Some token → (entered_host it ≡ Some to) ⊎ (token.host ≡ to)) →
       Sends it outcome
 
@@ -58,55 +58,55 @@ either_sends : (it : Op) (b : Bool) (one two : Outcome) → Sends it one → Sen
 either_sends it true one two first second = first
 either_sends it false one two first second = second
 
-plain : (it : Op) (new : HostShape) (to : HostId) (m : Message) → token_in m ≡ None → Sends it (with_message new to m)
+plain : (it : Op) (new : HostState) (to : HostId) (m : Message) → token_in m ≡ None → Sends it (with_message new to m)
 plain it new to m none = sends new to m refl (λ token is. absurd (let never : None ≡ Some token = sym none ∙ is in cc))
 
-read_sends : (it : Op) (host : HostShape) (thread : ThreadShape) (field : FieldId) (index : List Node)
+read_sends : (it : Op) (host : HostState) (thread : ThreadShape) (field : FieldId) (index : List Node)
     (there : Option CodeFieldShape) → Sends it (after_read host thread field index there)
 read_sends it host thread field index None = silent _ refl
 read_sends it host thread field index (Some there) =
     either_sends it (there.host.0 == host.me.0) _ _ (silent _ refl) (plain it _ _ _ refl)
 
-put_sends : (it : Op) (host : HostShape) (thread : ThreadShape) (field : FieldId) (index value : List Node)
+put_sends : (it : Op) (host : HostState) (thread : ThreadShape) (field : FieldId) (index value : List Node)
     (there : Option CodeFieldShape) → Sends it (after_put host thread field index value there)
 put_sends it host thread field index value None = silent _ refl
 put_sends it host thread field index value (Some there) =
     either_sends it (there.host.0 == host.me.0) _ _ (silent _ refl) (plain it _ _ _ refl)
 
-push_sends : (it : Op) (host : HostShape) (thread : ThreadShape) (entry : EntryId) (held : Option Token) →
+push_sends : (it : Op) (host : HostState) (thread : ThreadShape) (entry : EntryId) (held : Option Token) →
     Sends it (after_own_push host thread entry held)
 push_sends it host thread entry None = silent _ refl
 push_sends it host thread entry (Some held) = silent _ refl
 
-ask_sends : (host : HostShape) (thread : ThreadShape) (entry : EntryId) (on : HostId) (held : Option Token) →
+ask_sends : (host : HostState) (thread : ThreadShape) (entry : EntryId) (on : HostId) (held : Option Token) →
     Sends (op.Ask entry on) (after_ask host thread entry on held)
 ask_sends host thread entry on None = silent _ refl
 ask_sends host thread entry on (Some held) = sends _ on _ refl (λ token is. inl refl)
 
-go_sends : (it : Op) (host : HostShape) (thread : ThreadShape) (frame : FrameId) (entry : EntryId) (on : HostId)
+go_sends : (it : Op) (host : HostState) (thread : ThreadShape) (frame : FrameId) (entry : EntryId) (on : HostId)
     (held : Option Token) → entered_host it ≡ Some on → Sends it (after_go host thread frame entry on held)
 go_sends it host thread frame entry on None enters = silent _ refl
 go_sends it host thread frame entry on (Some held) enters = sends _ on _ refl (λ token is. inl enters)
 
-go_with_sends : (it : Op) (host : HostShape) (thread : ThreadShape) (frame : FrameId) (entry : EntryId) (on : HostId)
+go_with_sends : (it : Op) (host : HostState) (thread : ThreadShape) (frame : FrameId) (entry : EntryId) (on : HostId)
     (riders : List VarId) (held : Option Token) → entered_host it ≡ Some on →
     Sends it (after_go_with host thread frame entry on riders held)
 go_with_sends it host thread frame entry on riders None enters = silent _ refl
 go_with_sends it host thread frame entry on riders (Some held) enters = sends _ on _ refl (λ token is. inl enters)
 
-own_call_sends : (it : Op) (host : HostShape) (thread : ThreadShape) (found : Option Entry) →
+own_call_sends : (it : Op) (host : HostState) (thread : ThreadShape) (found : Option Entry) →
     Sends it (after_own_call host thread found)
 own_call_sends it host thread None = silent _ refl
 own_call_sends it host thread (Some there) = silent _ refl
 
-return_sends : (it : Op) (host : HostShape) (thread : ThreadShape) (x : VarId) (value : List Node)
+return_sends : (it : Op) (host : HostState) (thread : ThreadShape) (x : VarId) (value : List Node)
     (held : Option Token) (passes : Bool) → Sends it (after_return host thread x value held passes)
 return_sends it host thread x value None passes = silent _ refl
 return_sends it host thread x value (Some held) passes =
     either_sends it (held.host.0 == host.me.0) _ _ (silent _ refl)
     (either_sends it passes _ _ (plain it _ _ _ refl) (silent _ refl))
 
-back_sends : (it : Op) (code : CodeShape) (host : HostShape) (thread : ThreadShape) (held : Option Token)
+back_sends : (it : Op) (code : CodeShape) (host : HostState) (thread : ThreadShape) (held : Option Token)
     (passes : Bool) → Sends it (after_back code host thread held passes)
 back_sends it code host thread None passes = silent _ refl
 back_sends it code host thread (Some held) passes =
@@ -114,7 +114,7 @@ back_sends it code host thread (Some held) passes =
     (sends _ held.host (message.Lgoto held) refl
     (λ token is. let same : held ≡ token = cc in inr (ap (λ (t : Token). t.host) (sym same))))
 
-pub operation_sends : (code : CodeShape) (bare : HostShape) (thread : ThreadShape) (it : Op) (passes : Bool) →
+pub operation_sends : (code : CodeShape) (bare : HostState) (thread : ThreadShape) (it : Op) (passes : Bool) →
     Sends it (after_operation code bare thread it passes)
 operation_sends code bare thread (op.Read field index) passes =
     read_sends (op.Read field index) bare thread field index (field_at code field)

@@ -19,14 +19,14 @@ use Rattle.host_code.specs.Code.{CodeFieldShape, CodeHostShape}
 use Rattle.need_labels.specs.Plan.{PlanShape, field_host, first_host}
 use Rattle.split_rules.specs.Placed.{PlacedProgram, planned_from}
 use Rattle.split_rules.specs.Allowed.{IsAllowed}
-use Rattle.split_rules.specs.Held.{HoldsField, IsHeld}
+use Rattle.split_rules.specs.Held.{HoldsField, IsWellHeld}
 use Rattle.split_rules.specs.SplitCode.{placed_code_fields, code_labels, split_code}
 use Rattle.split_rules.specs.TypedCode.{Table}
 use Rattle.split_rules.specs.Walk.{program_emissions}
 use Rattle.split_rules.proofs.AllowedTyping.{zipped_there}
 use Rattle.split_rules.proofs.SeenPrograms.{zip_at}
 use Rattle.net_world.specs.World.{WorldShape, misbehaves}
-use Rattle.typed_steps.specs.Requests.{IsFieldOn}
+use Rattle.typed_steps.specs.Requests.{FieldIsOn}
 use Rattle.typed_steps.specs.Views.{Split}
 use Rattle.typed_steps.proofs.Calls.{there_within}
 use Rattle.integrity.specs.Outside.{Threat, threat_of}
@@ -81,9 +81,9 @@ affected_by bad (Some other) tree is any =
     subst (λ (one : FieldTree). Any (λ host. IntegFlows host one.label) bad) (sym same) any
 
 field_open : (placed : PlacedProgram) (table : Table) (bad : ℕ) (world : WorldShape) →
-    IsAllowed placed → IsHeld placed →
+    IsAllowed placed → IsWellHeld placed →
     AreBad (threat_of placed table bad) world → (field : FieldId) (to : HostId) →
-    IsFieldOn (split_code placed) field to → misbehaves world to ≡ true →
+    FieldIsOn (split_code placed) field to → misbehaves world to ≡ true →
     FieldIsAffected (threat_of placed table bad).exposure field
 field_open placed table bad world allowed held are_bad field to on misbehaving =
     let threat = threat_of placed table bad in
@@ -127,10 +127,10 @@ field_open placed table bad world allowed held are_bad field to on misbehaving =
 
 pub field_on_bad : (split : Split) (placed : PlacedProgram) (bad : ℕ) (world : WorldShape) →
     threat_in split ≡ threat_of placed split.table bad →
-    IsAllowed placed → IsHeld placed → AreBad (threat_in split) world →
-    (field : FieldId) (to : HostId) → IsFieldOn split.code field to → misbehaves world to ≡ true →
+    IsAllowed placed → IsWellHeld placed → AreBad (threat_in split) world →
+    (field : FieldId) (to : HostId) → FieldIsOn split.code field to → misbehaves world to ≡ true →
     FieldIsAffected split.exposure field
 field_on_bad split placed bad world same allowed held =
-    subst (λ (t : Threat). AreBad t world → (field : FieldId) (to : HostId) → IsFieldOn t.code field to →
+    subst (λ (t : Threat). AreBad t world → (field : FieldId) (to : HostId) → FieldIsOn t.code field to →
     misbehaves world to ≡ true → FieldIsAffected t.exposure field) (sym same)
     (field_open placed split.table bad world allowed held)

@@ -13,7 +13,7 @@ use Rattle.host_code.specs.declared.message.Message.{Message}
 use Rattle.host_code.specs.declared.message.Message.TheVariants as message
 use Rattle.host_code.specs.Code.{CodeShape}
 use Rattle.host_code.specs.Thread.{WaitingShape}
-use Rattle.host_core.specs.Host.{HostShape}
+use Rattle.host_core.specs.Host.{HostState}
 use Rattle.event_text.specs.declared.event.BadToken.{BadToken}
 use Rattle.event_text.specs.declared.event.BadToken.TheVariants.{Sent, Own}
 use Rattle.event_text.specs.declared.event.BadMessage.{BadMessage}
@@ -22,7 +22,8 @@ use Rattle.net_world.specs.Fits.{ShapeFits, OwnToken, OwnTokenIn}
 use Rattle.net_world.specs.Flying.{Flight}
 use Rattle.net_world.specs.Told.{token_in, token_presented, message_made}
 use Rattle.net_world.specs.World.{WorldShape, state_at, misbehaves, tokens_sent}
-use Rattle.token_laws.specs.Holders.{running_on, waiting_on, kept_on, in_flight, HoldsAt, IsHeld, IsSent, IsOld}
+use Rattle.token_laws.specs.Holders.{running_on, waiting_on, kept_on, in_flight, HoldsAt, IsTokenHeld, IsTokenSent}
+use Rattle.token_laws.specs.Holders.{IsOld}
 use Rattle.token_laws.proofs.Held.{presented_none}
 use Rattle.token_laws.proofs.HeldLaws.{IsKnown, held_once, sent_some, unsent_none, fresh_none}
 use Rattle.token_laws.proofs.OneToken.{only_one}
@@ -31,7 +32,7 @@ use Rattle.token_laws.proofs.WorldTokens.{Accounts}
 use Rattle.token_laws.proofs.Worth.{one_of}
 use Rattle.integrity.specs.Holding.{IsAmong, Holder, runs, asked, answered}
 use Rattle.integrity.specs.Holding.{stuck, passes, lost, halted, first_of, token_of}
-use Rattle.integrity.specs.Holding.{Waits, Flies, IsThere, HasTop, OwnsRunning, OwnsMessage, AreLinked}
+use Rattle.integrity.specs.Holding.{Waits, MessageFlies, IsThere, HasTop, OwnsRunning, OwnsMessage, AreLinked}
 use Rattle.integrity.proofs.Among.{one_of_some, some_of}
 use Rattle.integrity.proofs.OpenSteps.{some_each}
 
@@ -46,11 +47,11 @@ pub data IsKeptBy (world : WorldShape) (holder : Holder) (token : Token) : Type 
   flying : (from to : HostId) (place : ℕ) (flight : Flight) → slice_get (world.flying from to) place ≡ Some flight →
       OwnsMessage holder from to flight.message → HoldsAt world token (in_flight from to place) →
       IsKeptBy world holder token
-  nobody : holder ≡ lost → ¬ IsHeld world token → IsKeptBy world holder token
+  nobody : holder ≡ lost → ¬ IsTokenHeld world token → IsKeptBy world holder token
 
 -- so somebody has it, or it is lost
 pub held_or_lost : (world : WorldShape) (holder : Holder) (token : Token) → IsKeptBy world holder token →
-    IsHeld world token ⊎ (holder ≡ lost)
+    IsTokenHeld world token ⊎ (holder ≡ lost)
 held_or_lost world holder token (with_entry host place holds) = inl (kept_on host place, holds)
 held_or_lost world holder token (running host own holds) = inl (running_on host, holds)
 held_or_lost world holder token (waiting host place holds) = inl (waiting_on host place, holds)
@@ -67,7 +68,7 @@ of_waits world holder host thread token waits held =
     (some_of (slice_get at.one.waiting at.has.0) (λ w. w.thread.held ≡ Some token) thread at.has.1 held))
 
 of_flies : (world : WorldShape) (holder : Holder) (from to : HostId) (m : Message) (token : Token) →
-    Flies world from to m → OwnsMessage holder from to m → token_in m ≡ Some token → IsKeptBy world holder token
+    MessageFlies world from to m → OwnsMessage holder from to m → token_in m ≡ Some token → IsKeptBy world holder token
 of_flies world holder from to m token flies own held =
     let flight = flies.flight in
     let place = flies.among.0 in
@@ -87,7 +88,7 @@ holder_keeps : (world : WorldShape) (holder : Holder) (token : Token) → IsTher
     token_of holder ≡ Some token → IsKeptBy world holder token
 holder_keeps world (runs host thread) token there held =
     running host refl
-    (some_each (λ (state : HostShape). state.running ≡ Some thread)
+    (some_each (λ (state : HostState). state.running ≡ Some thread)
     (λ state. IsSomeAnd state.running (λ t. t.held ≡ Some token)) (state_at world host)
     (λ state is. some_of state.running (λ t. t.held ≡ Some token) thread is held) there)
 holder_keeps world (asked host thread m) token there held =
@@ -159,7 +160,7 @@ chain_kept world holder (top ∷ chain) e linked standing there has (suc place, 
 -- ---- nobody else has it
 
 pub not_running : (code : CodeShape) (world : WorldShape) (holder : Holder) (token : Token) (me : HostId) →
-    IsKnown code world → IsSome (state_at world token.host) → ¬ IsSent world token → IsKeptBy world holder token →
+    IsKnown code world → IsSome (state_at world token.host) → ¬ IsTokenSent world token → IsKeptBy world holder token →
     HoldsAt world token (running_on me) → (OwnsRunning holder me → ⊥) → ⊥
 not_running code world holder token me is obeys unsent (with_entry host place holds) also apart =
     let same = held_once code world token (kept_on host place) (running_on me) is obeys unsent holds also in
@@ -177,7 +178,7 @@ not_running code world holder token me is obeys unsent (flying from to place fli
 not_running code world holder token me is obeys unsent (nobody is_lost none) also apart = none (running_on me, also)
 
 pub not_flying : (code : CodeShape) (world : WorldShape) (holder : Holder) (token : Token) (from to : HostId)
-    (place : ℕ) → IsKnown code world → IsSome (state_at world token.host) → ¬ IsSent world token →
+    (place : ℕ) → IsKnown code world → IsSome (state_at world token.host) → ¬ IsTokenSent world token →
     IsKeptBy world holder token → HoldsAt world token (in_flight from to place) →
     ((flight : Flight) → slice_get (world.flying from to) place ≡ Some flight →
     OwnsMessage holder from to flight.message → ⊥) → ⊥
@@ -208,9 +209,10 @@ not_flying code world holder token from to place is obeys unsent (nobody is_lost
 -- ---- what is sent
 
 -- A token that was made before and was not sent is not sent by an event after which somebody has it.
-pub still_unsent : (code : CodeShape) (world after : WorldShape) (token : Token) (state : HostShape) →
+pub still_unsent : (code : CodeShape) (world after : WorldShape) (token : Token) (state : HostState) →
     IsKnown code world → ShapeFits code after → Accounts world after → IsOld world token →
-    state_at world token.host ≡ Some state → ¬ IsSent world token → IsHeld after token → ¬ IsSent after token
+    state_at world token.host ≡ Some state → ¬ IsTokenSent world token → IsTokenHeld after token →
+    ¬ IsTokenSent after token
 still_unsent code world after token state is fits step before obeys unsent held sent =
     let none = unsent_none world token unsent in
     let most = is.held.one (one_of token) token state (only_one token) obeys none in
@@ -238,7 +240,7 @@ mapped (Some t) token is = let same : t ≡ token = cc in ap (λ (x : Token). So
 
 own_or_sent : (world : WorldShape) (made : BadToken) (token : Token) → OwnToken world made →
     token_presented (tokens_sent world) made ≡ Some token →
-    IsTrue (misbehaves world token.host) ⊎ IsSent world token
+    IsTrue (misbehaves world token.host) ⊎ IsTokenSent world token
 own_or_sent world (Sent number) token own is =
     inr (
       number,
@@ -252,7 +254,7 @@ own_or_sent world (Own other) token own is =
 -- a misbehaving host gives back a token of its own, or one that was sent
 pub given_back : (world : WorldShape) (made : BadMessage) (token : Token) → OwnTokenIn world made →
     message_made (tokens_sent world) made ≡ Some (message.Lgoto token) →
-    IsTrue (misbehaves world token.host) ⊎ IsSent world token
+    IsTrue (misbehaves world token.host) ⊎ IsTokenSent world token
 given_back world (bad.Get request field index) token own is = absurd (cc)
 given_back world (bad.Set request field index value) token own is = absurd (cc)
 given_back world (bad.Forward request frame x value) token own is = absurd (cc)

@@ -6,7 +6,7 @@ use Rattle.host_decl.specs.Hosts as declared_hosts
 use Rattle.jif_tree.specs.SourceRun.{Configuration}
 use Rattle.jif_tree.specs.Store.{row_of}
 use Rattle.host_code.specs.Thread.{ThreadShape}
-use Rattle.host_core.specs.Host.{HostShape}
+use Rattle.host_core.specs.Host.{HostState}
 use Rattle.host_core.specs.Turn.{label_of_turn}
 use Rattle.event_text.specs.declared.event.Event.{Event}
 use Rattle.event_text.specs.declared.event.Event.TheVariants.{Turn}
@@ -21,7 +21,7 @@ use Rattle.token_laws.proofs.WorldNumbers.{known_numbers}
 use Rattle.token_laws.proofs.WorldTokens.{Accounts, account}
 use Rattle.typed_steps.specs.Turns.{IsActing, Turned}
 use Rattle.typed_steps.specs.Values.{HoldsNumbers}
-use Rattle.typed_steps.specs.Variables.{Sends}
+use Rattle.typed_steps.specs.Variables.{HasWhatIsOwed}
 use Rattle.typed_steps.specs.Views.{Split, View}
 use Rattle.typed_steps.proofs.HolderTurns.{turned}
 use Rattle.integrity.specs.Exposed.{bad_labels}
@@ -33,7 +33,7 @@ use Rattle.integrity.proofs.TightKept.{IsLawful}
 use Rattle.integrity.proofs.TurnMoves.{goes_of}
 
 -- what a host has is a number
-pub numbers_of : (split : Split) (world : WorldShape) (host : HostId) (state : HostShape) → WorldHasNumbers world →
+pub numbers_of : (split : Split) (world : WorldShape) (host : HostId) (state : HostState) → WorldHasNumbers world →
     state_at world host ≡ Some state → HoldsNumbers split.exposure state
 numbers_of split world host state numbers obeys =
     let has = subst (λ o. IfSome o StateHasNumbers) obeys (numbers.states host) in
@@ -44,7 +44,7 @@ numbers_of split world host state numbers obeys =
     }
 
 -- what is there of a host is there of its state
-pub of_there : (world : WorldShape) (host : HostId) (state : HostShape) (P : HostShape → Type 0) →
+pub of_there : (world : WorldShape) (host : HostId) (state : HostState) (P : HostState → Type 0) →
     state_at world host ≡ Some state → IsSomeAnd (state_at world host) P → P state
 of_there world host state P obeys has = subst (λ o. IsSomeAnd o P) obeys has
 
@@ -55,7 +55,7 @@ pub record HolderTurn (split : Split) (c : Configuration) (view : View) (host : 
   pub fits : ShapeFits split.code after
   pub account : Accounts world after
   pub running : step.state.running ≡ Some thread
-  pub sends : Sends split view step.state host
+  pub sends : HasWhatIsOwed split view step.state host
   pub label : ℕ
   pub labels : label_of_turn split.code step.state ≡ Some label
   pub turned : Turned split c view world host step.state thread step.outcome
@@ -73,7 +73,7 @@ turn_of split rows bad store events world after host thread c view same reach co
     let next = one_more code rows bad store events world after (Turn host) reach tt step in
     let numbers = known_numbers code rows bad store events world reach code_numbers store_numbers said in
     let running = of_there world host step.state (λ s. s.running ≡ Some thread) step.obeys stands.tight.there in
-    let sends = of_there world host step.state (λ s. Sends split view s host) step.obeys stands.sends in
+    let sends = of_there world host step.state (λ s. HasWhatIsOwed split view s host) step.obeys stands.sends in
     let acts : IsActing split c view world host step.state thread = record {
       there = step.obeys;
       many = is.fits.count;

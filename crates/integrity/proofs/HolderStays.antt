@@ -10,17 +10,17 @@ use Rattle.ics_stack.specs.declared.stack.StackEntry.{StackEntry}
 use Rattle.host_code.specs.declared.message.Message.{Message}
 use Rattle.host_code.specs.Code.{CodeShape}
 use Rattle.host_code.specs.Thread.{WaitingShape}
-use Rattle.host_core.specs.Host.{HostShape}
+use Rattle.host_core.specs.Host.{HostState}
 use Rattle.net_world.specs.Fits.{ShapeFits}
 use Rattle.net_world.specs.Flying.{Flight}
 use Rattle.net_world.specs.World.{WorldShape, state_at}
 use Rattle.net_world.proofs.Moved.{mover_state, other_state, bad_moved}
 use Rattle.net_world.proofs.Present.{same_id}
-use Rattle.token_laws.specs.Holders.{IsHeld, IsSent, kept_on}
+use Rattle.token_laws.specs.Holders.{IsTokenHeld, IsTokenSent, kept_on}
 use Rattle.token_laws.proofs.HeldLaws.{IsKnown, own_before, stays_gone}
 use Rattle.token_laws.proofs.WorldTokens.{Accounts}
 use Rattle.integrity.specs.Holding.{IsAmong, Holder, runs, asked, answered, stuck, passes, lost, halted}
-use Rattle.integrity.specs.Holding.{Waits, Flies, IsThere, HasTop, OwnsRunning, OwnsWaiting, OwnsMessage}
+use Rattle.integrity.specs.Holding.{Waits, MessageFlies, IsThere, HasTop, OwnsRunning, OwnsWaiting, OwnsMessage}
 use Rattle.integrity.specs.Holding.{AreLinked, IsStanding}
 use Rattle.integrity.proofs.Among.{one_of_some, some_of, among_cons, each_among, all_among}
 use Rattle.integrity.proofs.HeldTokens.{StandsThere, top_kept, held_or_lost, later_held, still_unsent}
@@ -29,8 +29,8 @@ use Rattle.integrity.proofs.StackMoves.{Restacks, stays, pushes, pops}
 -- What an event changes that leaves the holder and the chain alone: one host's state, and what is in flight.
 pub record LeavesAlone (chain : List StackEntry) (holder : Holder) (world after : WorldShape) : Type 0 where
   pub me : HostId
-  pub old : HostShape
-  pub new : HostShape
+  pub old : HostState
+  pub new : HostState
   pub obeys : state_at world me ≡ Some old
   pub puts : after.hosts ≡ slice_set world.hosts me.0 (Some new)
   pub apart : OwnsRunning holder me → ⊥
@@ -42,9 +42,9 @@ pub record LeavesAlone (chain : List StackEntry) (holder : Holder) (world after 
 -- ---- hosts
 
 -- what a host has that changed or did not
-pub on_host : (world after : WorldShape) (me host : HostId) (old new state : HostShape) → state_at world me ≡ Some old →
+pub on_host : (world after : WorldShape) (me host : HostId) (old new state : HostState) → state_at world me ≡ Some old →
     after.hosts ≡ slice_set world.hosts me.0 (Some new) → state_at world host ≡ Some state →
-    (P : HostShape → Type 0) → P state → (host ≡ me → P old → P new) → IsSomeAnd (state_at after host) P
+    (P : HostState → Type 0) → P state → (host ≡ me → P old → P new) → IsSomeAnd (state_at after host) P
 on_host world after me host old new state obeys puts there P has keeps = elim (eqb_tells host.0 me.0) [
   | inl same ↦
       let is : host ≡ me = same_id host me same.1 in
@@ -59,8 +59,8 @@ on_host world after me host old new state obeys puts there P has keeps = elim (e
       (other_state world after me host new after.flying (record { hosts = puts; flying = refl }) apart.1 ∙ there) has
 ]
 
-pub on_some : (world after : WorldShape) (me host : HostId) (old new : HostShape) → state_at world me ≡ Some old →
-    after.hosts ≡ slice_set world.hosts me.0 (Some new) → (P : HostShape → Type 0) →
+pub on_some : (world after : WorldShape) (me host : HostId) (old new : HostState) → state_at world me ≡ Some old →
+    after.hosts ≡ slice_set world.hosts me.0 (Some new) → (P : HostState → Type 0) →
     IsSomeAnd (state_at world host) P → (host ≡ me → P old → P new) → IsSomeAnd (state_at after host) P
 on_some world after me host old new obeys puts P has keeps =
     let at = one_of_some (state_at world host) P has in
@@ -75,7 +75,7 @@ below_top top e below (zero, is) apart =
     absurd (apart (ap (λ (x : StackEntry). x.token) (sym same)))
 below_top top e below (suc place, is) apart = (place, is)
 
-restacked : (chain : List StackEntry) (old new : HostShape) (e : StackEntry) → IsAmong chain e →
+restacked : (chain : List StackEntry) (old new : HostState) (e : StackEntry) → IsAmong chain e →
     Restacks (λ token. (x : StackEntry) → IsAmong chain x → x.token ≢ token) old new → IsAmong old.entries e →
     IsAmong new.entries e
 restacked chain old new e among (stays is same) has = subst (λ list. IsAmong list e) (sym is) has
@@ -101,7 +101,7 @@ module _ (chain : List StackEntry) (world after : WorldShape) where
       has (λ is among. move.waiting waiting among (subst (λ h. OwnsWaiting holder h waiting) is own))
 
   flies_after : (holder : Holder) → LeavesAlone chain holder world after → (from to : HostId) (m : Message) →
-      Flies world from to m → OwnsMessage holder from to m → Flies after from to m
+      MessageFlies world from to m → OwnsMessage holder from to m → MessageFlies after from to m
   flies_after holder move from to m has own = record {
     flight = has.flight;
     among = move.flying from to has.flight has.among (subst (OwnsMessage holder from to) (sym has.is) own);
@@ -135,7 +135,7 @@ module _ (chain : List StackEntry) (world after : WorldShape) where
 -- ---- its token
 
 pub top_after : (chain : List StackEntry) (holder : Holder) (world after : WorldShape) →
-    ((e : StackEntry) → IsAmong chain e → ¬ IsHeld world e.token → ¬ IsHeld after e.token) →
+    ((e : StackEntry) → IsAmong chain e → ¬ IsTokenHeld world e.token → ¬ IsTokenHeld after e.token) →
     HasTop world chain holder → HasTop after chain holder
 top_after chain (runs host thread) world after gone has = has
 top_after chain (asked host waiting m) world after gone has = has
@@ -146,21 +146,21 @@ top_after [] lost world after gone has = λ token is. absurd (cc)
 top_after (top ∷ below) lost world after gone has =
     λ token is.
     let same : top.token ≡ token = cc in
-    subst (λ (t : Token). ¬ IsHeld after t) same (gone top (0, refl) (has top.token refl))
+    subst (λ (t : Token). ¬ IsTokenHeld after t) same (gone top (0, refl) (has top.token refl))
 top_after chain halted world after gone has = has
 
 -- ---- what was not sent
 
 module _ (code : CodeShape) (world after : WorldShape) (is : IsKnown code world) (fits : ShapeFits code after)
     (step : Accounts world after) where
-  pub gone_after : (e : StackEntry) → IsStanding world e → ¬ IsHeld world e.token →
-      (¬ IsHeld after e.token) × ¬ IsSent after e.token
+  pub gone_after : (e : StackEntry) → IsStanding world e → ¬ IsTokenHeld world e.token →
+      (¬ IsTokenHeld after e.token) × ¬ IsTokenSent after e.token
   gone_after e standing nobody =
       let at = one_of_some (state_at world e.token.host) (λ state. IsAmong state.entries e) standing.there in
       stays_gone code world after e.token fits step
       (own_before code world e.token.host at.one at.has.0 e is.fits at.is at.has.1) nobody standing.unsent
 
-  pub unsent_held : (e : StackEntry) → IsStanding world e → IsHeld after e.token → ¬ IsSent after e.token
+  pub unsent_held : (e : StackEntry) → IsStanding world e → IsTokenHeld after e.token → ¬ IsTokenSent after e.token
   unsent_held e standing held =
       let at = one_of_some (state_at world e.token.host) (λ state. IsAmong state.entries e) standing.there in
       still_unsent code world after e.token at.one is fits step
@@ -168,7 +168,7 @@ module _ (code : CodeShape) (world after : WorldShape) (is : IsKnown code world)
 
   unsent_top : (holder : Holder) (top : StackEntry) (below : List StackEntry) → IsStanding world top →
       HasTop world (top ∷ below) holder → IsThere after holder → HasTop after (top ∷ below) holder →
-      ¬ IsSent after top.token
+      ¬ IsTokenSent after top.token
   unsent_top holder top below standing has there now =
       elim (held_or_lost after holder top.token (top_kept after holder top below there now)) [
         | inl held ↦ unsent_held top standing held

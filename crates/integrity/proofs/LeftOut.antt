@@ -21,14 +21,14 @@ use Rattle.need_labels.specs.Plan.{statement_host}
 use Rattle.msg_cost.specs.Moves.{PlannedShape, is_trusted_for}
 use Rattle.entry_check.specs.Checks.{label_of_host}
 use Rattle.split_rules.specs.Opening.{MayRun, MayRunAll, MayChange, GivesIn}
-use Rattle.split_rules.specs.Positions.{Due, IsIn, IsOf, number_of, statement_due}
+use Rattle.split_rules.specs.Positions.{DueWork, IsStatementOfMethod, IsOf, number_of, statement_due}
 use Rattle.split_rules.specs.Typing.{AreDueOn}
 use Rattle.net_world.specs.World.{WorldShape}
 use Rattle.typed_steps.specs.Chains.{Duty, under}
 use Rattle.typed_steps.specs.Threads as threads
 use Rattle.typed_steps.specs.Threads.{alone, Owed, to_run, to_keep, item_of, duty_of, IsReturn, MayFollow, AreReturned}
-use Rattle.typed_steps.specs.Threads.{StandsOn, IsLeft}
-use Rattle.typed_steps.specs.Variables.{HasResult, Holds}
+use Rattle.typed_steps.specs.Threads.{ResultStandsOn, IsLeft}
+use Rattle.typed_steps.specs.Variables.{HasResult, HostsHold}
 use Rattle.typed_steps.specs.Views.{Split, View}
 use Rattle.typed_steps.proofs.Basics.{all_map}
 use Rattle.typed_steps.proofs.HeldSteps.{holds_now}
@@ -71,7 +71,7 @@ next_keeper planned keeper (to_keep call statement into result ∷ others) =
 next_keeper planned keeper others = keeper
 
 keeper_stands : (split : Split) (keeper : HostId) (left : List Owed) →
-    StandsOn split (next_keeper split.planned keeper left) left
+    ResultStandsOn split (next_keeper split.planned keeper left) left
 keeper_stands split keeper [] = tt
 keeper_stands split keeper (to_run call statement ∷ others) = tt
 keeper_stands split keeper (to_keep call statement into result ∷ others) =
@@ -93,8 +93,8 @@ pub record LeavesOut (split : Split) (c : Configuration) (view : View) (world : 
     pub result : HasResult split now (record view { keeper = keeper }) world
 
 pub holds_left : (split : Split) (c : Configuration) (view : View) (world : WorldShape) (rest : List Duty) →
-    Holds split c view world → (out : LeavesOut split c view world rest) →
-    Holds split out.now (record view { keeper = out.keeper }) world
+    HostsHold split c view world → (out : LeavesOut split c view world rest) →
+    HostsHold split out.now (record view { keeper = out.keeper }) world
 holds_left split c view world rest holds out =
     let bare : Configuration = record out.now { pending = [] } in
     let has =
@@ -115,7 +115,7 @@ holds_left split c view world rest holds out =
 
 -- a host is trusted for all that is due on it
 pub all_run : (split : Split) → IsTrusting split → (host : HostId) (label : Label) →
-    label_of_host split.code host ≡ Some label → (due : List Due) → AreDueOn split.planned host due →
+    label_of_host split.code host ≡ Some label → (due : List DueWork) → AreDueOn split.planned host due →
     MayRunAll split.planned label due
 all_run split is host label of_host =
     all_map (λ item. (is_trusted_for split.planned host (number_of (statement_due item)) ≡ true)
@@ -138,7 +138,7 @@ module _ (split : Split) (is : IsTrusting split) (label : Label)
 
   -- and so may what that gives a value
   affects_given : (method : MethodId) (statement : BlockTree) (x : VarId) →
-      IsIn split.planned.program method statement → MayRun split.planned label statement →
+      IsStatementOfMethod split.planned.program method statement → MayRun split.planned label statement →
       GivesIn split.planned method statement x → VariableIsAffected split.exposure x
   affects_given method statement x is_in may gives =
       let changes = (is.known.opens.statements label method statement is_in may.0).gives x gives in
@@ -146,7 +146,7 @@ module _ (split : Split) (is : IsTrusting split) (label : Label)
       (any_each (λ other. other ≡ label) (λ other. MayChange split.code other x) split.exposure.bad
       (λ other same. subst (λ one. MayChange split.code one x) (sym same) changes) bad)
 
-  may_leave : (owed : Owed) → threads.IsKnown split owed →
+  may_leave : (owed : Owed) → threads.IsKnownWork split owed →
       MayRun split.planned label (statement_due (duty_of owed).due) → MayBeLeft split.exposure (item_of owed)
   may_leave (to_run call statement) known may =
       subst (StatementIsAffected split.exposure) (own_number statement.kind (head_of statement))
@@ -175,10 +175,11 @@ module _ (split : Split) (is : IsTrusting split) (label : Label)
   affects_kept (to_keep number statement kept gives) (to_keep caller from also given ∷ behind) follows may call into
       result others is = absurd follows.0
 
-  leave_all : (view : View) (world : WorldShape) (c : Configuration) (keeper : HostId) (call : ℕ) (above : List Due)
+  leave_all : (view : View) (world : WorldShape) (c : Configuration) (keeper : HostId) (call : ℕ) (above : List DueWork)
       (rest : List Duty) (left : List Owed) → c.pending ≡ map item_of left →
-      under call above ++ rest ≡ map duty_of left → AllByRecursion (threads.IsKnown split) left →
-      AreReturned split left → StandsOn split keeper left → HasResult split c (record view { keeper = keeper }) world →
+      under call above ++ rest ≡ map duty_of left → AllByRecursion (threads.IsKnownWork split) left →
+      AreReturned split left → ResultStandsOn split keeper left →
+      HasResult split c (record view { keeper = keeper }) world →
       MayRunAll split.planned label above → LeavesOut split c view world rest
   leave_all view world c keeper call [] rest left pending due known returned stands result may = record {
     now = c;
@@ -224,7 +225,7 @@ module _ (split : Split) (is : IsTrusting split) (label : Label)
       }
 
   -- what is due before the rest is left out
-  pub left_out : (view : View) (world : WorldShape) (c : Configuration) (call : ℕ) (above : List Due)
+  pub left_out : (view : View) (world : WorldShape) (c : Configuration) (call : ℕ) (above : List DueWork)
       (rest : List Duty) → IsLeft split c view.keeper (under call above ++ rest) → HasResult split c view world →
       MayRunAll split.planned label above → LeavesOut split c view world rest
   left_out view world c call above rest left result may =

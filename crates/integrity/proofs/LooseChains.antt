@@ -6,7 +6,7 @@ use Rattle.js_base.specs.declared.ids.HostId.{HostId}
 use Rattle.capability.specs.declared.token.Token.{Token}
 use Rattle.ics_stack.specs.declared.stack.StackEntry.{StackEntry}
 use Rattle.net_world.specs.World.{WorldShape, state_at}
-use Rattle.token_laws.specs.Holders.{Place, kept_on, HoldsAt, IsSent}
+use Rattle.token_laws.specs.Holders.{TokenPlace, kept_on, HoldsAt, IsTokenSent}
 use Rattle.token_laws.proofs.HeldLaws.{held_once}
 use Rattle.integrity.specs.Holding.{IsAmong, AreLinked, IsStanding}
 use Rattle.integrity.specs.Loose.{AreUnsentBelow}
@@ -29,13 +29,13 @@ pub unsent_below : (world : WorldShape) (chain : List StackEntry) → AllByRecur
     AreUnsentBelow world chain
 unsent_below world [] standing = tt
 unsent_below world (first ∷ below) standing =
-    all_among (λ e. ¬ IsSent world e.token) below
+    all_among (λ e. ¬ IsTokenSent world e.token) below
     (λ e among. (each_among (IsStanding world) below e standing.1 among).unsent)
 
 pub unsent_each : (world : WorldShape) (chain : List StackEntry) → AreUnsentBelow world chain → (e : StackEntry) →
-    IsAmong (below_first chain) e → ¬ IsSent world e.token
+    IsAmong (below_first chain) e → ¬ IsTokenSent world e.token
 unsent_each world [] unsent e among = absurd (cc)
-unsent_each world (first ∷ below) unsent e among = each_among (λ x. ¬ IsSent world x.token) below e unsent among
+unsent_each world (first ∷ below) unsent e among = each_among (λ x. ¬ IsTokenSent world x.token) below e unsent among
 
 -- an entry below the first has its token kept with the one above it
 pub kept_below : (world : WorldShape) (chain : List StackEntry) → AreLinked chain →
@@ -48,7 +48,7 @@ kept_below world (first ∷ below) linked there e among =
 -- so a token that is held elsewhere is that of none of these
 pub none_below : (threat : Threat) (world : WorldShape) → IsLawful threat world → (chain : List StackEntry) →
     AreLinked chain → ((e : StackEntry) → IsAmong chain e → StandsThere world e) → AreUnsentBelow world chain →
-    (token : Token) (place : Place) → ((host : HostId) (at : ℕ) → place ≡ kept_on host at → ⊥) →
+    (token : Token) (place : TokenPlace) → ((host : HostId) (at : ℕ) → place ≡ kept_on host at → ⊥) →
     HoldsAt world token place → IsNone (below_first chain) token
 none_below threat world is chain linked there unsent token place apart held e among same =
     let kept = kept_below world chain linked there e among in

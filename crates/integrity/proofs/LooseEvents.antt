@@ -8,7 +8,7 @@ use Rattle.ics_stack.specs.declared.stack.StackEntry.{StackEntry}
 use Rattle.ics_stack.specs.Stack.{top_token}
 use Rattle.net_world.specs.Fits.{ShapeFits}
 use Rattle.net_world.specs.World.{WorldShape, state_at}
-use Rattle.token_laws.specs.Holders.{IsSent, kept_on}
+use Rattle.token_laws.specs.Holders.{IsTokenSent, kept_on}
 use Rattle.token_laws.proofs.EachFlight.{states_after}
 use Rattle.token_laws.proofs.HeldLaws.{own_before}
 use Rattle.token_laws.proofs.WorldTokens.{Accounts}
@@ -84,7 +84,7 @@ module _ (threat : Threat) (chain : List StackEntry) (world after : WorldShape) 
   there_still e among =
       stands_after chain world after lost leaves.alone e among (there_each threat chain world loose e among)
 
-  unsent_still : (e : StackEntry) → IsAmong (below_first chain) e → ¬ IsSent after e.token
+  unsent_still : (e : StackEntry) → IsAmong (below_first chain) e → ¬ IsTokenSent after e.token
   unsent_still e among =
       let at =
       one_of_some (state_at world e.token.host) (λ state. IsAmong state.entries e)
@@ -107,9 +107,9 @@ module _ (threat : Threat) (chain : List StackEntry) (world after : WorldShape) 
   }
     where
       all_unsent : (list : List StackEntry) →
-          ((e : StackEntry) → IsAmong (below_first list) e → ¬ IsSent after e.token) → AreUnsentBelow after list
+          ((e : StackEntry) → IsAmong (below_first list) e → ¬ IsTokenSent after e.token) → AreUnsentBelow after list
       all_unsent [] each = tt
-      all_unsent (first ∷ below) each = all_among (λ e. ¬ IsSent after e.token) below each
+      all_unsent (first ∷ below) each = all_among (λ e. ¬ IsTokenSent after e.token) below each
 
 pub loosely_after : (split : Split) (c : Configuration) (view : View) (world after : WorldShape) →
     StandsLoosely split c view world → Leaves (threat_in split) (entries_of view.chain) lost world after →

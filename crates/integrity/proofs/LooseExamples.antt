@@ -8,7 +8,7 @@ use Rattle.msg_cost.specs.Moves.{PlannedShape}
 use Rattle.host_code.specs.declared.message.Message.TheVariants as message
 use Rattle.net_world.specs.World.{IsRun, has_halted, state_at}
 use Rattle.split_rules.specs.TypedCode.{Table}
-use Rattle.token_laws.specs.Holders.{IsSent}
+use Rattle.token_laws.specs.Holders.{IsTokenSent}
 use Rattle.token_laws.specs.TokenExamples.{first_token, given, handed, handing}
 use Rattle.integrity.specs.Holding.{IsAmong, lost, StateIsOutside}
 use Rattle.integrity.specs.IntegrityExamples.{last_entry, giving, ending, ended}
@@ -63,6 +63,6 @@ pub ends : has_halted handing.root ended
 ends = refl
 
 -- that of an entry below the first is handed over to nobody
-pub sent_below : IsSent given first_token → (first below : StackEntry) → below.token ≡ first_token →
+pub sent_below : IsTokenSent given first_token → (first below : StackEntry) → below.token ≡ first_token →
     ¬ AreUnsentBelow given (first ∷ below ∷ [])
-sent_below sent first below same unsent = unsent.0 (subst (IsSent given) (sym same) sent)
+sent_below sent first below same unsent = unsent.0 (subst (IsTokenSent given) (sym same) sent)

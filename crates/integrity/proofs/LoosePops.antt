@@ -16,8 +16,8 @@ use Rattle.host_code.specs.declared.instruction.Op.TheVariants as op
 use Rattle.host_code.specs.declared.message.Message.{Message}
 use Rattle.host_code.specs.Code.{CodeShape}
 use Rattle.host_code.specs.Thread.{ThreadShape}
-use Rattle.host_core.specs.Fits.{EntryFits}
-use Rattle.host_core.specs.Host.{HostShape, Outcome, without_message, with_running, with_one_ignored, after_pop}
+use Rattle.host_core.specs.Fits.{StackEntryFits}
+use Rattle.host_core.specs.Host.{HostState, Outcome, without_message, with_running, with_one_ignored, after_pop}
 use Rattle.host_core.specs.Taking.{IsTaking}
 use Rattle.host_core.specs.Turn.{IsTurnOf, IsRunning, IsOperation, PassesWith, after_back, label_of_turn}
 use Rattle.net_world.specs.Fits.{ShapeFits}
@@ -50,7 +50,7 @@ back_if popped ignored other outcome true true own passing is = is
 back_if popped ignored other outcome true false own passing is = absurd (cc)
 back_if popped ignored other outcome false passes own passing is = absurd (cc)
 
-back_of : (code : CodeShape) (bare : HostShape) (thread : ThreadShape) (token : Token) (outcome : Outcome)
+back_of : (code : CodeShape) (bare : HostState) (thread : ThreadShape) (token : Token) (outcome : Outcome)
     (passes : Bool) → (IsTrue passes ↔ PassesWith code bare op.Back (Some token)) →
     after_back code bare thread (Some token) passes ≡ outcome → top_token bare.entries ≡ Some token →
     token.host ≡ bare.me → without_message (after_pop code (with_running bare None) bare.entries) ≡ outcome
@@ -63,7 +63,7 @@ back_of code bare thread token outcome false passing is top own =
     absurd (cc)
 
 -- a thread gives back the token of the top entry
-back_pops : (code : CodeShape) (host : HostShape) (running : Option ThreadShape) (token : Token) (outcome : Outcome) →
+back_pops : (code : CodeShape) (host : HostState) (running : Option ThreadShape) (token : Token) (outcome : Outcome) →
     IsTurnOf code host running outcome → RunsBack code host.me running token →
     top_token host.entries ≡ Some token → token.host ≡ host.me →
     without_message (after_pop code (with_running host None) host.entries) ≡ outcome
@@ -86,7 +86,7 @@ taken_if popped ignored outcome true passing is = is
 taken_if popped ignored outcome false passing is = absurd (cc)
 
 -- a message gives it back
-taking_pops : (code : CodeShape) (host : HostShape) (from : HostId) (m : Message) (token : Token) (outcome : Outcome) →
+taking_pops : (code : CodeShape) (host : HostState) (from : HostId) (m : Message) (token : Token) (outcome : Outcome) →
     IsTaking code host from m outcome → GivesBack m token → top_token host.entries ≡ Some token →
     without_message (after_pop code host host.entries) ≡ outcome
 taking_pops code host from m token outcome step gives top =
@@ -96,7 +96,7 @@ taking_pops code host from m token outcome step gives top =
 
 -- the token of the top entry names its host
 top_here : (code : CodeShape) (me : HostId) (entries : List StackEntry) (token : Token) →
-    All (EntryFits code me) entries → top_token entries ≡ Some token → token.host ≡ me
+    All (StackEntryFits code me) entries → top_token entries ≡ Some token → token.host ≡ me
 top_here code me [] token fits top = absurd (cc)
 top_here code me (first ∷ below) token fits top =
     let same : first.token ≡ token = cc in
@@ -114,9 +114,9 @@ module _ (split : Split) (c : Configuration) (view : View) (world after : WorldS
       (λ flight. MessageIsOpen (threat_in split) flight.message) (world.flying from to)
       (λ flight either. other_of either (λ never. never)) (stands.loose.outside.flying from to)
 
-  pops : (host : HostId) (old bare : HostShape) → state_at world host ≡ Some old → IsBare old bare →
+  pops : (host : HostId) (old bare : HostState) → state_at world host ≡ Some old → IsBare old bare →
       (outcome : Outcome) (flying : Flying) →
-      ((new : HostShape) → without_message new ≡ outcome → Moved world host new flying after) →
+      ((new : HostState) → without_message new ≡ outcome → Moved world host new flying after) →
       FlyAs (λ from to m. MessageIsOpen (threat_in split) m) flying → after.sent ≡ world.sent →
       top_token old.entries ≡ Some token → without_message (after_pop split.code bare old.entries) ≡ outcome →
       Restarts split c after
@@ -180,7 +180,7 @@ module _ (split : Split) (c : Configuration) (view : View) (world after : WorldS
       step.outcome world.flying (λ new new_is. moved_silent world host step.outcome new label after new_is step.leaves)
       flying_open (silent_sent world host step.outcome _ label after is step.leaves) top is
 
-  at_rest : (state : HostShape) → state.running ≡ None → IsBare state state
+  at_rest : (state : HostState) → state.running ≡ None → IsBare state state
   at_rest state rests = record {
     me = refl;
     waiting = refl;
@@ -216,6 +216,6 @@ module _ (split : Split) (c : Configuration) (view : View) (world after : WorldS
       ∙ ap (λ s. (after_telling (with_state world to step.outcome.state) to s).sent) none_told in
       pops to step.state step.state step.obeys (at_rest step.state step.rests) step.outcome world.flying
       (λ new new_is.
-      subst (λ (state : HostShape). Moved world to state world.flying after)
+      subst (λ (state : HostState). Moved world to state world.flying after)
       (ap (λ (o : Outcome). o.state) (sym new_is)) (moved_acted world to step.outcome after step.leaves)) flying_open
       quiet top is

@@ -28,7 +28,7 @@ use Rattle.host_code.specs.Code.{entry_at, instruction_at}
 use Rattle.host_code.specs.Sound.{IsEntryOn, OperationFits}
 use Rattle.host_code.specs.Thread.{ThreadShape, WaitingShape}
 use Rattle.host_code.specs.Thread.Awaited.{token_of_entry}
-use Rattle.host_core.specs.Host.{HostShape, Outcome, with_message, with_running, with_token}
+use Rattle.host_core.specs.Host.{HostState, Outcome, with_message, with_running, with_token}
 use Rattle.host_core.specs.Host.{after_step, after_asking, next_request}
 use Rattle.host_core.specs.Turn.{after_operation, after_ask, after_go, after_go_with, after_own_call, riders_of}
 use Rattle.host_core.specs.Turn.{label_of_turn, IsTurnOf, IsRunning}
@@ -44,14 +44,14 @@ use Rattle.net_world.proofs.Present.{same_id}
 use Rattle.split_rules.specs.Placed.{PlacedProgram}
 use Rattle.split_rules.specs.Opening.{IsOpenTo, MayRun, MayRunAll}
 use Rattle.split_rules.specs.Allowed.{IsAllowed}
-use Rattle.split_rules.specs.Held.{IsHeld}
+use Rattle.split_rules.specs.Held.{IsWellHeld}
 use Rattle.split_rules.specs.Positions.{Position, Calling, entering, calm, under, statement_due, Entrance, Forward}
 use Rattle.split_rules.specs.Positions.{with_forwards}
 use Rattle.split_rules.specs.Splittable.{IsSplittable}
 use Rattle.split_rules.specs.Typing.{EntryIs, AreDueOn, Cuts, EntersWith}
 use Rattle.split_rules.specs.TypedCode.{IsTypedOp}
 use Rattle.split_rules.proofs.TypedSplit.{same_there}
-use Rattle.token_laws.specs.Holders.{IsSent, kept_on}
+use Rattle.token_laws.specs.Holders.{IsTokenSent, kept_on}
 use Rattle.token_laws.specs.Numbers.{CodeHasNumbers, RowsHaveNumbers, EventHasNumbers}
 use Rattle.token_laws.specs.Reached.{IsReached}
 use Rattle.typed_steps.specs.Chains.{chain_due}
@@ -118,9 +118,9 @@ module _ (split : Split) (on : HostId) (position : Position) (need : ℕ) where
 
 -- What a turn leaves that hands a host a token: the host is trusted for all that is due, and all that is still to be
 -- sent goes to it.
-record HandsToken (split : Split) (c : Configuration) (view : View) (host : HostId) (old : HostShape)
+record HandsToken (split : Split) (c : Configuration) (view : View) (host : HostId) (old : HostState)
     (thread : ThreadShape) (to : HostId) (m : Message) (outcome : Outcome) : Type 0 where
-  new : HostShape
+  new : HostState
   is : with_message new to m ≡ outcome
   me : new.me ≡ old.me
   rests : new.running ≡ None
@@ -160,7 +160,7 @@ module _ (split : Split) (c : Configuration) (view : View) (host : HostId) (thre
 module _ (split : Split) (c : Configuration) (view : View) (host : HostId) (thread : ThreadShape)
     (world after : WorldShape) (to : HostId) (m : Message) (t : Telling split c view host thread world after to m)
     (trusting : IsTrusting split) (token : Token) (has : token_in m ≡ Some token) where
-  abbrev bare : HostShape
+  abbrev bare : HostState
   bare = with_running t.step.state None
 
   -- ---- the token
@@ -249,7 +249,7 @@ module _ (split : Split) (c : Configuration) (view : View) (host : HostId) (thre
   by_operation count (op.Ask entry on) passes law fits enters is held =
       let here = place_of split host thread.at in
       let at = t.stands.does.1 in
-      let new : HostId → HostShape =
+      let new : HostId → HostState =
       λ h. after_asking bare thread.at (with_token None (after_step thread)) token_of_entry h in
       let said = message.Sync (next_request bare thread.at) thread.frame entry token in
       let one : with_message (new on) on said ≡ t.step.outcome =
@@ -372,7 +372,7 @@ module _ (split : Split) (c : Configuration) (view : View) (host : HostId) (thre
       ((e : StackEntry) → IsAmong list e → IsStanding world e) → AreUnsentBelow after list
   unsent_below [] linked stands before = tt
   unsent_below (first ∷ below) linked stands before =
-      all_among (λ e. ¬ IsSent after e.token) below (λ e among.
+      all_among (λ e. ¬ IsTokenSent after e.token) below (λ e among.
       let held = later_held after first below among.0 e linked stands among.1 in
       unsent_held split.code world after (tokens_known (threat_in split) world t.lawful) t.fits t.account e
       (before e (suc among.0, among.1)) (kept_on held.0 held.1, held.2))
@@ -398,7 +398,7 @@ module _ (split : Split) (c : Configuration) (view : View) (host : HostId) (thre
             (was split c view host thread world after to m t).entries;
       }
 
-  other_outside : (other : HostId) (state : HostShape) → other ≢ host → state_at world other ≡ Some state →
+  other_outside : (other : HostId) (state : HostState) → other ≢ host → state_at world other ≡ Some state →
       StateIsOutside (threat_in split) chain (runs host thread) state →
       StateIsOutside (threat_in split) chain lost state
   other_outside other state apart obeys before =
@@ -508,7 +508,7 @@ pub holder_goes : AreLaws → (split : Split) (placed : PlacedProgram) (bad : �
     (events : List Event) (world after : WorldShape)
     (host : HostId) (thread : ThreadShape) (c : Configuration) (view : View) →
     threat_in split ≡ threat_of placed split.table bad → IsSplittable placed →
-    IsAllowed placed → IsHeld placed →
+    IsAllowed placed → IsWellHeld placed →
     IsReached split.code placed.hosts.hosts bad store events world → CodeHasNumbers split.code → RowsHaveNumbers store →
     All EventHasNumbers events → IsTurnStep split.code world host after →
     StandsBy split c view (runs host thread) world →

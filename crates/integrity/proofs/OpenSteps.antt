@@ -35,8 +35,8 @@ use Rattle.host_code.specs.Thread.Awaited.{value_of_field, acknowledgement, toke
 use Rattle.host_code.specs.Code.{CodeFieldShape, halt, field_at, entry_at}
 use Rattle.host_code.specs.Code.{part_of, instruction_at}
 use Rattle.host_stores.specs.Stores.{is_same_variable}
-use Rattle.host_core.specs.Fits.{StateFits, EntryFits, IsEntryOf}
-use Rattle.host_core.specs.Host.{HostShape, Outcome, with_running, with_one_ignored}
+use Rattle.host_core.specs.Fits.{StateFits, StackEntryFits, IsEntryOf}
+use Rattle.host_core.specs.Host.{HostState, Outcome, with_running, with_one_ignored}
 use Rattle.host_core.specs.Host.{after_pop, after_entering, after_asking, value_in_thread, without_message, thread_at}
 use Rattle.host_core.specs.Host.{with_row_written, with_variable_set, with_variables_set, after_clearing}
 use Rattle.host_core.specs.Turn.{PassesWith, after_frame}
@@ -114,27 +114,27 @@ pub record Kinds (threat : Threat) : Type 1 where
   pub open_keeps : (on_stack : StackEntry) → EntryIsOpen threat on_stack.entry → keeps on_stack
 
 -- what runs is open
-pub record HasOpen (threat : Threat) (kinds : Kinds threat) (state : HostShape) : Type 0 where
+pub record HasOpen (threat : Threat) (kinds : Kinds threat) (state : HostState) : Type 0 where
   pub running : IfSome state.running (ThreadIsOpen threat state.me)
   pub waiting : All (kinds.waits state.me) state.waiting
   pub entries : All kinds.keeps state.entries
 
 -- no site has fewer frames
-abbrev pub FramesStay : HostShape → HostShape → Type 0
+abbrev pub FramesStay : HostState → HostState → Type 0
 FramesStay old new = (site : ℕ) → slice_index old.frames site ≤ slice_index new.frames site
 
-pub record LeavesOpen (threat : Threat) (kinds : Kinds threat) (old : HostShape) (outcome : Outcome) : Type 0 where
+pub record LeavesOpen (threat : Threat) (kinds : Kinds threat) (old : HostState) (outcome : Outcome) : Type 0 where
   pub state : HasOpen threat kinds outcome.state
   pub stays : IsAsBefore threat.exposure old outcome.state
   pub frames : FramesStay old outcome.state
   pub sent : IfSome outcome.sent (λ letter. MessageIsOpen threat letter.1)
 
-pub same_frames : (old new : HostShape) → new.frames ≡ old.frames → FramesStay old new
+pub same_frames : (old new : HostState) → new.frames ≡ old.frames → FramesStay old new
 same_frames old new same site =
     let is = ap (λ (counts : List ℕ). slice_index counts site) same in
     omega (arith, is)
 
-pub as_before : (exposure : Exposure) (old new : HostShape) → new.rows ≡ old.rows → new.variables ≡ old.variables →
+pub as_before : (exposure : Exposure) (old new : HostState) → new.rows ≡ old.rows → new.variables ≡ old.variables →
     IsAsBefore exposure old new
 as_before exposure old new rows variables = record {
   rows = λ field. inl (ap (λ (all : List (List ℤ)). row_of all field.0) rows);
@@ -142,7 +142,7 @@ as_before exposure old new rows variables = record {
 }
 
 -- what else there is in the state before is nothing to this
-from_same : (threat : Threat) (kinds : Kinds threat) (old bare : HostShape) (outcome : Outcome) → bare.rows ≡ old.rows →
+from_same : (threat : Threat) (kinds : Kinds threat) (old bare : HostState) (outcome : Outcome) → bare.rows ≡ old.rows →
     bare.variables ≡ old.variables → bare.frames ≡ old.frames → LeavesOpen threat kinds bare outcome →
     LeavesOpen threat kinds old outcome
 from_same threat kinds old bare outcome rows variables frames part = record {
@@ -162,7 +162,7 @@ from_same threat kinds old bare outcome rows variables frames part = record {
   sent = part.sent;
 }
 
-pub stands : (threat : Threat) (kinds : Kinds threat) (old new : HostShape) → new.rows ≡ old.rows →
+pub stands : (threat : Threat) (kinds : Kinds threat) (old new : HostState) → new.rows ≡ old.rows →
     new.variables ≡ old.variables →
     new.frames ≡ old.frames → HasOpen threat kinds new → LeavesOpen threat kinds old (without_message new)
 stands threat kinds old new rows variables frames was = record {
@@ -172,7 +172,7 @@ stands threat kinds old new rows variables frames was = record {
   sent = tt;
 }
 
-either : (threat : Threat) (kinds : Kinds threat) (old : HostShape) (b : Bool) (first second : Outcome) →
+either : (threat : Threat) (kinds : Kinds threat) (old : HostState) (b : Bool) (first second : Outcome) →
     (b ≡ true → LeavesOpen threat kinds old first) → LeavesOpen threat kinds old second →
     LeavesOpen threat kinds old (if b then first else second)
 either threat kinds old true first second one other = one refl
@@ -180,19 +180,19 @@ either threat kinds old false first second one other = other
 
 -- ---- the changes
 
-runs : (threat : Threat) (kinds : Kinds threat) (host : HostShape) (running : Option ThreadShape) →
+runs : (threat : Threat) (kinds : Kinds threat) (host : HostState) (running : Option ThreadShape) →
     HasOpen threat kinds host →
     IfSome running (ThreadIsOpen threat host.me) → HasOpen threat kinds (with_running host running)
 runs threat kinds host running was also = record { running = also; waiting = was.waiting; entries = was.entries }
 
-goes_on : (threat : Threat) (kinds : Kinds threat) (host : HostShape) (thread : ThreadShape) →
+goes_on : (threat : Threat) (kinds : Kinds threat) (host : HostState) (thread : ThreadShape) →
     HasOpen threat kinds host →
     ThreadIsOpen threat host.me thread → LeavesOpen threat kinds host (with_thread host thread)
 goes_on threat kinds host thread was also =
     stands threat kinds host (with_running host (Some thread)) refl refl refl (runs threat kinds host
     (Some thread) was also)
 
-waits : (threat : Threat) (kinds : Kinds threat) (host : HostShape) (at : ℕ) (thread : ThreadShape)
+waits : (threat : Threat) (kinds : Kinds threat) (host : HostState) (at : ℕ) (thread : ThreadShape)
     (awaited : Awaited) (to : HostId)
     (m : Message) → HasOpen threat kinds host → ThreadIsOpen threat host.me thread → MessageIsOpen threat m →
     LeavesOpen threat kinds host (record { state = after_asking host at thread awaited to; sent = Some (to, m) })
@@ -218,7 +218,7 @@ written exposure rows to index value field affected = elim (eqb_tells field.0 to
       inl (ap (λ (o : Option (List ℤ)). unwrap_or o []) (get_other rows to.0 field.0 _ apart.1))
 ]
 
-pub writes : (exposure : Exposure) (host : HostShape) (field : FieldId) (index value : ℤ) →
+pub writes : (exposure : Exposure) (host : HostState) (field : FieldId) (index value : ℤ) →
     FieldIsAffected exposure field → IsAsBefore exposure host (with_row_written host field index value)
 writes exposure host field index value affected = record {
   rows = λ other. written exposure host.rows field index value other affected;
@@ -229,7 +229,7 @@ set_if : (b : Bool) (value other : ℤ) (A : Type 0) → (b ≡ true → A) → 
 set_if true value other A also = inr (also refl)
 set_if false value other A also = inl refl
 
-pub sets : (exposure : Exposure) (host : HostShape) (frame : FrameId) (x : VarId) (value : ℤ) →
+pub sets : (exposure : Exposure) (host : HostState) (frame : FrameId) (x : VarId) (value : ℤ) →
     VariableIsAffected exposure x → IsAsBefore exposure host (with_variable_set host frame x value)
 sets exposure host frame x value affected = record {
   rows = λ field. inl refl;
@@ -248,7 +248,7 @@ same_then first second third A (inl is) (inr may) = inr may
 same_then first second third A (inr may) later = inr may
 
 -- what is open behind a change of a variable that may be affected is open with that change
-behind_set : (threat : Threat) (kinds : Kinds threat) (host : HostShape) (frame : FrameId) (x : VarId) (value : ℤ)
+behind_set : (threat : Threat) (kinds : Kinds threat) (host : HostState) (frame : FrameId) (x : VarId) (value : ℤ)
     (outcome : Outcome) → VariableIsAffected threat.exposure x →
     LeavesOpen threat kinds (with_variable_set host frame x value) outcome → LeavesOpen threat kinds host outcome
 behind_set threat kinds host frame x value outcome affected part =
@@ -288,7 +288,7 @@ pub opened : (threat : Threat) → IsKnown threat → (me : HostId) (there : Ent
 opened threat known me there may on =
     entered threat known me there there.0 refl may (entry_at threat.code there) refl on
 
-pub enters : (threat : Threat) (kinds : Kinds threat) (host : HostShape) (found : Option Entry) (frame : FrameId)
+pub enters : (threat : Threat) (kinds : Kinds threat) (host : HostState) (found : Option Entry) (frame : FrameId)
     (token : Token) →
     HasOpen threat kinds host → IfSome found (λ entry. PlaceIsOpen threat host.me entry.at) →
     LeavesOpen threat kinds host (without_message (after_entering host found frame token))
@@ -300,7 +300,7 @@ enters threat kinds host (Some entry) frame token was at =
     (Some thread) was at)
 
 -- it starts likewise where values ride for variables that may be affected
-pub enters_with : (threat : Threat) (kinds : Kinds threat) (host : HostShape) (found : Option Entry) (frame : FrameId)
+pub enters_with : (threat : Threat) (kinds : Kinds threat) (host : HostState) (found : Option Entry) (frame : FrameId)
     (token : Token) (riders : List Rider) →
     HasOpen threat kinds host → IfSome found (λ entry. PlaceIsOpen threat host.me entry.at) →
     AllByRecursion (λ rider. VariableIsAffected threat.exposure rider.0) riders →
@@ -312,7 +312,7 @@ enters_with threat kinds host found frame token (rider ∷ riders) was at may =
     (enters_with threat kinds (with_variable_set host frame rider.0 rider.1) found frame token riders
     (record { running = was.running; waiting = was.waiting; entries = was.entries }) at may.1)
 
-popped : (threat : Threat) (kinds : Kinds threat) (host : HostShape) (found : Option Entry) (frame : FrameId)
+popped : (threat : Threat) (kinds : Kinds threat) (host : HostState) (found : Option Entry) (frame : FrameId)
     (kept : Token) (halts : Bool) →
     HasOpen threat kinds host → IfSome found (λ entry. PlaceIsOpen threat host.me entry.at) →
     LeavesOpen threat kinds host (without_message (if halts then record host { running = None; halted = true }
@@ -327,13 +327,13 @@ abbrev pub TopIsOpen : Threat → List StackEntry → Type 0
 TopIsOpen threat [] = ⊤
 TopIsOpen threat (top ∷ below) = EntryIsOpen threat top.entry
 
-pub pops : (threat : Threat) (kinds : Kinds threat) → IsKnown threat → (host : HostShape) (entries : List StackEntry) →
+pub pops : (threat : Threat) (kinds : Kinds threat) → IsKnown threat → (host : HostState) (entries : List StackEntry) →
     HasOpen threat kinds host → All kinds.keeps entries → TopIsOpen threat entries →
-    All (EntryFits threat.code host.me) entries →
+    All (StackEntryFits threat.code host.me) entries →
     LeavesOpen threat kinds host (without_message (after_pop threat.code host entries))
 pops threat kinds known host [] was all may fits = stands threat kinds host host refl refl refl was
 pops threat kinds known host (top ∷ below) was all may fits =
-    let bare : HostShape = record host { entries = below } in
+    let bare : HostState = record host { entries = below } in
     let also : HasOpen threat kinds bare =
     record {
       running = was.running;
@@ -367,7 +367,7 @@ behind threat me place operation each law =
     (part threat me place operation (λ label. IsOpenTo threat.planned label (threat.table.at me.0
     (suc place))) each law)
 
-reads : (threat : Threat) (kinds : Kinds threat) (host : HostShape) (thread : ThreadShape) (field : FieldId)
+reads : (threat : Threat) (kinds : Kinds threat) (host : HostState) (thread : ThreadShape) (field : FieldId)
     (index : List Node)
     (there : Option CodeFieldShape) → HasOpen threat kinds host → ThreadIsOpen threat host.me thread →
     PlaceIsOpen threat host.me (thread.at + 1) → LeavesOpen threat kinds host (after_read host thread field index there)
@@ -376,7 +376,7 @@ reads threat kinds host thread field index (Some there) was here next =
     either threat kinds host (there.host.0 == host.me.0) _ _ (λ own. goes_on threat kinds host _ was next)
     (waits threat kinds host thread.at _ value_of_field there.host _ was next tt)
 
-writes_on : (threat : Threat) (kinds : Kinds threat) (host : HostShape) (thread : ThreadShape) (field : FieldId)
+writes_on : (threat : Threat) (kinds : Kinds threat) (host : HostState) (thread : ThreadShape) (field : FieldId)
     (index value : ℤ) →
     HasOpen threat kinds host → ThreadIsOpen threat host.me thread → FieldIsAffected threat.exposure field →
     LeavesOpen threat kinds host (with_thread (with_row_written host field index value) thread)
@@ -389,7 +389,7 @@ writes_on threat kinds host thread field index value was here may =
       sent = tt;
     }
 
-sets_on : (threat : Threat) (kinds : Kinds threat) (host : HostShape) (thread : ThreadShape) (frame : FrameId)
+sets_on : (threat : Threat) (kinds : Kinds threat) (host : HostState) (thread : ThreadShape) (frame : FrameId)
     (x : VarId) (value : ℤ) →
     HasOpen threat kinds host → ThreadIsOpen threat host.me thread → VariableIsAffected threat.exposure x →
     LeavesOpen threat kinds host (with_thread (with_variable_set host frame x value) thread)
@@ -419,7 +419,7 @@ one_frame_more counts site place = elim (eqb_tells place site) [
       omega (arith, is)
 ]
 
-makes_frame : (threat : Threat) (kinds : Kinds threat) (host : HostShape) (thread : ThreadShape) (site : SiteId) →
+makes_frame : (threat : Threat) (kinds : Kinds threat) (host : HostState) (thread : ThreadShape) (site : SiteId) →
     HasOpen threat kinds host → PlaceIsOpen threat host.me (thread.at + 1) →
     LeavesOpen threat kinds host (after_frame host thread site)
 makes_frame threat kinds host thread site was next = record {
@@ -429,7 +429,7 @@ makes_frame threat kinds host thread site was next = record {
   sent = tt;
 }
 
-puts : (threat : Threat) (kinds : Kinds threat) (host : HostShape) (thread : ThreadShape) (field : FieldId)
+puts : (threat : Threat) (kinds : Kinds threat) (host : HostState) (thread : ThreadShape) (field : FieldId)
     (index value : List Node)
     (there : Option CodeFieldShape) → HasOpen threat kinds host → ThreadIsOpen threat host.me thread →
     PlaceIsOpen threat host.me (thread.at + 1) → FieldIsAffected threat.exposure field →
@@ -441,7 +441,7 @@ puts threat kinds host thread field index value (Some there) was here next may =
     (value_in_thread host thread value) was next may)
     (waits threat kinds host thread.at (after_clearing thread) acknowledgement there.host _ was next may)
 
-pushes : (threat : Threat) (kinds : Kinds threat) (host : HostShape) (thread : ThreadShape) (there : EntryId)
+pushes : (threat : Threat) (kinds : Kinds threat) (host : HostState) (thread : ThreadShape) (there : EntryId)
     (held : Option Token) →
     HasOpen threat kinds host → ThreadIsOpen threat host.me thread → PlaceIsOpen threat host.me (thread.at + 1) →
     EntryIsOpen threat there → LeavesOpen threat kinds host (after_own_push host thread there held)
@@ -453,7 +453,7 @@ pushes threat kinds host thread there (Some held) was here next may =
       entries = All-cons kinds.keeps _ _ (kinds.open_keeps _ may) was.entries;
     })
 
-asks_for : (threat : Threat) (kinds : Kinds threat) (host : HostShape) (thread : ThreadShape) (there : EntryId)
+asks_for : (threat : Threat) (kinds : Kinds threat) (host : HostState) (thread : ThreadShape) (there : EntryId)
     (on : HostId)
     (held : Option Token) → HasOpen threat kinds host → ThreadIsOpen threat host.me thread →
     PlaceIsOpen threat host.me (thread.at + 1) → EntryIsOpen threat there →
@@ -462,7 +462,7 @@ asks_for threat kinds host thread there on None was here next may = goes_on thre
 asks_for threat kinds host thread there on (Some held) was here next may =
     waits threat kinds host thread.at _ token_of_entry on _ was next may
 
-goes : (threat : Threat) (kinds : Kinds threat) (host : HostShape) (thread : ThreadShape) (frame : FrameId)
+goes : (threat : Threat) (kinds : Kinds threat) (host : HostState) (thread : ThreadShape) (frame : FrameId)
     (there : EntryId) (on : HostId)
     (held : Option Token) → HasOpen threat kinds host → ThreadIsOpen threat host.me thread → EntryIsOpen threat there →
     LeavesOpen threat kinds host (after_go host thread frame there on held)
@@ -475,13 +475,13 @@ goes threat kinds host thread frame there on (Some held) was here may = record {
 }
 
 -- these values ride, each for its variable
-riders_affected : (exposure : Exposure) (host : HostShape) (frame : FrameId) (variables : List VarId) →
+riders_affected : (exposure : Exposure) (host : HostState) (frame : FrameId) (variables : List VarId) →
     AllByRecursion (VariableIsAffected exposure) variables →
     AllByRecursion (λ rider. VariableIsAffected exposure rider.0) (riders_of host frame variables)
 riders_affected exposure host frame [] may = tt
 riders_affected exposure host frame (x ∷ others) may = (may.0, riders_affected exposure host frame others may.1)
 
-goes_with : (threat : Threat) (kinds : Kinds threat) → IsKnown threat → (host : HostShape) (thread : ThreadShape)
+goes_with : (threat : Threat) (kinds : Kinds threat) → IsKnown threat → (host : HostState) (thread : ThreadShape)
     (frame : FrameId) (there : EntryId) (on : HostId) (riders : List VarId)
     (held : Option Token) → HasOpen threat kinds host → ThreadIsOpen threat host.me thread → there ≢ halt →
     Any (λ label. HasNeed threat.code label there × AllByRecursion (MayChange threat.code label) riders)
@@ -507,14 +507,14 @@ goes_with threat kinds known host thread frame there on riders (Some held) was h
       );
     }
 
-calls_own : (threat : Threat) (kinds : Kinds threat) (host : HostShape) (thread : ThreadShape) (found : Option Entry) →
+calls_own : (threat : Threat) (kinds : Kinds threat) (host : HostState) (thread : ThreadShape) (found : Option Entry) →
     HasOpen threat kinds host → ThreadIsOpen threat host.me thread →
     IfSome found (λ entry. PlaceIsOpen threat host.me entry.at) →
     LeavesOpen threat kinds host (after_own_call host thread found)
 calls_own threat kinds host thread None was here at = goes_on threat kinds host thread was here
 calls_own threat kinds host thread (Some entry) was here at = goes_on threat kinds host _ was at
 
-gives_result : (threat : Threat) (kinds : Kinds threat) (host : HostShape) (thread : ThreadShape) (x : VarId)
+gives_result : (threat : Threat) (kinds : Kinds threat) (host : HostState) (thread : ThreadShape) (x : VarId)
     (value : List Node)
     (held : Option Token) (passes : Bool) → HasOpen threat kinds host → ThreadIsOpen threat host.me thread →
     PlaceIsOpen threat host.me (thread.at + 1) → VariableIsAffected threat.exposure x →
@@ -529,19 +529,19 @@ gives_result threat kinds host thread x value (Some held) passes was here next m
     (goes_on threat kinds host _ was next))
 
 -- the entry that a thread takes off the stack with its token is open
-abbrev pub PopsOpen : Threat → HostShape → Option Token → Type 0
+abbrev pub PopsOpen : Threat → HostState → Option Token → Type 0
 PopsOpen threat host held = (token : Token) → held ≡ Some token → top_token host.entries ≡ Some token →
     TopIsOpen threat host.entries
 
 -- so it is where the thread's instruction gives its token back
-abbrev pub BacksOpen : Threat → HostShape → ThreadShape → Type 0
+abbrev pub BacksOpen : Threat → HostState → ThreadShape → Type 0
 BacksOpen threat host thread = (instruction : Instr) →
     instruction_at threat.code host.me thread.at ≡ Some instruction → instruction.op ≡ op.Back →
     PopsOpen threat host thread.held
 
-pops_if : (threat : Threat) (kinds : Kinds threat) → IsKnown threat → (host : HostShape) (passes : Bool) →
+pops_if : (threat : Threat) (kinds : Kinds threat) → IsKnown threat → (host : HostState) (passes : Bool) →
     HasOpen threat kinds host →
-    All (EntryFits threat.code host.me) host.entries → (passes ≡ true → TopIsOpen threat host.entries) →
+    All (StackEntryFits threat.code host.me) host.entries → (passes ≡ true → TopIsOpen threat host.entries) →
     LeavesOpen threat kinds host (without_message (if passes
     then after_pop threat.code (with_running host None) host.entries
     else with_one_ignored (with_running host None)))
@@ -554,9 +554,9 @@ pops_if threat kinds known host false was fits may =
     (record { running = tt; waiting = was.waiting; entries = was.entries })
 
 gives_back : (threat : Threat) (kinds : Kinds threat) → IsKnown threat →
-    (host : HostShape) (thread : ThreadShape) (held : Option Token)
+    (host : HostState) (thread : ThreadShape) (held : Option Token)
     (passes : Bool) → HasOpen threat kinds host → ThreadIsOpen threat host.me thread →
-    All (EntryFits threat.code host.me) host.entries →
+    All (StackEntryFits threat.code host.me) host.entries →
     (IsTrue passes → PassesWith threat.code host op.Back held) → PopsOpen threat host held →
     LeavesOpen threat kinds host (after_back threat.code host thread held passes)
 gives_back threat kinds known host thread None passes was here fits check may =
@@ -579,9 +579,9 @@ entry_here threat me on there is own =
     (λ entry at. at ∙ same_id on me (number_same on.0 me.0 own)) is
 
 operation : (threat : Threat) (kinds : Kinds threat) → IsKnown threat →
-    (host : HostShape) (thread : ThreadShape) (operation : Op) (count : ℕ)
+    (host : HostState) (thread : ThreadShape) (operation : Op) (count : ℕ)
     (passes : Bool) → HasOpen threat kinds host → ThreadIsOpen threat host.me thread →
-    All (EntryFits threat.code host.me) host.entries → OperationFits threat.code host.me count operation →
+    All (StackEntryFits threat.code host.me) host.entries → OperationFits threat.code host.me count operation →
     (IsTrue passes → PassesWith threat.code host operation thread.held) →
     (operation ≡ op.Back → PopsOpen threat host thread.held) → OpIsOpen threat host.me thread.at operation →
     LeavesOpen threat kinds host (after_operation threat.code host thread operation passes)
@@ -658,7 +658,7 @@ operation threat kinds known host thread (op.CallWith there on riders) count pas
 -- ---- a turn
 
 running_open : (threat : Threat) (kinds : Kinds threat) → IsKnown threat →
-    (host : HostShape) (thread : ThreadShape) (there : Option Instr)
+    (host : HostState) (thread : ThreadShape) (there : Option Instr)
     (outcome : Outcome) → HasOpen threat kinds host → ThreadIsOpen threat host.me thread →
     StateFits threat.code host → BacksOpen threat host thread →
     instruction_at threat.code host.me thread.at ≡ there → IsRunning threat.code host thread there outcome →
@@ -676,7 +676,7 @@ running_open threat kinds known host thread (Some instruction) outcome was here 
     (λ label. known.opens.instructions label host.me thread.at instruction is) here))
 
 turn_of : (threat : Threat) (kinds : Kinds threat) → IsKnown threat →
-    (host : HostShape) (running : Option ThreadShape) (outcome : Outcome) →
+    (host : HostState) (running : Option ThreadShape) (outcome : Outcome) →
     HasOpen threat kinds host → IfSome running (ThreadIsOpen threat host.me) → StateFits threat.code host →
     IfSome running (BacksOpen threat host) → IsTurnOf threat.code host running outcome →
     LeavesOpen threat kinds host outcome
@@ -689,7 +689,7 @@ turn_of threat kinds known host (Some thread) outcome was here fits may step =
     (runs threat kinds host None was tt) here (kept_at_rest threat.code host fits) may refl step)
 
 -- an open thread's turn
-pub open_turn : (threat : Threat) (kinds : Kinds threat) → IsKnown threat → (host : HostShape) (outcome : Outcome) →
+pub open_turn : (threat : Threat) (kinds : Kinds threat) → IsKnown threat → (host : HostState) (outcome : Outcome) →
     HasOpen threat kinds host → StateFits threat.code host →
     IfSome host.running (BacksOpen threat host) → IsTurn threat.code host outcome →
     LeavesOpen threat kinds host outcome

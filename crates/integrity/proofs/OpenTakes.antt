@@ -23,9 +23,9 @@ use Rattle.host_code.specs.Code.{CodeFieldShape, CodeVariableShape, field_at, va
 use Rattle.entry_check.specs.declared.ask.Ask.TheVariants as ask
 use Rattle.entry_check.specs.Checks.{May, MayAffect, MayEnter, MayRide, IsTrustedFor, MaySee, label_at, label_of_host}
 use Rattle.host_core.specs.Fits.{StateFits, IsEntryOf}
-use Rattle.host_core.specs.Host.{HostShape, Outcome, with_one_ignored, with_token, with_temporary, without_message}
+use Rattle.host_core.specs.Host.{HostState, Outcome, with_one_ignored, with_token, with_temporary, without_message}
 use Rattle.host_core.specs.Host.{after_push}
-use Rattle.host_core.specs.Taking.{place_of_awaiting, IsTaking, Passes, after_taking, after_answer}
+use Rattle.host_core.specs.Taking.{place_of_awaiting, IsTaking, PassesCheck, after_taking, after_answer}
 use Rattle.split_rules.specs.Opening.{MayChange, MayChangeField, HasNeed}
 use Rattle.token_laws.proofs.HostNumbers.{all_but}
 use Rattle.integrity.specs.Outside.{Threat, ThreadIsOpen, EntryIsOpen, MessageIsOpen}
@@ -34,12 +34,12 @@ use Rattle.integrity.proofs.OpenSteps.{LeavesOpen, TopIsOpen, same_frames, as_be
 use Rattle.integrity.proofs.OpenSteps.{enters, enters_with, pops}
 
 -- the thread is open that waits for an answer
-abbrev pub WakesOpen : Threat → HostShape → Option ℕ → Type 0
+abbrev pub WakesOpen : Threat → HostState → Option ℕ → Type 0
 WakesOpen threat host place = (at : ℕ) (waiting : WaitingShape) → place ≡ Some at →
     slice_get host.waiting at ≡ Some waiting → ThreadIsOpen threat host.me waiting.thread
 
 -- what a message asks for is open, and so is the entry or the thread that it starts
-abbrev pub DoesOpen : Threat → HostShape → HostId → Message → Type 0
+abbrev pub DoesOpen : Threat → HostState → HostId → Message → Type 0
 DoesOpen threat host from (message.Lgoto token) = TopIsOpen threat host.entries
 DoesOpen threat host from (message.Value request value) =
     WakesOpen threat host (place_of_awaiting host value_of_field request from)
@@ -56,7 +56,7 @@ woken : (threat : Threat) (me : HostId) (there : Option WaitingShape) (answered 
 woken threat me None answered keeps may = tt
 woken threat me (Some waiting) answered keeps may = keeps waiting.thread (may waiting refl)
 
-wakes : (threat : Threat) (kinds : Kinds threat) (host : HostShape) (place : Option ℕ)
+wakes : (threat : Threat) (kinds : Kinds threat) (host : HostState) (place : Option ℕ)
     (answered : ThreadShape → ThreadShape) → HasOpen threat kinds host → WakesOpen threat host place →
     ((thread : ThreadShape) → ThreadIsOpen threat host.me thread → ThreadIsOpen threat host.me (answered thread)) →
     LeavesOpen threat kinds host (without_message (after_answer host place answered))
@@ -77,9 +77,9 @@ enters_here threat me from there may =
     (entry_at threat.code there) (λ entry one. one.0) may.1
 
 takes : (threat : Threat) (kinds : Kinds threat) → IsKnown threat →
-    (host : HostShape) (from : HostId) (m : Message) (passes : Bool) →
-    HasOpen threat kinds host → StateFits threat.code host → (IsTrue passes → Passes threat.code host from m) →
-    (Passes threat.code host from m → DoesOpen threat host from m) →
+    (host : HostState) (from : HostId) (m : Message) (passes : Bool) →
+    HasOpen threat kinds host → StateFits threat.code host → (IsTrue passes → PassesCheck threat.code host from m) →
+    (PassesCheck threat.code host from m → DoesOpen threat host from m) →
     LeavesOpen threat kinds host (after_taking threat.code host from m passes)
 takes threat kinds known host from m false was fits check said =
     stands threat kinds host (with_one_ignored host) refl refl refl
@@ -131,9 +131,9 @@ takes threat kinds known host from (message.Token request token) true was fits c
 
 -- a message is taken that is open where it passes its check
 pub open_taking : (threat : Threat) (kinds : Kinds threat) → IsKnown threat →
-    (host : HostShape) (from : HostId) (m : Message)
+    (host : HostState) (from : HostId) (m : Message)
     (outcome : Outcome) → HasOpen threat kinds host → StateFits threat.code host →
-    (Passes threat.code host from m → DoesOpen threat host from m) → IsTaking threat.code host from m outcome →
+    (PassesCheck threat.code host from m → DoesOpen threat host from m) → IsTaking threat.code host from m outcome →
     LeavesOpen threat kinds host outcome
 open_taking threat kinds known host from m outcome was fits said step =
     subst (LeavesOpen threat kinds host) step.2 (takes threat kinds known host from m step.0 was fits step.1.0 said)
@@ -177,9 +177,9 @@ rides_open threat known me from label (rider ∷ riders) is among may = (
 )
 
 -- what passes the check of a misbehaving host is open to it
-pub passes_open : (threat : Threat) → IsKnown threat → (host : HostShape) (from : HostId) (label : Label)
+pub passes_open : (threat : Threat) → IsKnown threat → (host : HostState) (from : HostId) (label : Label)
     (m : Message) → label_of_host threat.code from ≡ Some label →
-    Any (λ other. other ≡ label) threat.exposure.bad → Passes threat.code host from m → MessageIsOpen threat m
+    Any (λ other. other ≡ label) threat.exposure.bad → PassesCheck threat.code host from m → MessageIsOpen threat m
 passes_open threat known host from label (message.Get request field index) is among may = tt
 passes_open threat known host from label (message.Set request field index value) is among may =
     field_affected threat known field

@@ -20,7 +20,7 @@ use Rattle.entry_check.specs.Checks.{label_of_host}
 use Rattle.event_text.specs.declared.event.Event.{Event}
 use Rattle.event_text.specs.declared.event.Event.TheVariants.{Take, Turn, Act}
 use Rattle.event_text.specs.declared.event.BadMessage.{BadMessage}
-use Rattle.host_core.specs.Host.{HostShape}
+use Rattle.host_core.specs.Host.{HostState}
 use Rattle.host_core.specs.Turn.{label_of_turn}
 use Rattle.net_world.specs.Fits.{ShapeFits, IsStateOf, HasOwnToken}
 use Rattle.net_world.specs.World.{IsRun}
@@ -59,7 +59,7 @@ pub record IsBad (threat : Threat) (host : HostId) : Type 0 where
 abbrev pub AreBad : Threat → WorldShape → Type 0
 AreBad threat world = (host : HostId) → misbehaves world host ≡ true → IsBad threat host
 
-bad_here : (b : Bool) (state : HostShape) (label : Label) (others : List Label) →
+bad_here : (b : Bool) (state : HostState) (label : Label) (others : List Label) →
     is_absent (Some (if b then None else Some state)) ≡ true →
     Any (λ other. other ≡ label) ((if b then label ∷ [] else []) ++ others)
 bad_here true state label others is = any_here (λ other. other ≡ label) label others refl
@@ -106,31 +106,31 @@ bad_reached threat rows bad store events world is reach host misbehaving =
 
 -- ---- what is as before
 
-unchanged : (exposure : Exposure) (state : HostShape) → IsAsBefore exposure state state
+unchanged : (exposure : Exposure) (state : HostState) → IsAsBefore exposure state state
 unchanged exposure state = record { rows = λ field. inl refl; variables = λ frame x. inl refl }
 
 -- one host has changed
-pub before_after : (exposure : Exposure) (world after : WorldShape) (me : HostId) (old state : HostShape) →
+pub before_after : (exposure : Exposure) (world after : WorldShape) (me : HostId) (old state : HostState) →
     state_at world me ≡ Some old → after.hosts ≡ slice_set world.hosts me.0 (Some state) →
     IsAsBefore exposure old state → AreAsBefore exposure world after
 before_after exposure world after me old state obeys puts stays host new at =
     elim (either world after me old state after.flying obeys (record { hosts = puts; flying = refl }) host new at) [
       | inl mover ↦
-          subst (λ (o : Option HostShape). IsSomeAnd o (λ was. IsAsBefore exposure was new))
+          subst (λ (o : Option HostState). IsSomeAnd o (λ was. IsAsBefore exposure was new))
           (sym (ap (state_at world) mover.same ∙ obeys))
-          (subst (λ (s : HostShape). IsAsBefore exposure old s) (sym mover.is) stays)
+          (subst (λ (s : HostState). IsAsBefore exposure old s) (sym mover.is) stays)
       | inr other ↦
-          subst (λ (o : Option HostShape). IsSomeAnd o (λ was. IsAsBefore exposure was new)) (sym other.obeys)
+          subst (λ (o : Option HostState). IsSomeAnd o (λ was. IsAsBefore exposure was new)) (sym other.obeys)
           (unchanged exposure new)
     ]
 
 before_itself : (exposure : Exposure) (world : WorldShape) → AreAsBefore exposure world world
 before_itself exposure world host new at =
-    subst (λ (o : Option HostShape). IsSomeAnd o (λ was. IsAsBefore exposure was new)) (sym at) (unchanged exposure new)
+    subst (λ (o : Option HostState). IsSomeAnd o (λ was. IsAsBefore exposure was new)) (sym at) (unchanged exposure new)
 
-before_on : (exposure : Exposure) (new : HostShape) (middle first : Option HostShape) →
+before_on : (exposure : Exposure) (new : HostState) (middle first : Option HostState) →
     IsSomeAnd middle (λ state. IsAsBefore exposure state new) →
-    ((state : HostShape) → middle ≡ Some state → IsSomeAnd first (λ old. IsAsBefore exposure old state)) →
+    ((state : HostState) → middle ≡ Some state → IsSomeAnd first (λ old. IsAsBefore exposure old state)) →
     IsSomeAnd first (λ old. IsAsBefore exposure old new)
 before_on exposure new None first stays earlier = absurd stays
 before_on exposure new (Some state) None stays earlier = absurd (earlier state refl)
@@ -156,10 +156,10 @@ all_open threat = record {
   open_keeps = λ on_stack may. may;
 }
 
-has_open : (threat : Threat) (state : HostShape) → StateIsOpen threat state → HasOpen threat (all_open threat) state
+has_open : (threat : Threat) (state : HostState) → StateIsOpen threat state → HasOpen threat (all_open threat) state
 has_open threat state was = record { running = was.running; waiting = was.waiting; entries = was.entries }
 
-is_open : (threat : Threat) (state : HostShape) → HasOpen threat (all_open threat) state → StateIsOpen threat state
+is_open : (threat : Threat) (state : HostState) → HasOpen threat (all_open threat) state → StateIsOpen threat state
 is_open threat state has = record { running = has.running; waiting = has.waiting; entries = has.entries }
 
 top_open : (threat : Threat) (entries : List StackEntry) → All (λ on_stack. EntryIsOpen threat on_stack.entry) entries →
@@ -167,18 +167,18 @@ top_open : (threat : Threat) (entries : List StackEntry) → All (λ on_stack. E
 top_open threat [] all = tt
 top_open threat (top ∷ below) all = all 0 top (omega arith)
 
-pops_open : (threat : Threat) (state : HostShape) (running : Option ThreadShape) → StateIsOpen threat state →
+pops_open : (threat : Threat) (state : HostState) (running : Option ThreadShape) → StateIsOpen threat state →
     IfSome running (BacksOpen threat state)
 pops_open threat state None was = tt
 pops_open threat state (Some thread) was =
     λ instruction at is token held top. top_open threat state.entries was.entries
 
-wakes_open : (threat : Threat) (state : HostShape) (place : Option ℕ) → StateIsOpen threat state →
+wakes_open : (threat : Threat) (state : HostState) (place : Option ℕ) → StateIsOpen threat state →
     WakesOpen threat state place
 wakes_open threat state place was at waiting is there =
     all_at (λ (w : WaitingShape). ThreadIsOpen threat state.me w.thread) state.waiting at waiting was.waiting there
 
-does_open : (threat : Threat) (state : HostShape) (from : HostId) (m : Message) → StateIsOpen threat state →
+does_open : (threat : Threat) (state : HostState) (from : HostId) (m : Message) → StateIsOpen threat state →
     MessageIsOpen threat m → DoesOpen threat state from m
 does_open threat state from (message.Get request field index) was said = tt
 does_open threat state from (message.Set request field index value) was said = said
@@ -193,11 +193,11 @@ does_open threat state from (message.Token request token) was said = wakes_open 
 
 -- ---- the events
 
-pub state_fits : (threat : Threat) (world : WorldShape) (host : HostId) (state : HostShape) →
+pub state_fits : (threat : Threat) (world : WorldShape) (host : HostId) (state : HostState) →
     ShapeFits threat.code world →
     state_at world host ≡ Some state → IsStateOf threat.code host state
 state_fits threat world host state fits obeys =
-    subst (λ (o : Option HostShape). IfSome o (IsStateOf threat.code host)) obeys (fits.states host)
+    subst (λ (o : Option HostState). IfSome o (IsStateOf threat.code host)) obeys (fits.states host)
 
 abbrev pub StaysOpen : Threat → WorldShape → WorldShape → Type 0
 StaysOpen threat world after = IsOutside threat after × AreAsBefore threat.exposure world after

@@ -12,8 +12,8 @@ use Rattle.host_code.specs.declared.message.Message.{Message}
 use Rattle.host_code.specs.declared.message.Message.TheVariants as message
 use Rattle.host_code.specs.Thread.{ThreadShape, WaitingShape, Awaited}
 use Rattle.host_code.specs.Thread.Awaited.{value_of_field, acknowledgement, token_of_entry}
-use Rattle.host_core.specs.Host.{HostShape, Outcome}
-use Rattle.host_core.specs.Taking.{Passes, IsTaking, place_of_awaiting}
+use Rattle.host_core.specs.Host.{HostState, Outcome}
+use Rattle.host_core.specs.Taking.{PassesCheck, IsTaking, place_of_awaiting}
 use Rattle.host_core.specs.Turn.{label_of_turn}
 use Rattle.event_text.specs.declared.event.Event.TheVariants.{Take, Act}
 use Rattle.event_text.specs.declared.event.BadMessage.{BadMessage}
@@ -25,13 +25,13 @@ use Rattle.net_world.specs.World.{with_state, without_flight}
 use Rattle.net_world.proofs.Fitting.{bad_differs}
 use Rattle.net_world.proofs.Moved.{moved_acted}
 use Rattle.net_world.proofs.StepLaws.{take_puts, turn_puts, act_puts}
-use Rattle.token_laws.specs.Holders.{IsSent}
+use Rattle.token_laws.specs.Holders.{IsTokenSent}
 use Rattle.token_laws.specs.Requests.{number_answered}
 use Rattle.token_laws.proofs.EachFlight.{of_state}
 use Rattle.token_laws.proofs.HeldLaws.{all_at}
 use Rattle.token_laws.proofs.HostRequests.{Turns, turn_requests}
 use Rattle.integrity.specs.Exposed.{IsAsBefore}
-use Rattle.integrity.specs.Holding.{IsAmong, Holder, OwnsRunning, OwnsWaiting, OwnsMessage, IsOwn, IsThere}
+use Rattle.integrity.specs.Holding.{IsAmong, Holder, OwnsRunning, OwnsWaiting, OwnsMessage, IsHoldersEvent, IsThere}
 use Rattle.integrity.specs.Holding.{StateIsOutside, IsOutsideBut, IsStanding, IsTight}
 use Rattle.integrity.specs.Outside.{Threat, ThreadIsOpen, EntryIsOpen, MessageIsOpen}
 use Rattle.integrity.proofs.Among.{among_push, among_without, one_of_some, some_of, each_among, all_among}
@@ -51,10 +51,10 @@ use Rattle.integrity.proofs.WaitMoves.{WaitsAt, found_at, Rewaits, stays, wakes,
 
 -- misbehaving hosts were not sent the token, and an entry of the chain or the holder has it
 pub record IsSafe (world : WorldShape) (holder : Holder) (token : Token) : Type 0 where
-  pub state : HostShape
+  pub state : HostState
   pub is : state_at world token.host ≡ Some state
   pub obeys : IsSome (state_at world token.host)
-  pub unsent : ¬ IsSent world token
+  pub unsent : ¬ IsTokenSent world token
   pub kept : IsKeptBy world holder token
 
 -- so it is with each entry of some
@@ -81,7 +81,7 @@ abbrev pub IsNone : List StackEntry → Token → Type 0
 IsNone chain token = (e : StackEntry) → IsAmong chain e → e.token ≢ token
 
 pub run_none : (threat : Threat) (chain : List StackEntry) (holder : Holder) (world : WorldShape) →
-    IsLawful threat world → AreSafe chain holder world → (me : HostId) (state : HostShape) →
+    IsLawful threat world → AreSafe chain holder world → (me : HostId) (state : HostState) →
     state_at world me ≡ Some state → (OwnsRunning holder me → ⊥) → (token : Token) → RunsWith state.running token →
     IsNone chain token
 run_none threat chain holder world is safe_each me state obeys apart token held e among same =
@@ -92,7 +92,7 @@ run_none threat chain holder world is safe_each me state obeys apart token held 
 
 pub fly_none : (threat : Threat) (chain : List StackEntry) (holder : Holder) (world : WorldShape) →
     IsLawful threat world → AreSafe chain holder world → (from to : HostId) (place : ℕ) (flight : Flight) →
-    slice_get (world.flying from to) place ≡ Some flight → ¬ IsOwn holder world (Take from to place) →
+    slice_get (world.flying from to) place ≡ Some flight → ¬ IsHoldersEvent holder world (Take from to place) →
     (token : Token) → GivesBack flight.message token → IsNone chain token
 fly_none threat chain holder world is safe_each from to place flight there apart token gives e among same =
     let it = safe_each e among in
@@ -110,7 +110,7 @@ act_none chain holder world safe_each made m own makes token gives e among same 
     elim (given_back world made token own (makes ∙ ap (λ (x : Message). Some x) gives)) [
       | inl bad ↦
           bad_differs world token.host e.token.host it.state bad it.is (ap (λ (t : Token). t.host) (sym same))
-      | inr sent ↦ it.unsent (subst (IsSent world) (sym same) sent)
+      | inr sent ↦ it.unsent (subst (IsTokenSent world) (sym same) sent)
     ]
 
 -- ---- what may be there
@@ -127,13 +127,13 @@ pub other_of : {A B : Type 0} → A ⊎ B → (A → ⊥) → B
 other_of (inl a) apart = absurd (apart a)
 other_of (inr b) apart = b
 
-has_open : (threat : Threat) (chain : List StackEntry) (holder : Holder) (state : HostShape) →
+has_open : (threat : Threat) (chain : List StackEntry) (holder : Holder) (state : HostState) →
     StateIsOutside threat chain holder state → (OwnsRunning holder state.me → ⊥) →
     HasOpen threat (but threat chain holder) state
 has_open threat chain holder state was apart =
     record { running = other_of was.running apart; waiting = was.waiting; entries = was.entries }
 
-is_outside : (threat : Threat) (chain : List StackEntry) (holder : Holder) (state : HostShape) →
+is_outside : (threat : Threat) (chain : List StackEntry) (holder : Holder) (state : HostState) →
     HasOpen threat (but threat chain holder) state → StateIsOutside threat chain holder state
 is_outside threat chain holder state has =
     record { running = inr has.running; waiting = has.waiting; entries = has.entries }
@@ -146,7 +146,7 @@ top_open threat chain [] all apart = tt
 top_open threat chain (top ∷ below) all apart =
     other_of (all 0 top (omega arith)) (λ among. apart top.token refl top among refl)
 
-pops_open : (threat : Threat) (chain : List StackEntry) (state : HostShape) (running : Option ThreadShape) →
+pops_open : (threat : Threat) (chain : List StackEntry) (state : HostState) (running : Option ThreadShape) →
     All (λ on_stack. IsAmong chain on_stack ⊎ EntryIsOpen threat on_stack.entry) state.entries →
     ((token : Token) → RunsBack threat.code state.me running token → top_token state.entries ≡ Some token →
     IsNone chain token) → IfSome running (BacksOpen threat state)
@@ -158,11 +158,11 @@ pops_open threat chain state (Some thread) all apart =
     let same : token ≡ other = cc in
     apart other (held ∙ ap (λ (t : Token). Some t) same, instruction, at, back) is)
 
-does_open : (threat : Threat) (state : HostShape) (from : HostId) (m : Message) → MessageIsOpen threat m →
+does_open : (threat : Threat) (state : HostState) (from : HostId) (m : Message) → MessageIsOpen threat m →
     ((token : Token) → m ≡ message.Lgoto token → top_token state.entries ≡ Some token →
     TopIsOpen threat state.entries) →
     ((awaited : Awaited) (request : RequestId) → number_answered m ≡ Some request →
-    WakesOpen threat state (place_of_awaiting state awaited request from)) → Passes threat.code state from m →
+    WakesOpen threat state (place_of_awaiting state awaited request from)) → PassesCheck threat.code state from m →
     DoesOpen threat state from m
 does_open threat state from (message.Get request field index) said tops woken passes = tt
 does_open threat state from (message.Set request field index value) said tops woken passes = said
@@ -187,7 +187,7 @@ pub record Leaves (threat : Threat) (chain : List StackEntry) (holder : Holder) 
     pub halts : alone.new.halted ≡ alone.old.halted
 
 -- the entry that ends the program is the chain's
-not_halted : (threat : Threat) (chain : List StackEntry) (old new : HostShape) →
+not_halted : (threat : Threat) (chain : List StackEntry) (old new : HostState) →
     All (λ on_stack. IsAmong chain on_stack ⊎ EntryIsOpen threat on_stack.entry) old.entries →
     Restacks (IsNone chain) old new → new.halted ≡ old.halted
 not_halted threat chain old new all (stacks.stays is same) = same
@@ -202,7 +202,7 @@ said_open : (threat : Threat) (holder : Holder) (me : HostId) (sent : Option (Ho
 said_open threat holder me None said = tt
 said_open threat holder me (Some letter) said = inr said
 
-waiting_more : (old : HostShape) (outcome : Outcome) (one : WaitingShape) → Turns old outcome →
+waiting_more : (old : HostState) (outcome : Outcome) (one : WaitingShape) → Turns old outcome →
     IsAmong old.waiting one → IsAmong outcome.state.waiting one
 waiting_more old outcome one (inl quiet) among = subst (λ list. IsAmong list one) (sym quiet.waiting) among
 waiting_more old outcome one (inr asks) among =
@@ -257,17 +257,17 @@ turn_leaves threat known chain holder world after me is step outside apart none 
 
 -- A message that is none of the holder's comes to a host at rest, and takes no entry of the chain off its stack.
 record IsComing (threat : Threat) (chain : List StackEntry) (holder : Holder) (world : WorldShape) (from me : HostId)
-    (state : HostShape) (m : Message) : Type 0 where
+    (state : HostState) (m : Message) : Type 0 where
   obeys : state_at world me ≡ Some state
   rests : state.running ≡ None
   comes : Comes world from me m
   apart : OwnsMessage holder from me m → ⊥
   none : (token : Token) → GivesBack m token → top_token state.entries ≡ Some token → IsNone chain token
-  said : Passes threat.code state from m → MessageIsOpen threat m
+  said : PassesCheck threat.code state from m → MessageIsOpen threat m
 
 module _ (threat : Threat) (known : IsKnown threat) (chain : List StackEntry) (holder : Holder) (world : WorldShape)
     (is : IsLawful threat world) (there : IsThere world holder) (outside : IsOutsideBut threat chain holder world)
-    (from me : HostId) (state : HostShape) (m : Message) (it : IsComing threat chain holder world from me state m) where
+    (from me : HostId) (state : HostState) (m : Message) (it : IsComing threat chain holder world from me state m) where
   sleeps : (request : RequestId) (place : ℕ) (one : WaitingShape) → number_answered m ≡ Some request →
       WaitsAt state.waiting request from place one → OwnsWaiting holder me one → ⊥
   sleeps request place one answer at own =
@@ -347,7 +347,7 @@ module _ (threat : Threat) (known : IsKnown threat) (chain : List StackEntry) (h
 pub take_leaves : (threat : Threat) → IsKnown threat → (chain : List StackEntry) (holder : Holder)
     (world after : WorldShape) (from to : HostId) (place : ℕ) → IsLawful threat world →
     (step : IsTakeStep threat.code world from to place after) → IsThere world holder →
-    IsOutsideBut threat chain holder world → ¬ IsOwn holder world (Take from to place) →
+    IsOutsideBut threat chain holder world → ¬ IsHoldersEvent holder world (Take from to place) →
     ((token : Token) → GivesBack step.flight.message token → top_token step.state.entries ≡ Some token →
     IsNone chain token) → Leaves threat chain holder world after
 take_leaves threat known chain holder world after from to place is step there outside apart none =
@@ -392,7 +392,7 @@ take_leaves threat known chain holder world after from to place is step there ou
 pub act_leaves : (threat : Threat) → IsKnown threat → (chain : List StackEntry) (holder : Holder)
     (world after : WorldShape) (from to : HostId) (made : BadMessage) → IsLawful threat world →
     (step : IsActStep threat.code world from to made after) → IsThere world holder →
-    IsOutsideBut threat chain holder world → ¬ IsOwn holder world (Act from to made) →
+    IsOutsideBut threat chain holder world → ¬ IsHoldersEvent holder world (Act from to made) →
     ((token : Token) → GivesBack step.message token → top_token step.state.entries ≡ Some token →
     IsNone chain token) → Leaves threat chain holder world after
 act_leaves threat known chain holder world after from to made is step there outside apart none =

@@ -17,7 +17,8 @@ use Rattle.token_laws.specs.Requests.{number_asked, number_answered}
 use Rattle.token_laws.proofs.AskedLaws.{ends_obey}
 use Rattle.token_laws.proofs.Tests.{some_found}
 use Rattle.typed_steps.specs.Views.{Split, View}
-use Rattle.integrity.specs.Holding.{Holder, runs, asked, answered, stuck, passes, lost, halted, IsOwn, OwnsMessage}
+use Rattle.integrity.specs.Holding.{Holder, runs, asked, answered, stuck, passes, lost, halted, IsHoldersEvent}
+use Rattle.integrity.specs.Holding.{OwnsMessage}
 use Rattle.integrity.specs.Standing.{threat_in, IsFree, StandsBy}
 use Rattle.integrity.proofs.Among.{nothing, one_of_some, some_of}
 use Rattle.integrity.proofs.TakeLaws.{IsOnly, state_of, asked_only, answered_only, passes_only}
@@ -25,8 +26,8 @@ use Rattle.integrity.proofs.TightKept.{IsLawful}
 
 -- a message is the holder's where it is at the place of the only one
 decide_at : (holder : Holder) (world : WorldShape) (from to one other : HostId) (place k : ℕ) →
-    IsOwn holder world (Take from to place) → IsOnly holder world from to place →
-    IsOwn holder world (Take one other k) ⊎ (¬ IsOwn holder world (Take one other k))
+    IsHoldersEvent holder world (Take from to place) → IsOnly holder world from to place →
+    IsHoldersEvent holder world (Take one other k) ⊎ (¬ IsHoldersEvent holder world (Take one other k))
 decide_at holder world from to one other place k own only = elim (eqb_tells one.0 from.0) [
   | inr apart ↦ inr (λ has. apart.1 (ap (λ (h : HostId). h.0) (only_there has).0))
   | inl first ↦ elim (eqb_tells other.0 to.0) [
@@ -34,21 +35,21 @@ decide_at holder world from to one other place k own only = elim (eqb_tells one.
     | inl second ↦ elim (eqb_tells k place) [
       | inr apart ↦ inr (λ has. apart.1 (only_there has).2)
       | inl third ↦
-          inl (subst (λ h. IsOwn holder world (Take h other k)) (sym (same_id one from first.1))
-          (subst (λ h. IsOwn holder world (Take from h k)) (sym (same_id other to second.1))
-          (subst (λ n. IsOwn holder world (Take from to n)) (sym third.1) own)))
+          inl (subst (λ h. IsHoldersEvent holder world (Take h other k)) (sym (same_id one from first.1))
+          (subst (λ h. IsHoldersEvent holder world (Take from h k)) (sym (same_id other to second.1))
+          (subst (λ n. IsHoldersEvent holder world (Take from to n)) (sym third.1) own)))
     ]
   ]
 ]
   where
-    only_there : IsOwn holder world (Take one other k) → (one ≡ from) × (other ≡ to) × (k ≡ place)
+    only_there : IsHoldersEvent holder world (Take one other k) → (one ≡ from) × (other ≡ to) × (k ≡ place)
     only_there has =
         let at = one_of_some (slice_get (world.flying one other) k) (λ f. OwnsMessage holder one other f.message) has in
         only one other k at.one at.is at.has
 
 own_there : (holder : Holder) (world : WorldShape) (from to : HostId) (flight : Flight) (place : ℕ) → slice_get
     (world.flying from to) place ≡ Some flight →
-    OwnsMessage holder from to flight.message → IsOwn holder world (Take from to place)
+    OwnsMessage holder from to flight.message → IsHoldersEvent holder world (Take from to place)
 own_there holder world from to flight place there own =
     some_of (slice_get (world.flying from to) place) (λ f. OwnsMessage holder from to f.message) flight there own
 
@@ -83,7 +84,7 @@ decide_answer (Some one) request = elim (decide_request one request) [
 module _ (split : Split) (c : Configuration) (view : View) (world : WorldShape) (is : IsLawful (threat_in split) world)
   where
     pub decide_take : (holder : Holder) → StandsBy split c view holder world → (from to : HostId) (k : ℕ) →
-        IsOwn holder world (Take from to k) ⊎ (¬ IsOwn holder world (Take from to k))
+        IsHoldersEvent holder world (Take from to k) ⊎ (¬ IsHoldersEvent holder world (Take from to k))
     decide_take (runs host thread) stands from to k = inr (nothing (slice_get (world.flying from to) k))
     decide_take (asked host w m) stands from to k =
         let flies = stands.tight.there.1 in
@@ -115,7 +116,7 @@ module _ (split : Split) (c : Configuration) (view : View) (world : WorldShape) 
     decide_take halted stands from to k = inr (nothing (slice_get (world.flying from to) k))
 
     pub decide_turn : (holder : Holder) (host : HostId) →
-        IsOwn holder world (Turn host) ⊎ (¬ IsOwn holder world (Turn host))
+        IsHoldersEvent holder world (Turn host) ⊎ (¬ IsHoldersEvent holder world (Turn host))
     decide_turn (runs other thread) host = elim (eqb_tells host.0 other.0) [
       | inl same ↦ inl (same_id host other same.1)
       | inr apart ↦ inr (λ own. apart.1 (ap (λ (h : HostId). h.0) own))
@@ -129,7 +130,7 @@ module _ (split : Split) (c : Configuration) (view : View) (world : WorldShape) 
 
     -- no act is the holder's where it waits for no misbehaving host
     pub no_act : (holder : Holder) → IsFree holder → StandsBy split c view holder world → (from to : HostId)
-        (made : BadMessage) → misbehaves world from ≡ true → ¬ IsOwn holder world (Act from to made)
+        (made : BadMessage) → misbehaves world from ≡ true → ¬ IsHoldersEvent holder world (Act from to made)
     no_act (runs host thread) free stands from to made bad own =
         (one_of_some (message_made (tokens_sent world) made) (OwnsMessage (runs host thread) from to) own).has
     no_act (asked host w m) free stands from to made bad own =
@@ -161,7 +162,7 @@ module _ (split : Split) (c : Configuration) (view : View) (world : WorldShape) 
     -- an act is that of a holder that waits for its host, where it answers the request
     pub decide_act : (holder : Holder) → StandsBy split c view holder world → (from to : HostId) (made : BadMessage) →
         misbehaves world from ≡ true → (m : Message) → message_made (tokens_sent world) made ≡ Some m →
-        IsOwn holder world (Act from to made) ⊎ (¬ IsOwn holder world (Act from to made))
+        IsHoldersEvent holder world (Act from to made) ⊎ (¬ IsHoldersEvent holder world (Act from to made))
     decide_act (runs host thread) stands from to made bad m makes =
         inr (no_act (runs host thread) tt stands from to made bad)
     decide_act (asked host w asking) stands from to made bad m makes =
@@ -182,7 +183,7 @@ module _ (split : Split) (c : Configuration) (view : View) (world : WorldShape) 
           ]
         ]
       where
-        its : IsOwn (stuck host w) world (Act from to made) → OwnsMessage (stuck host w) from to m
+        its : IsHoldersEvent (stuck host w) world (Act from to made) → OwnsMessage (stuck host w) from to m
         its own = subst (λ o. IsSomeAnd o (OwnsMessage (stuck host w) from to)) makes own
     decide_act (passes sender target passed) stands from to made bad m makes =
         inr (no_act (passes sender target passed) tt stands from to made bad)

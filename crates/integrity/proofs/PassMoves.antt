@@ -10,14 +10,14 @@ use Rattle.ics_stack.specs.Stack.{top_token}
 use Rattle.host_code.specs.declared.message.Message.{Message}
 use Rattle.host_code.specs.declared.message.Message.TheVariants as message
 use Rattle.host_code.specs.Thread.{ThreadShape}
-use Rattle.host_core.specs.Host.{HostShape, with_one_ignored, after_pop, thread_at}
+use Rattle.host_core.specs.Host.{HostState, with_one_ignored, after_pop, thread_at}
 use Rattle.host_core.specs.Taking.{IsTaking, after_taking}
 use Rattle.net_world.specs.Flying.{Flight, Flying}
 use Rattle.net_world.specs.Told.{token_in}
 use Rattle.net_world.specs.World.{WorldShape, state_at, without_flight}
 use Rattle.net_world.proofs.Moved.{Moved, mover_state, moved_silent, silent_sent}
-use Rattle.token_laws.specs.Holders.{Place, running_on, waiting_on, kept_on, in_flight, HoldsAt}
-use Rattle.typed_steps.specs.Variables.{Sends}
+use Rattle.token_laws.specs.Holders.{TokenPlace, running_on, waiting_on, kept_on, in_flight, HoldsAt}
+use Rattle.typed_steps.specs.Variables.{HasWhatIsOwed}
 use Rattle.split_rules.specs.Handing.{Arrival, arrival_in}
 use Rattle.typed_steps.specs.Requests.{GoesTo}
 use Rattle.typed_steps.specs.Views.{Split, View, entries_of, with_out}
@@ -124,7 +124,7 @@ module _ (split : Split) (c : Configuration) (view : View) (m : Message) (world 
                   (left_flying split c view (passes from to m) world after from to place t next);
             });
         holds = arrived_keeps split c view world from to old arrival g t.step.obeys t.stands.holds after moved.hosts;
-        sends = some_of (state_at after to) (λ s. Sends split seen s to) new there tt;
+        sends = some_of (state_at after to) (λ s. HasWhatIsOwed split seen s to) new there tt;
         does = (t.stands.does.0, g.at);
         halts = none_halted split c view (passes from to m) world after from to place t next new (λ same. absurd (cc))
             moved.hosts refl;
@@ -184,9 +184,10 @@ module _ (split : Split) (c : Configuration) (view : View) (m : Message) (world 
       (ap token_in (message_is ∙ is) ∙ sym g.top ∙ top)
 
   -- where it is not the top one's, nobody has it any more
-  nobody_has : (new : HostShape) → new.running ≡ t.step.state.running → new.waiting ≡ t.step.state.waiting →
+  nobody_has : (new : HostState) → new.running ≡ t.step.state.running → new.waiting ≡ t.step.state.waiting →
       new.entries ≡ t.step.state.entries → Moved world to new (without_flight world from to place).flying after →
-      (token : Token) → ((at : Place) → HoldsAt world token at → at ≡ in_flight from to place) → (at : Place) →
+      (token : Token) → ((at : TokenPlace) → HoldsAt world token at → at ≡ in_flight from to place) →
+      (at : TokenPlace) →
       HoldsAt after token at → ⊥
   nobody_has new running waiting entries moved token only (running_on other) has =
       let same =
@@ -234,7 +235,7 @@ module _ (split : Split) (c : Configuration) (view : View) (m : Message) (world 
       pops_held split c view (passes from to m) world after to (popping token is g quiet) (in_flight from to place)
       (λ other at same. absurd (cc)) token (held_here token is g token g.top) g.host g.top (top refl) g.gives_up taken
   comes_if token is g false top taken =
-      let new : HostShape = with_one_ignored t.step.state in
+      let new : HostState = with_one_ignored t.step.state in
       let quiet =
       silent_sent (without_flight world from to place) to t.step.outcome new (Some t.step.flight.label) after taken
       t.step.leaves in

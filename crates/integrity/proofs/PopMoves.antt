@@ -11,20 +11,20 @@ use Rattle.capability.specs.declared.token.Token.{Token}
 use Rattle.ics_stack.specs.declared.stack.StackEntry.{StackEntry}
 use Rattle.ics_stack.specs.Stack.{top_token}
 use Rattle.host_code.specs.Thread.{WaitingShape}
-use Rattle.host_core.specs.Host.{HostShape, Outcome, without_message, with_running, with_one_ignored, after_pop}
+use Rattle.host_core.specs.Host.{HostState, Outcome, without_message, with_running, with_one_ignored, after_pop}
 use Rattle.net_world.specs.Fits.{ShapeFits}
 use Rattle.net_world.specs.Flying.{Flying}
 use Rattle.net_world.specs.Told.{tokens_in}
 use Rattle.net_world.specs.World.{WorldShape, state_at, has_halted}
 use Rattle.net_world.proofs.Moved.{Moved, either, mover_state}
-use Rattle.token_laws.specs.Holders.{Place, kept_on, HoldsAt, IsSent}
+use Rattle.token_laws.specs.Holders.{TokenPlace, kept_on, HoldsAt, IsTokenSent}
 use Rattle.token_laws.proofs.EachFlight.{of_state}
 use Rattle.token_laws.proofs.HeldLaws.{same_place, held_once}
 use Rattle.token_laws.proofs.WorldTokens.{Accounts}
 use Rattle.typed_steps.specs.Chains.{IsChain, chain_due}
 use Rattle.typed_steps.specs.Requests.{GivesUp, starting}
 use Rattle.typed_steps.specs.Threads.{IsLeft}
-use Rattle.typed_steps.specs.Variables.{Sends, Holds}
+use Rattle.typed_steps.specs.Variables.{HasWhatIsOwed, HostsHold}
 use Rattle.typed_steps.specs.Views.{Split, View, Link, entries_of}
 use Rattle.typed_steps.proofs.HeldSteps.{holds_same, holds_calm}
 use Rattle.typed_steps.proofs.Pops.{Ended, Continued, popped}
@@ -47,8 +47,8 @@ use Rattle.integrity.proofs.TightKept.{IsLawful, tokens_known}
 use Rattle.integrity.proofs.TightMoves.{tight_from, all_as, as_other}
 
 -- what a host has now it had before, where the one that changed had it
-pub was_at : (world after : WorldShape) (me other : HostId) (old new : HostShape) → state_at world me ≡ Some old →
-    after.hosts ≡ slice_set world.hosts me.0 (Some new) → (P : HostShape → Type 0) →
+pub was_at : (world after : WorldShape) (me other : HostId) (old new : HostState) → state_at world me ≡ Some old →
+    after.hosts ≡ slice_set world.hosts me.0 (Some new) → (P : HostState → Type 0) →
     IsSomeAnd (state_at after other) P → (P new → P old) → IsSomeAnd (state_at world other) P
 was_at world after me other old new obeys puts P has keeps =
     let at = one_of_some (state_at after other) P has in
@@ -70,7 +70,7 @@ first_same entries place upper first above at same =
     same_item entries place upper first (subst (λ n. slice_get entries n ≡ Some upper) same above) at
 
 -- the same host, where nothing runs
-pub record IsBare (old bare : HostShape) : Type 0 where
+pub record IsBare (old bare : HostState) : Type 0 where
   pub me : bare.me ≡ old.me
   pub waiting : bare.waiting ≡ old.waiting
   pub entries : bare.entries ≡ old.entries
@@ -88,20 +88,20 @@ pub record Popping (split : Split) (c : Configuration) (view : View) (holder : H
   pub linked : AreLinked (entries_of view.chain)
   pub there : (e : StackEntry) → IsAmong (entries_of view.chain) e → StandsThere world e
   pub unsent : AreUnsentBelow world (entries_of view.chain)
-  pub holds : Holds split c view world
+  pub holds : HostsHold split c view world
   pub runs_on : ¬ has_halted split.code.root world
   pub is_chain : IsChain split view.naming view.chain
   pub lawful : IsLawful (threat_in split) world
   pub fits : ShapeFits split.code after
   pub account : Accounts world after
   pub quiet : after.sent ≡ world.sent
-  pub old : HostShape
+  pub old : HostState
   pub obeys : state_at world host ≡ Some old
-  pub bare : HostShape
+  pub bare : HostState
   pub is_bare : IsBare old bare
   pub outcome : Outcome
   pub flying : Flying
-  pub moved : (new : HostShape) → without_message new ≡ outcome → Moved world host new flying after
+  pub moved : (new : HostState) → without_message new ≡ outcome → Moved world host new flying after
   pub others_open : FlyAs (λ from to m. MessageIsOpen (threat_in split) m) flying
   pub waits : All (λ w. ThreadIsOpen (threat_in split) host w.thread) old.waiting
   pub own_runs : (other : HostId) → other ≢ host → OwnsRunning holder other → ⊥
@@ -134,7 +134,7 @@ module _ (split : Split) (c : Configuration) (view : View) (holder : Holder) (wo
       (λ w. OwnsWaiting next me w ⊎ ThreadIsOpen (threat_in split) me w.thread) t.old.waiting
       (λ w may. inr (subst (λ h. ThreadIsOpen (threat_in split) h w.thread) (sym same) may)) t.waits)
 
-  none_halted : (next : Holder) (new : HostShape) → (is : without_message new ≡ t.outcome) →
+  none_halted : (next : Holder) (new : HostState) → (is : without_message new ≡ t.outcome) →
       new.halted ≡ t.old.halted → has_halted split.code.root after → next ≡ halted
   none_halted next new is same has =
       absurd (t.runs_on (halted_before world after split.code.root host t.old new t.obeys (t.moved new is).hosts same
@@ -168,7 +168,7 @@ module _ (split : Split) (c : Configuration) (view : View) (holder : Holder) (wo
       same_place split.code world host t.old place 0 e top.first.entry t.lawful.fits t.obeys there
       (ap (λ list. slice_get list 0) top.entries_are) same
 
-  pops : (top : Tops) (new : HostShape) (next : Holder) → without_message new ≡ t.outcome → new.me ≡ host →
+  pops : (top : Tops) (new : HostState) (next : Holder) → without_message new ≡ t.outcome → new.me ≡ host →
       new.entries ≡ top.below → new.waiting ≡ t.old.waiting →
       OwnsRunning next host ⊎ IfSome new.running (ThreadIsOpen (threat_in split) host) →
       (state_at after host ≡ Some new → IsThere after next) → HasTop after (entries_of top.rest) next →
@@ -286,8 +286,8 @@ module _ (split : Split) (c : Configuration) (view : View) (holder : Holder) (wo
       ⊎ Continued split c view top.first top.rest host t.bare top.below → Restarts split c after
   after_top top gives_up is (inl ended) =
       let old = t.old in
-      let bare : HostShape = t.bare in
-      let new : HostShape = record bare { entries = top.below; running = None; halted = true } in
+      let bare : HostState = t.bare in
+      let new : HostState = record bare { entries = top.below; running = None; halted = true } in
       let new_is : without_message new ≡ t.outcome =
       ap without_message (sym ended.is)
       ∙ ap (λ list. without_message (after_pop split.code bare list)) (sym top.entries_are) ∙ is in
@@ -311,8 +311,8 @@ module _ (split : Split) (c : Configuration) (view : View) (holder : Holder) (wo
       }
   after_top top gives_up is (inr more) =
       let old = t.old in
-      let bare : HostShape = t.bare in
-      let new : HostShape = with_running (record bare { entries = top.below }) (Some more.thread) in
+      let bare : HostState = t.bare in
+      let new : HostState = with_running (record bare { entries = top.below }) (Some more.thread) in
       let next = runs host more.thread in
       let new_is : without_message new ≡ t.outcome =
       ap without_message (sym more.is)
@@ -330,7 +330,8 @@ module _ (split : Split) (c : Configuration) (view : View) (holder : Holder) (wo
           holds = holds_calm split c view after top.rest top.first.call
               (holds_same split c view world after host old new t.flying t.holds t.obeys moved
               t.is_bare.rows t.is_bare.variables t.is_bare.frames) gives_up.none_out;
-          sends = some_of (state_at after host) (λ s. Sends split (starting view top.rest top.first.call) s host)
+          sends = some_of (state_at after host)
+              (λ s. HasWhatIsOwed split (starting view top.rest top.first.call) s host)
               new (mover_state world after host old new t.flying t.obeys moved) tt;
           does = (more.is_chain, more.at);
           halts = none_halted next new new_is t.is_bare.halts;
@@ -350,7 +351,7 @@ module _ (split : Split) (c : Configuration) (view : View) (holder : Holder) (wo
       (subst (λ list. IsLeft split c view.keeper (chain_due split list)) tops.chain_is gives_up.left) tops.own)
 
   -- so it is where the token is held here, and kept with no entry
-  pub pops_held : (here : Place) → ((other : HostId) (at : ℕ) → here ≡ kept_on other at → ⊥) → (token : Token) →
+  pub pops_held : (here : TokenPlace) → ((other : HostId) (at : ℕ) → here ≡ kept_on other at → ⊥) → (token : Token) →
       HoldsAt world token here → token.host ≡ host → top_token (entries_of view.chain) ≡ Some token →
       top_token t.old.entries ≡ Some token → GivesUp split c view →
       without_message (after_pop split.code t.bare t.old.entries) ≡ t.outcome → Goes split c after
@@ -363,9 +364,9 @@ module _ (split : Split) (c : Configuration) (view : View) (holder : Holder) (wo
   -- ---- the token is lost
 
   -- who gives it back alone has it
-  only_here : (list : List StackEntry) (token : Token) (here : Place) →
+  only_here : (list : List StackEntry) (token : Token) (here : TokenPlace) →
       ((e : StackEntry) → IsAmong list e → IsStanding world e) → top_token list ≡ Some token →
-      HoldsAt world token here → (place : Place) → HoldsAt world token place → place ≡ here
+      HoldsAt world token here → (place : TokenPlace) → HoldsAt world token place → place ≡ here
   only_here [] token here standing top held place also = absurd (cc)
   only_here (e ∷ list) token here standing top held place also =
       let same : e.token ≡ token = cc in
@@ -374,20 +375,20 @@ module _ (split : Split) (c : Configuration) (view : View) (holder : Holder) (wo
       let obeys : IsSome (state_at world token.host) =
       subst (λ (k : Token). IsSome (state_at world k.host)) same (subst (λ o. IsSome o) (sym at.is) refl) in
       held_once split.code world token place here (tokens_known (threat_in split) world t.lawful) obeys
-      (subst (λ (k : Token). ¬ IsSent world k) same it.unsent) also held
+      (subst (λ (k : Token). ¬ IsTokenSent world k) same it.unsent) also held
 
   -- another entry is on top, so the token is gone where it was nowhere else
-  pub loses : (here : Place) →
+  pub loses : (here : TokenPlace) →
       ((token : Token) → top_token (entries_of view.chain) ≡ Some token → HoldsAt world token here) →
       AllByRecursion (IsStanding world) (entries_of view.chain) → GivesUp split c view →
       without_message (with_one_ignored t.bare) ≡ t.outcome →
-      ((token : Token) → ((place : Place) → HoldsAt world token place → place ≡ here) → (place : Place) →
+      ((token : Token) → ((place : TokenPlace) → HoldsAt world token place → place ≡ here) → (place : TokenPlace) →
       HoldsAt after token place → ⊥) → Goes split c after
   loses here held chain_stands gives_up is nobody =
       let standing_each : (e : StackEntry) → IsAmong (entries_of view.chain) e → IsStanding world e =
       λ e. each_among (IsStanding world) (entries_of view.chain) e chain_stands in
       let old = t.old in
-      let new : HostShape = with_one_ignored t.bare in
+      let new : HostState = with_one_ignored t.bare in
       let moved = t.moved new is in
       let me : new.me ≡ host = t.is_bare.me ∙ me_is in
       standing.stays view lost tt (record {

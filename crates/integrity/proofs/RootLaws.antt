@@ -11,7 +11,7 @@ use Rattle.jif_tree.specs.SourceRun.{Configuration, configuration_at_start}
 use Rattle.jif_tree.specs.Store.{row_of}
 use Rattle.host_code.specs.Code.{CodeShape}
 use Rattle.event_text.specs.declared.event.Event.{Event}
-use Rattle.host_core.specs.Host.{HostShape}
+use Rattle.host_core.specs.Host.{HostState}
 use Rattle.net_world.specs.Fits.{HasOwnToken}
 use Rattle.net_world.proofs.GoingOn.{IsKept, along as along_events}
 use Rattle.net_world.specs.World.{WorldShape, IsRun, world_at_start, state_at, has_halted}
@@ -23,7 +23,7 @@ use Rattle.split_rules.specs.Typable.{IsTypable}
 use Rattle.split_rules.specs.TypedCode.{Table, IsTypedCode}
 use Rattle.token_laws.specs.Reached.{IsReached}
 use Rattle.token_laws.proofs.Walks.{one_more}
-use Rattle.integrity.specs.Altering.{StandsFor, GoesOnAltered, FollowsAltered}
+use Rattle.integrity.specs.Altering.{StandsFor, GoesOnAltered, WorldFollowsAltered}
 use Rattle.integrity.specs.Exposed.{FieldsStand, AreAsBefore, IsAsBefore, exposure_of}
 use Rattle.integrity.specs.Outside.{threat_of}
 use Rattle.integrity.proofs.OutsideLaws.{AreLaws, along}
@@ -35,9 +35,9 @@ row_stands : {X : Type 0} (A : Type 0) (now was start : X) → (now ≡ was) ⊎
 row_stands A now was start (inl is) apart same = is ∙ same
 row_stands A now was start (inr may) apart same = absurd (apart may)
 
-stands_from : (exposure : Exposure) (number : ℕ) (store : List (List ℤ)) (state : HostShape)
-    (found : Option HostShape) →
-    ((old : HostShape) → found ≡ Some old → row_of old.rows number ≡ row_of store number) →
+stands_from : (exposure : Exposure) (number : ℕ) (store : List (List ℤ)) (state : HostState)
+    (found : Option HostState) →
+    ((old : HostState) → found ≡ Some old → row_of old.rows number ≡ row_of store number) →
     IsSomeAnd found (λ old. IsAsBefore exposure old state) → ¬ FieldIsAffected exposure (record { 0 = number }) →
     row_of state.rows number ≡ row_of store number
 stands_from exposure number store state None start stays apart = absurd stays
@@ -54,12 +54,12 @@ fields_stand code exposure rows bad store world stays number field state there a
 
 -- ---- a root that misbehaves never halts
 
-never_halts : (found first : Option HostShape) (P : HostShape → HostShape → Type 0) →
-    ((state : HostShape) → found ≡ Some state → IsSomeAnd first (λ old. P old state)) → first ≡ None →
+never_halts : (found first : Option HostState) (P : HostState → HostState → Type 0) →
+    ((state : HostState) → found ≡ Some state → IsSomeAnd first (λ old. P old state)) → first ≡ None →
     ¬ IsSomeAnd found (λ host. IsTrue host.halted)
 never_halts None first P stays none halted = halted
 never_halts (Some state) first P stays none halted =
-    subst (λ (o : Option HostShape). IsSomeAnd o (λ old. P old state)) none (stays state refl)
+    subst (λ (o : Option HostState). IsSomeAnd o (λ old. P old state)) none (stays state refl)
 
 root_runs : (code : CodeShape) (exposure : Exposure) (rows : List declared_hosts.HostShape) (bad : ℕ)
     (store : List (List ℤ)) (world : WorldShape) → bit_at bad code.root.0 ≡ 1 →
@@ -137,7 +137,7 @@ module _ (laws : AreSplitLaws) (program : Program) (placed : PlacedProgram) (bad
 
   pub follows_nothing : (events : List Event) (world : WorldShape) →
       IsReached (split_code placed) placed.hosts.hosts bad store events world →
-      FollowsAltered program (exposure_of placed bad) (split_code placed) placed.hosts.hosts bad store events world
+      WorldFollowsAltered program (exposure_of placed bad) (split_code placed) placed.hosts.hosts bad store events world
   follows_nothing events world reach =
       let code = split_code placed in
       let exposure = exposure_of placed bad in

@@ -21,10 +21,10 @@ use Rattle.host_code.specs.declared.message.Message.{Message}
 use Rattle.host_code.specs.declared.message.Message.TheVariants as message
 use Rattle.host_code.specs.Thread.{ThreadShape}
 use Rattle.host_code.specs.Code.{CodeShape, CodeFieldShape, halt, field_at, entry_at, instruction_at}
-use Rattle.host_core.specs.Host.{HostShape, Outcome, with_running, with_one_ignored, with_token, with_temporary}
+use Rattle.host_core.specs.Host.{HostState, Outcome, with_running, with_one_ignored, with_token, with_temporary}
 use Rattle.host_core.specs.Host.{after_pop, after_entering, without_message, with_message, value_in_thread}
 use Rattle.host_core.specs.Host.{after_clearing, with_variables_set}
-use Rattle.host_core.specs.Taking.{IsTaking, Passes, after_taking, after_answer}
+use Rattle.host_core.specs.Taking.{IsTaking, PassesCheck, after_taking, after_answer}
 use Rattle.host_core.specs.Turn.{with_thread, PassesWith, IsTurn, IsTurnOf}
 use Rattle.host_core.specs.Turn.{IsRunning, after_operation, after_read, after_put}
 use Rattle.host_core.specs.Turn.{after_own_push, after_ask, after_go, after_go_with, after_own_call, after_return}
@@ -34,21 +34,21 @@ use Rattle.token_laws.proofs.Tests.{number_same}
 
 -- What a step makes of a stack where these tokens were presented. A new entry has a token with the next serial of its
 -- entry. No host halts but where the entry that ends the program was on top.
-pub data Restacks (presented : Token → Type 0) (old new : HostShape) : Type 0 where
+pub data Restacks (presented : Token → Type 0) (old new : HostState) : Type 0 where
   stays : new.entries ≡ old.entries → new.halted ≡ old.halted → Restacks presented old new
   pushes : (on_stack : StackEntry) → new.entries ≡ on_stack ∷ old.entries → new.halted ≡ old.halted →
       on_stack.token.serial ≡ slice_index old.serials on_stack.entry.0 → Restacks presented old new
   pops : (top : StackEntry) → old.entries ≡ top ∷ new.entries → presented top.token →
       (top.entry ≢ halt → new.halted ≡ old.halted) → Restacks presented old new
 
-either : (P : Token → Type 0) (old : HostShape) (b : Bool) (first second : Outcome) →
+either : (P : Token → Type 0) (old : HostState) (b : Bool) (first second : Outcome) →
     (b ≡ true → Restacks P old first.state) → Restacks P old second.state →
     Restacks P old (if b then first else second).state
 either P old true first second one other = one refl
 either P old false first second one other = other
 
 -- where fewer tokens are presented, of those that the top entry has
-pub restacks_by : (P Q : Token → Type 0) (old new : HostShape) →
+pub restacks_by : (P Q : Token → Type 0) (old new : HostState) →
     ((token : Token) → P token → top_token old.entries ≡ Some token → Q token) → Restacks P old new → Restacks Q old new
 restacks_by P Q old new each (stays is same) = stays is same
 restacks_by P Q old new each (pushes on_stack is same next) = pushes on_stack is same next
@@ -57,33 +57,33 @@ restacks_by P Q old new each (pops top is given same) = pops top is (each top.to
 -- ---- an entry that is taken off
 
 -- where a thread starts or ends, neither the stack nor whether the host has halted changes
-record IsSameStack (old new : HostShape) : Type 0 where
+record IsSameStack (old new : HostState) : Type 0 where
   entries : new.entries ≡ old.entries
   halts : new.halted ≡ old.halted
 
-entering_same : (host : HostShape) (there : Option Entry) (frame : FrameId) (token : Token) →
+entering_same : (host : HostState) (there : Option Entry) (frame : FrameId) (token : Token) →
     IsSameStack host (after_entering host there frame token)
 entering_same host None frame token = record { entries = refl; halts = refl }
 entering_same host (Some entry) frame token = record { entries = refl; halts = refl }
 
-popped_entries : (host : HostShape) (there : Option Entry) (frame : FrameId) (kept : Token) (halts : Bool) →
+popped_entries : (host : HostState) (there : Option Entry) (frame : FrameId) (kept : Token) (halts : Bool) →
     (if halts then record host { running = None; halted = true }
     else after_entering host there frame kept).entries ≡ host.entries
 popped_entries host there frame kept true = refl
 popped_entries host there frame kept false = (entering_same host there frame kept).entries
 
-popped_halted : (host : HostShape) (there : Option Entry) (frame : FrameId) (kept : Token) (halts : Bool) →
+popped_halted : (host : HostState) (there : Option Entry) (frame : FrameId) (kept : Token) (halts : Bool) →
     halts ≡ false → (if halts then record host { running = None; halted = true }
     else after_entering host there frame kept).halted ≡ host.halted
 popped_halted host there frame kept true is = absurd (cc)
 popped_halted host there frame kept false is = (entering_same host there frame kept).halts
 
-pops_top : (code : CodeShape) (P : Token → Type 0) (host : HostShape) (entries : List StackEntry) →
+pops_top : (code : CodeShape) (P : Token → Type 0) (host : HostState) (entries : List StackEntry) →
     host.entries ≡ entries → ((token : Token) → top_token entries ≡ Some token → P token) →
     Restacks P host (after_pop code host entries)
 pops_top code P host [] are given = stays refl refl
 pops_top code P host (top ∷ below) are given =
-    let bare : HostShape = record host { entries = below } in
+    let bare : HostState = record host { entries = below } in
     let left = popped_entries bare (entry_at code top.entry) top.frame top.kept (top.entry.0 == halt.0) in
     pops top (are ∙ ap (λ (list : List StackEntry). top ∷ list) (sym left)) (given top.token refl) (λ apart.
     popped_halted bare (entry_at code top.entry) top.frame top.kept (top.entry.0 == halt.0)
@@ -97,58 +97,58 @@ pops_top code P host (top ∷ below) are given =
 abbrev pub HeldIs : Option Token → Token → Type 0
 HeldIs held token = held ≡ Some token
 
-reads : (P : Token → Type 0) (host : HostShape) (thread : ThreadShape) (field : FieldId) (index : List Node)
+reads : (P : Token → Type 0) (host : HostState) (thread : ThreadShape) (field : FieldId) (index : List Node)
     (there : Option CodeFieldShape) → Restacks P host (after_read host thread field index there).state
 reads P host thread field index None = stays refl refl
 reads P host thread field index (Some there) =
     either P host (there.host.0 == host.me.0) _ _ (λ own. stays refl refl) (stays refl refl)
 
-puts : (P : Token → Type 0) (host : HostShape) (thread : ThreadShape) (field : FieldId) (index value : List Node)
+puts : (P : Token → Type 0) (host : HostState) (thread : ThreadShape) (field : FieldId) (index value : List Node)
     (there : Option CodeFieldShape) → Restacks P host (after_put host thread field index value there).state
 puts P host thread field index value None = stays refl refl
 puts P host thread field index value (Some there) =
     either P host (there.host.0 == host.me.0) _ _ (λ own. stays refl refl) (stays refl refl)
 
-pushes_own : (P : Token → Type 0) (host : HostShape) (thread : ThreadShape) (entry : EntryId) (held : Option Token) →
+pushes_own : (P : Token → Type 0) (host : HostState) (thread : ThreadShape) (entry : EntryId) (held : Option Token) →
     Restacks P host (after_own_push host thread entry held).state
 pushes_own P host thread entry None = stays refl refl
 pushes_own P host thread entry (Some held) = pushes _ refl refl refl
 
-asks : (P : Token → Type 0) (host : HostShape) (thread : ThreadShape) (entry : EntryId) (on : HostId)
+asks : (P : Token → Type 0) (host : HostState) (thread : ThreadShape) (entry : EntryId) (on : HostId)
     (held : Option Token) → Restacks P host (after_ask host thread entry on held).state
 asks P host thread entry on None = stays refl refl
 asks P host thread entry on (Some held) = stays refl refl
 
-goes : (P : Token → Type 0) (host : HostShape) (thread : ThreadShape) (frame : FrameId) (entry : EntryId) (on : HostId)
+goes : (P : Token → Type 0) (host : HostState) (thread : ThreadShape) (frame : FrameId) (entry : EntryId) (on : HostId)
     (held : Option Token) → Restacks P host (after_go host thread frame entry on held).state
 goes P host thread frame entry on None = stays refl refl
 goes P host thread frame entry on (Some held) = stays refl refl
 
-goes_with : (P : Token → Type 0) (host : HostShape) (thread : ThreadShape) (frame : FrameId) (entry : EntryId)
+goes_with : (P : Token → Type 0) (host : HostState) (thread : ThreadShape) (frame : FrameId) (entry : EntryId)
     (on : HostId) (riders : List VarId) (held : Option Token) →
     Restacks P host (after_go_with host thread frame entry on riders held).state
 goes_with P host thread frame entry on riders None = stays refl refl
 goes_with P host thread frame entry on riders (Some held) = stays refl refl
 
-calls_own : (P : Token → Type 0) (host : HostShape) (thread : ThreadShape) (there : Option Entry) →
+calls_own : (P : Token → Type 0) (host : HostState) (thread : ThreadShape) (there : Option Entry) →
     Restacks P host (after_own_call host thread there).state
 calls_own P host thread None = stays refl refl
 calls_own P host thread (Some there) = stays refl refl
 
-gives_result : (P : Token → Type 0) (host : HostShape) (thread : ThreadShape) (x : VarId) (value : List Node)
+gives_result : (P : Token → Type 0) (host : HostState) (thread : ThreadShape) (x : VarId) (value : List Node)
     (held : Option Token) (passes : Bool) → Restacks P host (after_return host thread x value held passes).state
 gives_result P host thread x value None passes = stays refl refl
 gives_result P host thread x value (Some held) passes =
     either P host (held.host.0 == host.me.0) _ _ (λ own. stays refl refl)
     (either P host passes _ _ (λ is. stays refl refl) (stays refl refl))
 
-either_state : (P : Token → Type 0) (old : HostShape) (b : Bool) (first second : HostShape) →
+either_state : (P : Token → Type 0) (old : HostState) (b : Bool) (first second : HostState) →
     (b ≡ true → Restacks P old first) → Restacks P old second → Restacks P old (if b then first else second)
 either_state P old true first second one other = one refl
 either_state P old false first second one other = other
 
 -- what else there is in the state before is nothing to the stack
-from_bare : (P : Token → Type 0) (bare host new : HostShape) → bare.entries ≡ host.entries →
+from_bare : (P : Token → Type 0) (bare host new : HostState) → bare.entries ≡ host.entries →
     bare.halted ≡ host.halted → bare.serials ≡ host.serials → Restacks P bare new → Restacks P host new
 from_bare P bare host new entries halts serials (stays is same) = stays (is ∙ entries) (same ∙ halts)
 from_bare P bare host new entries halts serials (pushes on_stack is same next) =
@@ -157,15 +157,15 @@ from_bare P bare host new entries halts serials (pushes on_stack is same next) =
 from_bare P bare host new entries halts serials (pops top is given same) =
     pops top (sym entries ∙ is) given (λ apart. same apart ∙ halts)
 
-gives_back : (code : CodeShape) (host : HostShape) (thread : ThreadShape) (held : Option Token) (passes : Bool) →
+gives_back : (code : CodeShape) (host : HostState) (thread : ThreadShape) (held : Option Token) (passes : Bool) →
     (IsTrue passes → PassesWith code host op.Back held) →
     Restacks (HeldIs held) host (after_back code host thread held passes).state
 gives_back code host thread None passes check = stays refl refl
 gives_back code host thread (Some held) passes check =
     let P : Token → Type 0 = HeldIs (Some held) in
     let bare = with_running host None in
-    let popped : HostShape = after_pop code bare host.entries in
-    let ignored : HostShape = with_one_ignored bare in
+    let popped : HostState = after_pop code bare host.entries in
+    let ignored : HostState = with_one_ignored bare in
     either P host (held.host.0 == host.me.0) (without_message (if passes then popped else ignored))
     (with_message bare held.host (message.Lgoto held))
     (λ own. either_state P host passes popped ignored (λ is.
@@ -177,7 +177,7 @@ gives_back code host thread (Some held) passes check =
 abbrev BackWith : Op → ThreadShape → Token → Type 0
 BackWith it thread token = (it ≡ op.Back) × HeldIs thread.held token
 
-operation : (code : CodeShape) (host : HostShape) (thread : ThreadShape) (it : Op) (passes : Bool) →
+operation : (code : CodeShape) (host : HostState) (thread : ThreadShape) (it : Op) (passes : Bool) →
     (IsTrue passes → PassesWith code host it thread.held) →
     Restacks (BackWith it thread) host (after_operation code host thread it passes).state
 operation code host thread (op.Read field index) passes check = reads _ host thread field index (field_at code field)
@@ -213,7 +213,7 @@ abbrev pub GivesItBack : CodeShape → HostId → Token → ThreadShape → Type
 GivesItBack code me token thread = (thread.held ≡ Some token) × (instruction : Instr)
     × (instruction_at code me thread.at ≡ Some instruction) × (instruction.op ≡ op.Back)
 
-running_restacks : (code : CodeShape) (host : HostShape) (thread : ThreadShape) (there : Option Instr)
+running_restacks : (code : CodeShape) (host : HostState) (thread : ThreadShape) (there : Option Instr)
     (outcome : Outcome) → instruction_at code host.me thread.at ≡ there →
     IsRunning code host thread there outcome →
     Restacks (λ token. GivesItBack code host.me token thread) host outcome.state
@@ -239,7 +239,7 @@ pub held_back : (code : CodeShape) (me : HostId) (running : Option ThreadShape) 
 held_back code me None token back = back
 held_back code me (Some thread) token back = back.0
 
-turn_of : (code : CodeShape) (host : HostShape) (running : Option ThreadShape) (outcome : Outcome) →
+turn_of : (code : CodeShape) (host : HostState) (running : Option ThreadShape) (outcome : Outcome) →
     IsTurnOf code host running outcome → Restacks (RunsBack code host.me running) host outcome.state
 turn_of code host None outcome step =
     subst (λ (o : Outcome). Restacks (RunsBack code host.me None) host o.state) step (stays refl refl)
@@ -248,11 +248,11 @@ turn_of code host (Some thread) outcome step =
     from_bare (RunsBack code host.me (Some thread)) bare host outcome.state refl refl refl
     (running_restacks code bare thread (instruction_at code host.me thread.at) outcome refl step)
 
-pub back_restacks : (code : CodeShape) (host : HostShape) (outcome : Outcome) → IsTurn code host outcome →
+pub back_restacks : (code : CodeShape) (host : HostState) (outcome : Outcome) → IsTurn code host outcome →
     Restacks (RunsBack code host.me host.running) host outcome.state
 back_restacks code host outcome step = turn_of code host host.running outcome step
 
-pub turn_restacks : (code : CodeShape) (host : HostShape) (outcome : Outcome) → IsTurn code host outcome →
+pub turn_restacks : (code : CodeShape) (host : HostState) (outcome : Outcome) → IsTurn code host outcome →
     Restacks (RunsWith host.running) host outcome.state
 turn_restacks code host outcome step =
     restacks_by (RunsBack code host.me host.running) (RunsWith host.running) host outcome.state
@@ -264,16 +264,16 @@ turn_restacks code host outcome step =
 abbrev pub GivesBack : Message → Token → Type 0
 GivesBack m token = m ≡ message.Lgoto token
 
-answered_same : (host : HostShape) (place : Option ℕ) (answered : ThreadShape → ThreadShape) →
+answered_same : (host : HostState) (place : Option ℕ) (answered : ThreadShape → ThreadShape) →
     IsSameStack host (after_answer host place answered)
 answered_same host None answered = record { entries = refl; halts = refl }
 answered_same host (Some place) answered = record { entries = refl; halts = refl }
 
-stays_same : (P : Token → Type 0) (old new : HostShape) → IsSameStack old new → Restacks P old new
+stays_same : (P : Token → Type 0) (old new : HostState) → IsSameStack old new → Restacks P old new
 stays_same P old new same = stays same.entries same.halts
 
-takes : (code : CodeShape) (host : HostShape) (from : HostId) (m : Message) (passes : Bool) →
-    (IsTrue passes → Passes code host from m) →
+takes : (code : CodeShape) (host : HostState) (from : HostId) (m : Message) (passes : Bool) →
+    (IsTrue passes → PassesCheck code host from m) →
     Restacks (GivesBack m) host (after_taking code host from m passes).state
 takes code host from m false check = stays refl refl
 takes code host from (message.Get request field index) true check = stays refl refl
@@ -285,7 +285,7 @@ takes code host from (message.Rgoto frame entry token) true check =
 takes code host from (message.RgotoWith frame entry token riders) true check =
     let same = entering_same (with_variables_set host frame riders) (entry_at code entry) frame token in
     let rode = sym (riding_is host frame riders) in
-    stays (same.entries ∙ ap (λ (h : HostShape). h.entries) rode) (same.halts ∙ ap (λ (h : HostShape). h.halted) rode)
+    stays (same.entries ∙ ap (λ (h : HostState). h.entries) rode) (same.halts ∙ ap (λ (h : HostState). h.halted) rode)
 takes code host from (message.Lgoto token) true check =
     pops_top code (GivesBack (message.Lgoto token)) host host.entries refl (λ other top.
     let same : Some token ≡ Some other = sym (check refl) ∙ top in
@@ -297,7 +297,7 @@ takes code host from (message.Ack request) true check = stays_same _ host _ (ans
 takes code host from (message.Token request token) true check =
     stays_same _ host _ (answered_same host _ (with_token (Some token)))
 
-pub taking_restacks : (code : CodeShape) (host : HostShape) (from : HostId) (m : Message) (outcome : Outcome) →
+pub taking_restacks : (code : CodeShape) (host : HostState) (from : HostId) (m : Message) (outcome : Outcome) →
     IsTaking code host from m outcome → Restacks (GivesBack m) host outcome.state
 taking_restacks code host from m outcome step =
     subst (λ (o : Outcome). Restacks (GivesBack m) host o.state) step.2 (takes code host from m step.0 step.1.0)

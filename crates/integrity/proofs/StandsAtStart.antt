@@ -12,12 +12,12 @@ use Rattle.capability.specs.declared.token.Token.{Token}
 use Rattle.host_code.specs.declared.code.Entry.{Entry}
 use Rattle.host_code.specs.Code.{CodeShape, entry_at}
 use Rattle.host_code.specs.Thread.{ThreadShape}
-use Rattle.host_core.specs.Host.{HostShape, after_entering, after_push, new_token}
+use Rattle.host_core.specs.Host.{HostState, after_entering, after_push, new_token}
 use Rattle.host_code.specs.Code.{halt}
 use Rattle.host_core.specs.Start.{main_frame, last_token, idle_host, root_host}
 use Rattle.net_world.specs.World.{world_at_start, state_at}
 use Rattle.typed_steps.specs.Views.{Split, View}
-use Rattle.typed_steps.specs.Variables.{AreFresh, Sends, Holds}
+use Rattle.typed_steps.specs.Variables.{AreFresh, HasWhatIsOwed, HostsHold}
 use Rattle.typed_steps.proofs.MainStart.{calls_at_start, naming_at_start, view_at_start}
 use Rattle.typed_steps.proofs.MainStart.{main_plain}
 use Rattle.typed_steps.proofs.MainStart.{main_apart, main_at}
@@ -29,7 +29,7 @@ use Rattle.integrity.proofs.TightStart.{started, first_thread, root_state, tight
 
 -- ---- what all hosts have
 
-entered_variables : (host : HostShape) (found : Option Entry) (frame : FrameId) (token : Token) →
+entered_variables : (host : HostState) (found : Option Entry) (frame : FrameId) (token : Token) →
     (after_entering host found frame token).variables ≡ host.variables
 entered_variables host None frame token = refl
 entered_variables host (Some entry) frame token = refl
@@ -45,11 +45,11 @@ variables_if code store key host false = refl
 
 -- no variable was set
 unset_there : (code : CodeShape) (rows : List declared_hosts.HostShape) (bad : ℕ) (store : List (List ℤ))
-    (host : HostId) (state : HostShape) → state_at (world_at_start code rows bad store) host ≡ Some state →
+    (host : HostId) (state : HostState) → state_at (world_at_start code rows bad store) host ≡ Some state →
     state.variables ≡ (λ frame x. pos 0)
 unset_there code rows bad store host state there =
     let it = started code rows bad store host state there in
-    ap (λ (s : HostShape). s.variables) it.is ∙ variables_if code store it.key host (host.0 == code.root.0)
+    ap (λ (s : HostState). s.variables) it.is ∙ variables_if code store it.key host (host.0 == code.root.0)
 
 fresh_frames : (split : Split) (rows : List declared_hosts.HostShape) (bad : ℕ) (store : List (List ℤ)) →
     AreFresh split (naming_at_start split) (world_at_start split.code rows bad store)
@@ -62,7 +62,7 @@ fresh_frames split rows bad store host state site count at there least =
     }
 
 holds_at_start : (split : Split) (rows : List declared_hosts.HostShape) (bad : ℕ) (store : List (List ℤ))
-    (key : List ℕ) → Holds split (configuration_at_start split.program store) (view_at_start split store key)
+    (key : List ℕ) → HostsHold split (configuration_at_start split.program store) (view_at_start split store key)
     (world_at_start split.code rows bad store)
 holds_at_start split rows bad store key = record {
   fields = λ number field s there at. inl (fields_at_start split.code rows bad store number field s there at);
@@ -88,7 +88,7 @@ holds_at_start split rows bad store key = record {
 -- ---- the start as a whole
 
 pub stands_at_start : (split : Split) (rows : List declared_hosts.HostShape) (bad : ℕ) (store : List (List ℤ))
-    (state : HostShape) → state_at (world_at_start split.code rows bad store) split.code.root ≡ Some state →
+    (state : HostState) → state_at (world_at_start split.code rows bad store) split.code.root ≡ Some state →
     (view : View) × (thread : ThreadShape)
     × StandsBy split (configuration_at_start split.program store) view (runs split.code.root thread)
     (world_at_start split.code rows bad store)
@@ -103,7 +103,7 @@ stands_at_start split rows bad store state obeys =
       record {
         tight = tight_root (threat_in split) rows bad store state obeys it;
         holds = holds_at_start split rows bad store it.key;
-        sends = some_of (state_at world root) (λ s. Sends split
+        sends = some_of (state_at world root) (λ s. HasWhatIsOwed split
             (view_at_start split store it.key) s root) state obeys tt;
         does = ((refl, refl), main_at split store it.there it.found it.on_root it.key);
         halts = λ has.

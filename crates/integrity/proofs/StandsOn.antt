@@ -5,19 +5,19 @@ use Rattle.std.specs.Prelude.{slice_set, IsTrue}
 use Rattle.js_base.specs.declared.ids.HostId.{HostId}
 use Rattle.js_base.specs.declared.ids.FrameId.{FrameId}
 use Rattle.jif_tree.specs.SourceRun.{Configuration}
-use Rattle.host_core.specs.Host.{HostShape}
+use Rattle.host_core.specs.Host.{HostState}
 use Rattle.event_text.specs.declared.event.Event.{Event}
 use Rattle.net_world.specs.Fits.{HasOwnToken}
 use Rattle.net_world.specs.World.{WorldShape, IsStep, state_at, has_halted, world_at_start}
 use Rattle.split_rules.specs.Placed.{PlacedProgram}
 use Rattle.split_rules.specs.Positions.{Forward}
-use Rattle.typed_steps.specs.Variables.{CanSend, AreSent, Sends}
+use Rattle.typed_steps.specs.Variables.{CanSend, AreSent, HasWhatIsOwed}
 use Rattle.typed_steps.proofs.Basics.{all_map}
 use Rattle.typed_steps.specs.Views.{Split, View, entries_of}
 use Rattle.typed_steps.proofs.Alike.{alike_both}
 use Rattle.typed_steps.proofs.HeldSteps.{holds_kept}
 use Rattle.integrity.specs.Exposed.{IsAsBefore}
-use Rattle.integrity.specs.Holding.{Holder, runs, asked, answered, stuck, passes, lost, halted, IsOwn, IsTight}
+use Rattle.integrity.specs.Holding.{Holder, runs, asked, answered, stuck, passes, lost, halted, IsHoldersEvent, IsTight}
 use Rattle.integrity.specs.Standing.{threat_in, HasSends, HolderSends, StandsBy}
 use Rattle.net_world.proofs.Moved.{either}
 use Rattle.integrity.proofs.Among.{one_of_some, some_of}
@@ -37,7 +37,7 @@ use Rattle.split_rules.specs.Splittable.{IsSplittable}
 use Rattle.split_rules.specs.TypedCode.{IsTypedCode}
 
 -- what is still to be sent has the values that it had, or may be affected
-sent_kept : (split : Split) (values : ℕ → ℤ) (frame : FrameId) (old new : HostShape) (host : HostId)
+sent_kept : (split : Split) (values : ℕ → ℤ) (frame : FrameId) (old new : HostState) (host : HostId)
     (out : List Forward) → IsAsBefore split.exposure old new → AreSent split values (old.variables frame) host out →
     AreSent split values (new.variables frame) host out
 sent_kept split values frame old new host out before sent =
@@ -52,7 +52,8 @@ has_sends : (split : Split) (c : Configuration) (view : View) (holder : Holder) 
     HasSends split view world host → HasSends split view after host
 has_sends split c view holder world after host leaves has =
     let move = leaves.alone in
-    on_some world after move.me host move.old move.new move.obeys move.puts (λ state. Sends split view state host) has
+    on_some world after move.me host move.old move.new move.obeys move.puts
+    (λ state. HasWhatIsOwed split view state host) has
     (λ is. sent_kept split (view.values view.sender) (view.naming.frame view.sender) move.old move.new host view.out
     leaves.stays)
 
@@ -72,7 +73,7 @@ sends_after split c view lost world after leaves has = tt
 sends_after split c view halted world after leaves has = tt
 
 -- a host that has halted had halted before
-pub halted_before : (world after : WorldShape) (root me : HostId) (old new : HostShape) →
+pub halted_before : (world after : WorldShape) (root me : HostId) (old new : HostState) →
     state_at world me ≡ Some old → after.hosts ≡ slice_set world.hosts me.0 (Some new) → new.halted ≡ old.halted →
     has_halted root after → has_halted root world
 halted_before world after root me old new obeys puts same has =
@@ -80,7 +81,7 @@ halted_before world after root me old new obeys puts same has =
     elim (either world after me old new after.flying obeys (record { hosts = puts; flying = refl }) root at.one at.is) [
       | inl mover ↦
           some_of (state_at world root) (λ s. IsTrue s.halted) old (ap (state_at world) mover.same ∙ obeys)
-          (sym same ∙ ap (λ (s : HostShape). s.halted) (sym mover.is) ∙ at.has)
+          (sym same ∙ ap (λ (s : HostState). s.halted) (sym mover.is) ∙ at.has)
       | inr other ↦ some_of (state_at world root) (λ s. IsTrue s.halted) at.one other.obeys at.has
     ]
 
@@ -121,7 +122,7 @@ pub stands_kept : AreLaws → (split : Split) (placed : PlacedProgram) (bad : �
     threat_in split ≡ threat_of placed split.table bad → IsSplittable placed →
     IsAllowed placed → IsReached split.code placed.hosts.hosts bad store events world →
     HasOwnToken (world_at_start split.code placed.hosts.hosts bad store) event → IsStep split.code world event after →
-    StandsBy split c view holder world → ¬ IsOwn holder world event → StandsBy split c view holder after
+    StandsBy split c view holder world → ¬ IsHoldersEvent holder world event → StandsBy split c view holder after
 stands_kept laws split placed bad store events world after event c view holder same splittable
     allowed reach own step stands apart =
     let threat = threat_in split in

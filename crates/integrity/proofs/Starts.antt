@@ -14,7 +14,7 @@ use Rattle.capability.specs.declared.token.Token.{Token}
 use Rattle.host_code.specs.declared.code.Entry.{Entry}
 use Rattle.host_code.specs.Code.{CodeShape, CodeFieldShape, halt, entry_at}
 use Rattle.host_stores.specs.Stores.{own_rows}
-use Rattle.host_core.specs.Host.{HostShape, after_entering, after_push, new_token}
+use Rattle.host_core.specs.Host.{HostState, after_entering, after_push, new_token}
 use Rattle.host_core.specs.Start.{idle_host, root_host, main_frame, last_token, host_at_start}
 use Rattle.net_world.specs.World.{given, hosts_before, state_at, world_at_start}
 use Rattle.token_laws.proofs.Tests.{number_same}
@@ -34,7 +34,7 @@ own_row_there host store n (first ∷ fields) zero field there same =
 own_row_there host store n (first ∷ fields) (suc k) field there same =
     own_row_there host store (n + 1) fields k field there same ∙ ap (row_of store) (omega arith)
 
-entered_rows : (host : HostShape) (found : Option Entry) (frame : FrameId) (token : Token) →
+entered_rows : (host : HostState) (found : Option Entry) (frame : FrameId) (token : Token) →
     (after_entering host found frame token).rows ≡ host.rows
 entered_rows host None frame token = refl
 entered_rows host (Some entry) frame token = refl
@@ -49,16 +49,16 @@ first_rows code store key me true =
 first_rows code store key me false = refl
 
 rows_if : (code : CodeShape) (store : List (List ℤ)) (key : List ℕ) (me : HostId) (misbehaves : Bool)
-    (state : HostShape) → given (Some (if misbehaves then None else Some
+    (state : HostState) → given (Some (if misbehaves then None else Some
     (host_at_start code store key me))) ≡ Some state →
     state.rows ≡ own_rows me store 0 code.fields
 rows_if code store key me true state is = absurd (cc)
 rows_if code store key me false state is =
     let same : host_at_start code store key me ≡ state = cc in
-    ap (λ (s : HostShape). s.rows) (sym same) ∙ first_rows code store key me (me.0 == code.root.0)
+    ap (λ (s : HostState). s.rows) (sym same) ∙ first_rows code store key me (me.0 == code.root.0)
 
 rows_before : (code : CodeShape) (store : List (List ℤ)) (bad number : ℕ) (rows : List declared_hosts.HostShape)
-    (place at : ℕ) (state : HostShape) → at ≡ number + place →
+    (place at : ℕ) (state : HostState) → at ≡ number + place →
     given (slice_get (hosts_before code store bad number rows) place) ≡ Some state →
     state.rows ≡ own_rows (record { 0 = at }) store 0 code.fields
 rows_before code store bad number [] place at state is there = absurd (cc)
@@ -71,7 +71,7 @@ rows_before code store bad number (row ∷ rows) (suc place) at state is there =
 
 -- each field has on its host what the store has
 pub fields_at_start : (code : CodeShape) (rows : List declared_hosts.HostShape) (bad : ℕ) (store : List (List ℤ))
-    (number : ℕ) (field : CodeFieldShape) (state : HostShape) → slice_get code.fields number ≡ Some field →
+    (number : ℕ) (field : CodeFieldShape) (state : HostState) → slice_get code.fields number ≡ Some field →
     state_at (world_at_start code rows bad store) field.host ≡ Some state →
     row_of state.rows number ≡ row_of store number
 fields_at_start code rows bad store number field state there at =

@@ -9,17 +9,17 @@ use Rattle.ics_stack.specs.declared.stack.StackEntry.{StackEntry}
 use Rattle.ics_stack.specs.Stack.{top_token}
 use Rattle.host_code.specs.declared.message.Message.{Message}
 use Rattle.host_code.specs.Thread.{WaitingShape}
-use Rattle.host_core.specs.Host.{HostShape}
+use Rattle.host_core.specs.Host.{HostState}
 use Rattle.event_text.specs.declared.event.Event.{Event}
 use Rattle.event_text.specs.declared.event.Event.TheVariants.{Take}
 use Rattle.net_world.specs.Flying.{Flight}
 use Rattle.net_world.specs.Told.{token_in}
 use Rattle.net_world.specs.World.{WorldShape, IsTakeStep, state_at}
 use Rattle.net_world.proofs.Fitting.{bad_differs}
-use Rattle.token_laws.specs.Holders.{HoldsAt, IsSent, in_flight}
+use Rattle.token_laws.specs.Holders.{HoldsAt, IsTokenSent, in_flight}
 use Rattle.token_laws.specs.Numbers.{CodeHasNumbers, RowsHaveNumbers, EventHasNumbers}
 use Rattle.token_laws.specs.Reached.{IsReached}
-use Rattle.token_laws.specs.Requests.{Spot, number_asked, number_answered}
+use Rattle.token_laws.specs.Requests.{FlightSpot, number_asked, number_answered}
 use Rattle.token_laws.proofs.AskedLaws.{one_under_way, ends_obey}
 use Rattle.token_laws.proofs.HeldLaws.{held_once}
 use Rattle.token_laws.proofs.Walks.{fits_there, one_more}
@@ -30,7 +30,7 @@ use Rattle.typed_steps.specs.Views.{Split, View, entries_of}
 use Rattle.typed_steps.proofs.Pops.{top_of}
 use Rattle.integrity.specs.Exposed.{bad_labels}
 use Rattle.integrity.specs.Holding.{IsAmong, Holder, runs, asked, answered}
-use Rattle.integrity.specs.Holding.{stuck, passes, lost, halted, IsOwn, OwnsMessage}
+use Rattle.integrity.specs.Holding.{stuck, passes, lost, halted, IsHoldersEvent, OwnsMessage}
 use Rattle.integrity.specs.Holding.{IsStanding}
 use Rattle.integrity.specs.Standing.{threat_in, StandsBy, Goes}
 use Rattle.integrity.proofs.Among.{each_among, one_of_some, some_of}
@@ -49,17 +49,17 @@ IsOnly holder world from to place =
 
 pub state_of : (world : WorldShape) (host : HostId) (w : WaitingShape) →
     IsSomeAnd (state_at world host) (λ s. IsAmong s.waiting w) →
-    (state : HostShape) × (state_at world host ≡ Some state)
+    (state : HostState) × (state_at world host ≡ Some state)
 state_of world host w waits =
     let at = one_of_some (state_at world host) (λ s. IsAmong s.waiting w) waits in (at.one, at.is)
 
 pub asked_only : (split : Split) (world : WorldShape) → IsLawful (threat_in split) world → (host : HostId)
-    (w : WaitingShape) (m : Message) (state : HostShape) → state_at world host ≡ Some state → (place : ℕ)
+    (w : WaitingShape) (m : Message) (state : HostState) → state_at world host ≡ Some state → (place : ℕ)
     (taken : Flight) → slice_get (world.flying host w.asked) place ≡ Some taken →
     number_asked taken.message ≡ Some w.request → IsOnly (asked host w m) world host w.asked place
 asked_only split world is host w m state obeys place taken there number one other k flight at own =
-    let first : Spot = record { from = host; to = w.asked; place = k } in
-    let second : Spot = record { from = host; to = w.asked; place = place } in
+    let first : FlightSpot = record { from = host; to = w.asked; place = k } in
+    let second : FlightSpot = record { from = host; to = w.asked; place = place } in
     let Asks : Flight → Type 0 = λ f. number_asked f.message ≡ Some w.request in
     let here : slice_get (world.flying host w.asked) k ≡ Some flight =
     ap (λ h. slice_get (world.flying host h) k) (sym own.1) ∙ ap (λ h. slice_get (world.flying h other) k) (sym own.0)
@@ -68,15 +68,15 @@ asked_only split world is host w m state obeys place taken there number one othe
     one_under_way world host w.asked w.asked state w.request first second (is.asked.hosts host state obeys)
     (inl (refl, refl, some_of (slice_get (world.flying host w.asked) k) Asks flight here own.2))
     (inl (refl, refl, some_of (slice_get (world.flying host w.asked) place) Asks taken there number)) in
-    (own.0, own.1, ap (λ (s : Spot). s.place) same)
+    (own.0, own.1, ap (λ (s : FlightSpot). s.place) same)
 
 pub answered_only : (split : Split) (world : WorldShape) → IsLawful (threat_in split) world → (host : HostId)
-    (w : WaitingShape) (m : Message) (state : HostShape) → state_at world host ≡ Some state → (place : ℕ)
+    (w : WaitingShape) (m : Message) (state : HostState) → state_at world host ≡ Some state → (place : ℕ)
     (taken : Flight) → slice_get (world.flying w.asked host) place ≡ Some taken →
     number_answered taken.message ≡ Some w.request → IsOnly (answered host w m) world w.asked host place
 answered_only split world is host w m state obeys place taken there number one other k flight at own =
-    let first : Spot = record { from = w.asked; to = host; place = k } in
-    let second : Spot = record { from = w.asked; to = host; place = place } in
+    let first : FlightSpot = record { from = w.asked; to = host; place = k } in
+    let second : FlightSpot = record { from = w.asked; to = host; place = place } in
     let Answers : Flight → Type 0 = λ f. number_answered f.message ≡ Some w.request in
     let here : slice_get (world.flying w.asked host) k ≡ Some flight =
     ap (λ h. slice_get (world.flying w.asked h) k) (sym own.1) ∙ ap (λ h. slice_get (world.flying h other) k)
@@ -86,7 +86,7 @@ answered_only split world is host w m state obeys place taken there number one o
     one_under_way world host w.asked w.asked state w.request first second (is.asked.hosts host state obeys)
     (inr (refl, refl, some_of (slice_get (world.flying w.asked host) k) Answers flight here own.2))
     (inr (refl, refl, some_of (slice_get (world.flying w.asked host) place) Answers taken there number)) in
-    (own.0, own.1, ap (λ (s : Spot). s.place) same)
+    (own.0, own.1, ap (λ (s : FlightSpot). s.place) same)
 
 -- the token of the first entry is in flight once
 passed_once : (split : Split) (world : WorldShape) → IsLawful (threat_in split) world → (list : List StackEntry)
@@ -103,7 +103,7 @@ passed_once split world is (e ∷ list) token standing top from to k place first
     let spot =
     held_once split.code world token (in_flight from to k) (in_flight from to place)
     (tokens_known (threat_in split) world is) obeys (subst (λ
-    (t : Token). ¬ IsSent world t) same it.unsent) first second in
+    (t : Token). ¬ IsTokenSent world t) same it.unsent) first second in
     cc
 
 pub passes_only : (split : Split) (c : Configuration) (view : View) (world : WorldShape) →
@@ -207,7 +207,8 @@ module _ (split : Split) (rows : List declared_hosts.HostShape) (bad : ℕ) (sto
   taken_by halted from to place stands step own = absurd own
 
   pub holder_taken : (holder : Holder) (from to : HostId) (place : ℕ) → StandsBy split c view holder world →
-      IsTakeStep split.code world from to place after → IsOwn holder world (Take from to place) → Goes split c after
+      IsTakeStep split.code world from to place after → IsHoldersEvent holder world (Take from to place) →
+      Goes split c after
   holder_taken holder from to place stands step own =
       taken_by holder from to place stands step
       (subst (λ o. IsSomeAnd o (λ f. OwnsMessage holder from to f.message)) step.there own)

@@ -18,7 +18,7 @@ use Rattle.host_code.specs.declared.message.Message.TheVariants as message
 use Rattle.host_code.specs.Thread.{WaitingShape, Awaited}
 use Rattle.host_code.specs.Thread.Awaited.{value_of_field, acknowledgement, token_of_entry}
 use Rattle.host_core.specs.Awaiting.{awaits, is_same_answer}
-use Rattle.host_core.specs.Host.{HostShape}
+use Rattle.host_core.specs.Host.{HostState}
 use Rattle.host_core.specs.Taking.{place_of_awaiting}
 use Rattle.net_world.specs.Fits.{ShapeFits}
 use Rattle.net_world.specs.Flying.{Flight, Flying}
@@ -30,10 +30,10 @@ use Rattle.token_laws.proofs.AskedLaws.{waits_once}
 use Rattle.token_laws.proofs.EachFlight.{of_state}
 use Rattle.token_laws.proofs.Tests.{number_same}
 use Rattle.token_laws.proofs.WorldTokens.{Accounts}
-use Rattle.typed_steps.specs.Requests.{IsAnswer}
+use Rattle.typed_steps.specs.Requests.{IsAnswerTo}
 use Rattle.typed_steps.specs.Values.{HoldsNumbers}
 use Rattle.typed_steps.specs.Views.{Split, View, entries_of}
-use Rattle.integrity.specs.Holding.{IsAmong, Holder, halted, first_of, Flies}
+use Rattle.integrity.specs.Holding.{IsAmong, Holder, halted, first_of, MessageFlies}
 use Rattle.integrity.specs.Holding.{OwnsMessage, StateIsOutside, IsStanding}
 use Rattle.integrity.specs.Outside.{Threat, MessageIsOpen}
 use Rattle.integrity.specs.Standing.{threat_in, StandsBy}
@@ -130,7 +130,7 @@ within p (y ∷ xs) zero x is holds =
 within p (y ∷ xs) (suc place) x is holds = within_later p y xs (p y) refl (within p xs place x is holds)
 
 -- the thread that waits for an answer from a host is at the place that is found
-pub waits_there : (threat : Threat) (world : WorldShape) → IsLawful threat world → (host : HostId) (state : HostShape)
+pub waits_there : (threat : Threat) (world : WorldShape) → IsLawful threat world → (host : HostId) (state : HostState)
     (waiting : WaitingShape) (place : ℕ) → state_at world host ≡ Some state →
     slice_get state.waiting place ≡ Some waiting →
     place_of_awaiting state waiting.awaited waiting.request waiting.asked ≡ Some place
@@ -155,14 +155,14 @@ waits_there threat world is host state waiting place obeys there =
 -- ---- answers
 
 pub answer_number : (split : Split) (c : Configuration) (view : View) (host : HostId) (waiting : WaitingShape)
-    (m : Message) → IsAnswer split c view host waiting m → number_answered m ≡ Some waiting.request
+    (m : Message) → IsAnswerTo split c view host waiting m → number_answered m ≡ Some waiting.request
 answer_number split c view host waiting (message.Value request value) is = ap (λ (r : RequestId). Some r) (sym is.1)
 answer_number split c view host waiting (message.Ack request) is = ap (λ (r : RequestId). Some r) (sym is.1)
 answer_number split c view host waiting (message.Token request token) is = ap (λ (r : RequestId). Some r) (sym is.1)
 answer_number split c view host waiting _ is = absurd is
 
 pub answer_top : (split : Split) (c : Configuration) (view : View) (host : HostId) (waiting : WaitingShape)
-    (m : Message) → IsAnswer split c view host waiting m →
+    (m : Message) → IsAnswerTo split c view host waiting m →
     first_of (token_in m) waiting.thread.held ≡ top_token (entries_of view.chain)
 answer_top split c view host waiting (message.Value request value) is = is.2.held
 answer_top split c view host waiting (message.Ack request) is = is.2.held
@@ -205,7 +205,7 @@ module _ (split : Split) (c : Configuration) (view : View) (holder : Holder) (wo
       ((without_flight world from to place).flying one other) (λ flight may. inr may) (left_open one other)
 
   -- the message that was taken is the holder's
-  pub taken_is : (m : Message) → Flies world from to m → OwnsMessage holder from to m → t.step.flight.message ≡ m
+  pub taken_is : (m : Message) → MessageFlies world from to m → OwnsMessage holder from to m → t.step.flight.message ≡ m
   taken_is m flies own =
       let at = t.only from to flies.among.0 flies.flight flies.among.1 (subst (OwnsMessage holder from to)
       (sym flies.is) own)
@@ -215,7 +215,7 @@ module _ (split : Split) (c : Configuration) (view : View) (holder : Holder) (wo
       (subst (λ n. slice_get (world.flying from to) n ≡ Some flies.flight) at.2 flies.among.1)) ∙ flies.is
 
   -- no host has halted
-  pub none_halted : (next : Holder) (new : HostShape) → (holder ≡ halted → ⊥) →
+  pub none_halted : (next : Holder) (new : HostState) → (holder ≡ halted → ⊥) →
       after.hosts ≡ slice_set world.hosts to.0 (Some new) → new.halted ≡ t.step.state.halted →
       has_halted split.code.root after → next ≡ halted
   none_halted next new goes puts same has =

@@ -14,7 +14,7 @@ use Rattle.ics_stack.specs.Stack.{top_token}
 use Rattle.host_code.specs.declared.message.Message.{Message}
 use Rattle.host_code.specs.declared.message.Message.TheVariants as message
 use Rattle.host_code.specs.Thread.{ThreadShape, WaitingShape, Awaited}
-use Rattle.host_core.specs.Host.{HostShape, with_message, without_message, with_running, after_asking}
+use Rattle.host_core.specs.Host.{HostState, with_message, without_message, with_running, after_asking}
 use Rattle.host_core.specs.Turn.{label_of_turn}
 use Rattle.event_text.specs.declared.event.Event.{Event}
 use Rattle.net_world.specs.Fits.{ShapeFits}
@@ -27,7 +27,7 @@ use Rattle.token_laws.proofs.EachFlight.{of_state}
 use Rattle.token_laws.proofs.WorldTokens.{Accounts}
 use Rattle.typed_steps.specs.Turns as turns
 use Rattle.typed_steps.specs.Turns.{waiting_for}
-use Rattle.typed_steps.specs.Variables.{Sends, Holds}
+use Rattle.typed_steps.specs.Variables.{HasWhatIsOwed, HostsHold}
 use Rattle.typed_steps.specs.Views.{entries_of, Split, View}
 use Rattle.typed_steps.specs.Chains.{IsChain}
 use Rattle.typed_steps.specs.Requests.{IsRequest}
@@ -37,7 +37,7 @@ use Rattle.integrity.specs.Exposed.{bad_labels}
 use Rattle.integrity.specs.Holding.{IsAmong, runs, stuck, halted, OwnsWaiting, OwnsMessage, StateIsOutside}
 use Rattle.integrity.specs.Holding.{IsStanding, IsTight}
 use Rattle.integrity.specs.Outside.{ThreadIsOpen, MessageIsOpen}
-use Rattle.integrity.specs.Standing.{threat_in, IsFor, StandsBy, SetsThere}
+use Rattle.integrity.specs.Standing.{threat_in, GoesOnWhatever, StandsBy, SetsThere}
 use Rattle.integrity.proofs.Elsewhere.{holds_elsewhere}
 use Rattle.integrity.proofs.HolderLaws.{HolderTurn, turn_of}
 use Rattle.integrity.proofs.Among.{each_among, some_of, last_at}
@@ -60,7 +60,7 @@ pub record Telling (split : Split) (c : Configuration) (view : View) (host : Hos
   pub fits : ShapeFits split.code after
   pub account : Accounts world after
   pub step : IsTurnStep split.code world host after
-  pub sends : Sends split view step.state host
+  pub sends : HasWhatIsOwed split view step.state host
   pub label : ℕ
   pub labels : label_of_turn split.code step.state ≡ Some label
   pub bad : misbehaves world to ≡ true
@@ -76,7 +76,7 @@ module _ (split : Split) (c : Configuration) (view : View) (host : HostId) (thre
   not_silent same = never_more world.sent (host, to, m) (sym t.told ∙ same)
 
   -- what is sent is what is told
-  sent_if : (new : HostShape) (other : HostId) (said : Message) → with_message new other said ≡ t.step.outcome →
+  sent_if : (new : HostState) (other : HostId) (said : Message) → with_message new other said ≡ t.step.outcome →
       (bad : Bool) → misbehaves world other ≡ bad → (other ≡ to) × (said ≡ m)
   sent_if new other said is true bad =
       let told =
@@ -91,11 +91,11 @@ module _ (split : Split) (c : Configuration) (view : View) (host : HostId) (thre
       after t.step.obeys good t.labels is t.step.leaves in
       absurd (not_silent posted.sent)
 
-  pub sent_is : (new : HostShape) (other : HostId) (said : Message) → with_message new other said ≡ t.step.outcome →
+  pub sent_is : (new : HostState) (other : HostId) (said : Message) → with_message new other said ≡ t.step.outcome →
       (other ≡ to) × (said ≡ m)
   sent_is new other said is = sent_if new other said is (misbehaves world other) refl
 
-  pub silent_never : (new : HostShape) → without_message new ≡ t.step.outcome → ⊥
+  pub silent_never : (new : HostState) → without_message new ≡ t.step.outcome → ⊥
   silent_never new is =
       not_silent
       (silent_sent world host t.step.outcome new (label_of_turn split.code t.step.state) after is t.step.leaves)
@@ -114,13 +114,15 @@ module _ (split : Split) (c : Configuration) (view : View) (host : HostId) (thre
   pub waits_for : (seen : View) (next : ThreadShape) (awaited : Awaited) →
       with_message (after_asking (with_running t.step.state None) thread.at next awaited to) to m ≡ t.step.outcome →
       entries_of view.chain ≡ entries_of seen.chain → IsChain split seen.naming seen.chain →
-      next.held ≡ top_token (entries_of view.chain) → Sends split seen t.step.state host → (now : Configuration) →
-      ((later : WorldShape) → Holds split c view later → misbehaves later to ≡ true → Holds split now seen later) →
-      IsFor split now seen host (waiting_for t.step.state thread.at next awaited to) awaited →
+      next.held ≡ top_token (entries_of view.chain) → HasWhatIsOwed split seen t.step.state host →
+      (now : Configuration) →
+      ((later : WorldShape) → HostsHold split c view later → misbehaves later to ≡ true →
+      HostsHold split now seen later) →
+      GoesOnWhatever split now seen host (waiting_for t.step.state thread.at next awaited to) awaited →
       StandsBy split now seen (stuck host (waiting_for t.step.state thread.at next awaited to)) after
   waits_for seen next awaited is same_chain is_chain top sends now holds ready =
       let old = t.step.state in
-      let new : HostShape = after_asking (with_running old None) thread.at next awaited to in
+      let new : HostState = after_asking (with_running old None) thread.at next awaited to in
       let w = waiting_for old thread.at next awaited to in
       let holder = stuck host w in
       let told =
@@ -172,7 +174,7 @@ module _ (split : Split) (c : Configuration) (view : View) (host : HostId) (thre
             }));
         holds = holds after (holds_same split c view world after host old new world.flying t.stands.holds t.step.obeys
             moved refl refl refl) bad;
-        sends = some_of (state_at after host) (λ s. Sends split seen s host) new there sends;
+        sends = some_of (state_at after host) (λ s. HasWhatIsOwed split seen s host) new there sends;
         does = (is_chain, ready);
         halts = λ has.
             let never : runs host thread ≡ halted =
@@ -198,11 +200,12 @@ module _ (split : Split) (c : Configuration) (view : View) (host : HostId) (thre
             sets.at.held t.sends sets.now (λ later holds bad.
             holds_elsewhere split c sets.now view later field to index value holds asks.3 bad sets.store sets.calls
             sets.plainly)
-            (subst (IsFor split sets.now view host (waiting_for t.step.state thread.at next awaited to)) (sym asks.0)
+            (subst (GoesOnWhatever split sets.now view host (waiting_for t.step.state thread.at next awaited to))
+            (sym asks.0)
             sets.at);
       }
 
-  another : (new : HostShape) (other : HostId) (said : Message) → with_message new other said ≡ t.step.outcome →
+  another : (new : HostState) (other : HostId) (said : Message) → with_message new other said ≡ t.step.outcome →
       said ≡ message.Set request field index value
   another new other said is =
       (sent_is split c view host thread world after to m t new other said is).1 ∙ is_set
@@ -213,7 +216,7 @@ module _ (split : Split) (c : Configuration) (view : View) (host : HostId) (thre
   told_by (turns.steps now does g) = absurd (silent_never split c view host thread world after to m t _ g.is)
   told_by (turns.asks a) =
       let same = sent_is split c view host thread world after to m t _ a.to a.asking a.is in
-      let new : HostId → HostShape =
+      let new : HostId → HostState =
       λ h. after_asking (with_running t.step.state None) thread.at a.next a.awaited h in
       let is : with_message (new to) to m ≡ t.step.outcome =
       subst (λ h. with_message (new h) h m ≡ t.step.outcome) same.0

@@ -19,7 +19,7 @@ use Rattle.token_laws.proofs.HeldLaws as tokens
 use Rattle.token_laws.proofs.Walks.{fits_there, one_more, own_there}
 use Rattle.token_laws.proofs.WorldTokens.{Accounts, account}
 use Rattle.integrity.specs.Exposed.{AreAsBefore, bad_labels}
-use Rattle.integrity.specs.Holding.{IsAmong, Holder, IsOwn, StateIsOutside, IsStanding, IsTight}
+use Rattle.integrity.specs.Holding.{IsAmong, Holder, IsHoldersEvent, StateIsOutside, IsStanding, IsTight}
 use Rattle.integrity.specs.Outside.{Threat, threat_of}
 use Rattle.integrity.proofs.Among.{each_among, all_among}
 use Rattle.integrity.proofs.HeldTokens.{StandsThere}
@@ -45,7 +45,7 @@ lawful threat rows bad store events world is reach = record {
 
 pub event_leaves : (threat : Threat) → IsKnown threat → (chain : List StackEntry) (holder : Holder)
     (world after : WorldShape) (event : Event) → IsLawful threat world → HasOwnToken world event →
-    IsStep threat.code world event after → IsTight threat chain holder world → ¬ IsOwn holder world event →
+    IsStep threat.code world event after → IsTight threat chain holder world → ¬ IsHoldersEvent holder world event →
     Leaves threat chain holder world after
 event_leaves threat known chain holder world after (Take from to place) is own step tight apart =
     take_leaves threat known chain holder world after from to place is step tight.there tight.outside apart
@@ -103,7 +103,7 @@ pub kept : AreLaws → (placed : PlacedProgram) (table : Table) (bad : ℕ) (sto
     IsReached (split_code placed) placed.hosts.hosts bad store events world →
     HasOwnToken (world_at_start (split_code placed) placed.hosts.hosts bad store) event →
     IsStep (split_code placed) world event after →
-    IsTight (threat_of placed table bad) chain holder world → ¬ IsOwn holder world event →
+    IsTight (threat_of placed table bad) chain holder world → ¬ IsHoldersEvent holder world event →
     StaysTight (threat_of placed table bad) chain holder world after
 kept laws placed table bad store events world after event chain holder splittable allowed typed reach
     own step tight apart =

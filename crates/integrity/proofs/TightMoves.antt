@@ -6,12 +6,12 @@ use Rattle.std.specs.List.{AllByRecursion}
 use Rattle.js_base.specs.declared.ids.HostId.{HostId}
 use Rattle.ics_stack.specs.declared.stack.StackEntry.{StackEntry}
 use Rattle.host_code.specs.Thread.{ThreadShape, WaitingShape}
-use Rattle.host_core.specs.Fits.{EntryFits}
-use Rattle.host_core.specs.Host.{HostShape}
+use Rattle.host_core.specs.Fits.{StackEntryFits}
+use Rattle.host_core.specs.Host.{HostState}
 use Rattle.net_world.specs.Fits.{ShapeFits}
 use Rattle.net_world.specs.World.{WorldShape, state_at}
 use Rattle.net_world.proofs.Moved.{either}
-use Rattle.token_laws.specs.Holders.{IsSent, IsHeld, kept_on}
+use Rattle.token_laws.specs.Holders.{IsTokenSent, IsTokenHeld, kept_on}
 use Rattle.token_laws.proofs.EachFlight.{StatesHave, of_state}
 use Rattle.token_laws.proofs.HeldLaws.{own_before}
 use Rattle.token_laws.proofs.WorldTokens.{Accounts}
@@ -28,10 +28,10 @@ use Rattle.integrity.proofs.TightKept.{IsLawful, tokens_known}
 -- ---- the states of hosts
 
 -- the host that changed has it, and others have it where they had another thing
-pub states_change : (P Q : HostShape → Type 0) (world after : WorldShape) (me : HostId) (old new : HostShape) →
+pub states_change : (P Q : HostState → Type 0) (world after : WorldShape) (me : HostId) (old new : HostState) →
     state_at world me ≡ Some old → after.hosts ≡ slice_set world.hosts me.0 (Some new) → StatesHave P world → Q new →
-    ((host : HostId) (state : HostShape) → host ≢ me → state_at world host ≡ Some state → P state → Q state) →
-    (host : HostId) (o : Option HostShape) → state_at after host ≡ o → IfSome o Q
+    ((host : HostId) (state : HostState) → host ≢ me → state_at world host ≡ Some state → P state → Q state) →
+    (host : HostId) (o : Option HostState) → state_at after host ≡ o → IfSome o Q
 states_change P Q world after me old new obeys puts has own other host None is = tt
 states_change P Q world after me old new obeys puts has own other host (Some there) is =
     elim (either world after me old new after.flying obeys (record { hosts = puts; flying = refl }) host there is) [
@@ -47,16 +47,16 @@ states_change P Q world after me old new obeys puts has own other host (Some the
 pub record Moves (threat : Threat) (chain now : List StackEntry) (holder next : Holder) (world after : WorldShape) :
     Type 0 where
   pub me : HostId
-  pub old : HostShape
-  pub new : HostShape
+  pub old : HostState
+  pub new : HostState
   pub obeys : state_at world me ≡ Some old
   pub puts : after.hosts ≡ slice_set world.hosts me.0 (Some new)
   pub linked : AreLinked now
   pub stands : (e : StackEntry) → IsAmong now e → StandsThere after e
-  pub known : (e : StackEntry) → IsAmong now e → IsStanding world e ⊎ (¬ IsSent after e.token)
+  pub known : (e : StackEntry) → IsAmong now e → IsStanding world e ⊎ (¬ IsTokenSent after e.token)
   pub there : IsThere after next
   pub has_top : HasTop after now next
-  pub held : next ≡ lost → (e : StackEntry) → IsAmong now e → ¬ IsSent after e.token
+  pub held : next ≡ lost → (e : StackEntry) → IsAmong now e → ¬ IsTokenSent after e.token
   pub state : StateIsOutside threat now next new
   pub runs_as : (host : HostId) → host ≢ me → OwnsRunning holder host → OwnsRunning next host
   pub waits_as : (host : HostId) (one : WaitingShape) → host ≢ me → OwnsWaiting holder host one →
@@ -72,14 +72,15 @@ pub all_as : {X : Type 0} (P Q : X → Type 0) (xs : List X) → ((x : X) → P 
 all_as P Q xs each all k d lt = each (get_or xs k d) (all k d lt)
 
 -- ... each entry of a stack has a token of its host
-entries_as : (threat : Threat) (state : HostShape) (P Q : StackEntry → Type 0) →
-    All (EntryFits threat.code state.me) state.entries →
+entries_as : (threat : Threat) (state : HostState) (P Q : StackEntry → Type 0) →
+    All (StackEntryFits threat.code state.me) state.entries →
     ((e : StackEntry) → e.token.host ≡ state.me → P e → Q e) → All P state.entries → All Q state.entries
 entries_as threat state P Q fits each all k d lt = each (get_or state.entries k d) (fits k d lt).token (all k d lt)
 
 -- where a host stays as it is, what is outside there stays so
-pub outside_as : (threat : Threat) (chain now : List StackEntry) (holder next : Holder) (state : HostShape) →
-    All (EntryFits threat.code state.me) state.entries → (OwnsRunning holder state.me → OwnsRunning next state.me) →
+pub outside_as : (threat : Threat) (chain now : List StackEntry) (holder next : Holder) (state : HostState) →
+    All (StackEntryFits threat.code state.me) state.entries →
+    (OwnsRunning holder state.me → OwnsRunning next state.me) →
     ((one : WaitingShape) → OwnsWaiting holder state.me one → OwnsWaiting next state.me one) →
     ((e : StackEntry) → e.token.host ≡ state.me → IsAmong chain e → IsAmong now e) →
     StateIsOutside threat chain holder state → StateIsOutside threat now next state
@@ -94,7 +95,7 @@ outside_as threat chain now holder next state fits runs_as waits_as keeps_as was
 
 -- all that waits where the holder's thread runs is open
 pub waits_apart : (threat : Threat) (chain : List StackEntry) (host : HostId) (thread : ThreadShape)
-    (state : HostShape) → state.me ≡ host → StateIsOutside threat chain (runs host thread) state →
+    (state : HostState) → state.me ≡ host → StateIsOutside threat chain (runs host thread) state →
     All (λ w. ThreadIsOpen threat host w.thread) state.waiting
 waits_apart threat chain host thread state me was =
     all_as (λ w. OwnsWaiting (runs host thread) state.me w ⊎ ThreadIsOpen threat state.me w.thread)
@@ -104,7 +105,7 @@ waits_apart threat chain host thread state me was =
 module _ (threat : Threat) (chain now : List StackEntry) (holder next : Holder) (world after : WorldShape)
     (is : IsLawful threat world) (fits : ShapeFits threat.code after) (step : Accounts world after)
     (outside : IsOutsideBut threat chain holder world) (move : Moves threat chain now holder next world after) where
-  others : (host : HostId) (state : HostShape) → host ≢ move.me → state_at world host ≡ Some state →
+  others : (host : HostId) (state : HostState) → host ≢ move.me → state_at world host ≡ Some state →
       StateIsOutside threat chain holder state → StateIsOutside threat now next state
   others host state apart obeys was =
       let state_is = state_fits threat world host state is.fits obeys in
@@ -112,8 +113,8 @@ module _ (threat : Threat) (chain now : List StackEntry) (holder next : Holder) 
       outside_as threat chain now holder next state state_is.fits.entries (move.runs_as state.me far)
       (λ one. move.waits_as state.me one far) (λ e own. move.keeps_as e (λ same. far (sym own ∙ same))) was
 
-  unsent_if : (e : StackEntry) → IsStanding world e ⊎ (¬ IsSent after e.token) → IsHeld after e.token →
-      ¬ IsSent after e.token
+  unsent_if : (e : StackEntry) → IsStanding world e ⊎ (¬ IsTokenSent after e.token) → IsTokenHeld after e.token →
+      ¬ IsTokenSent after e.token
   unsent_if e (inl standing) held =
       let at = one_of_some (state_at world e.token.host) (λ state. IsAmong state.entries e) standing.there in
       still_unsent threat.code world after e.token at.one (tokens_known threat world is) fits step
@@ -121,8 +122,9 @@ module _ (threat : Threat) (chain now : List StackEntry) (holder next : Holder) 
   unsent_if e (inr unsent) held = unsent
 
   unsent_top : (top : StackEntry) (below : List StackEntry) → HasTop after (top ∷ below) next →
-      IsStanding world top ⊎ (¬ IsSent after top.token) →
-      (next ≡ lost → (e : StackEntry) → IsAmong (top ∷ below) e → ¬ IsSent after e.token) → ¬ IsSent after top.token
+      IsStanding world top ⊎ (¬ IsTokenSent after top.token) →
+      (next ≡ lost → (e : StackEntry) → IsAmong (top ∷ below) e → ¬ IsTokenSent after e.token) →
+      ¬ IsTokenSent after top.token
   unsent_top top below has known gone =
       elim (held_or_lost after next top.token (top_kept after next top below move.there has)) [
         | inl held ↦ unsent_if top known held
@@ -130,8 +132,9 @@ module _ (threat : Threat) (chain now : List StackEntry) (holder next : Holder) 
       ]
 
   stand_now : (list : List StackEntry) → AreLinked list → AllByRecursion (StandsThere after) list →
-      HasTop after list next → ((e : StackEntry) → IsAmong list e → IsStanding world e ⊎ (¬ IsSent after e.token)) →
-      (next ≡ lost → (e : StackEntry) → IsAmong list e → ¬ IsSent after e.token) →
+      HasTop after list next → ((e : StackEntry) → IsAmong list e → IsStanding world e
+      ⊎ (¬ IsTokenSent after e.token)) →
+      (next ≡ lost → (e : StackEntry) → IsAmong list e → ¬ IsTokenSent after e.token) →
       AllByRecursion (IsStanding after) list
   stand_now [] linked stands has known gone = tt
   stand_now (top ∷ below) linked stands has known gone = (

@@ -15,7 +15,7 @@ use Rattle.host_code.specs.declared.code.Entry.{Entry}
 use Rattle.host_code.specs.Code.{CodeShape, halt, entry_at}
 use Rattle.host_code.specs.Sound.{IsSoundCode}
 use Rattle.host_code.specs.Thread.{ThreadShape, WaitingShape}
-use Rattle.host_core.specs.Host.{HostShape, after_push, after_entering, new_token, thread_at}
+use Rattle.host_core.specs.Host.{HostState, after_push, after_entering, new_token, thread_at}
 use Rattle.host_core.specs.Start.{idle_host, root_host, main_frame, last_token, host_at_start}
 use Rattle.net_world.specs.World.{given, hosts_before, state_at, world_at_start}
 use Rattle.net_world.proofs.Present.{same_id}
@@ -26,12 +26,12 @@ use Rattle.integrity.proofs.Among.{some_of}
 
 -- ---- a host at the start
 
-pub record IsStarted (code : CodeShape) (store : List (List ℤ)) (me : HostId) (state : HostShape) : Type 0 where
+pub record IsStarted (code : CodeShape) (store : List (List ℤ)) (me : HostId) (state : HostState) : Type 0 where
   pub key : List ℕ
   pub is : state ≡ host_at_start code store key me
 
 started_if : (code : CodeShape) (store : List (List ℤ)) (key : List ℕ) (me : HostId) (misbehaves : Bool)
-    (state : HostShape) →
+    (state : HostState) →
     given (Some (if misbehaves then None else Some (host_at_start code store key me))) ≡ Some state →
     IsStarted code store me state
 started_if code store key me true state is = absurd (cc)
@@ -40,7 +40,7 @@ started_if code store key me false state is =
     record { key = key; is = sym same }
 
 started_before : (code : CodeShape) (store : List (List ℤ)) (bad number : ℕ) (rows : List declared_hosts.HostShape)
-    (place at : ℕ) (state : HostShape) → at ≡ number + place →
+    (place at : ℕ) (state : HostState) → at ≡ number + place →
     given (slice_get (hosts_before code store bad number rows) place) ≡ Some state →
     IsStarted code store (record { 0 = at }) state
 started_before code store bad number [] place at state is there = absurd (cc)
@@ -53,7 +53,7 @@ started_before code store bad number (row ∷ rows) (suc place) at state is ther
 
 pub started : (code : CodeShape) (rows : List declared_hosts.HostShape) (bad : ℕ) (store : List (List ℤ))
     (host : HostId)
-    (state : HostShape) → state_at (world_at_start code rows bad store) host ≡ Some state →
+    (state : HostState) → state_at (world_at_start code rows bad store) host ≡ Some state →
     IsStarted code store host state
 started code rows bad store host state there =
     started_before code store bad 0 rows host.0 host.0 state (omega arith) there
@@ -65,7 +65,7 @@ abbrev pub first_thread : CodeShape → List (List ℤ) → List ℕ → Entry �
 first_thread code store key there =
     thread_at there main_frame (new_token (idle_host code store key code.root) halt main_frame)
 
-pub record IsRoot (code : CodeShape) (store : List (List ℤ)) (state : HostShape) : Type 0 where
+pub record IsRoot (code : CodeShape) (store : List (List ℤ)) (state : HostState) : Type 0 where
   pub key : List ℕ
   pub there : Entry
   pub found : entry_at code code.main ≡ Some there
@@ -77,7 +77,7 @@ pub record IsRoot (code : CodeShape) (store : List (List ℤ)) (state : HostShap
   pub entries : state.entries ≡ last_entry code store key ∷ []
 
 entered : (code : CodeShape) (store : List (List ℤ)) (key : List ℕ) (found : Option Entry) →
-    entry_at code code.main ≡ found → IsSomeAnd found (λ there. there.host ≡ code.root) → (state : HostShape) →
+    entry_at code code.main ≡ found → IsSomeAnd found (λ there. there.host ≡ code.root) → (state : HostState) →
     state ≡ after_entering (after_push (idle_host code store key code.root) halt main_frame
     (last_token code.root)) found
     main_frame (new_token (idle_host code store key code.root) halt main_frame) → IsRoot code store state
@@ -87,21 +87,21 @@ entered code store key (Some there) is on state same = record {
   there = there;
   found = is;
   on_root = on;
-  halts = ap (λ (s : HostShape). s.halted) same;
-  me = ap (λ (s : HostShape). s.me) same;
-  running = ap (λ (s : HostShape). s.running) same;
-  waiting = ap (λ (s : HostShape). s.waiting) same;
-  entries = ap (λ (s : HostShape). s.entries) same;
+  halts = ap (λ (s : HostState). s.halted) same;
+  me = ap (λ (s : HostState). s.me) same;
+  running = ap (λ (s : HostState). s.running) same;
+  waiting = ap (λ (s : HostState). s.waiting) same;
+  entries = ap (λ (s : HostState). s.entries) same;
 }
 
-pub root_state : (code : CodeShape) (store : List (List ℤ)) → IsSoundCode code → (state : HostShape) →
+pub root_state : (code : CodeShape) (store : List (List ℤ)) → IsSoundCode code → (state : HostState) →
     IsStarted code store code.root state → IsRoot code store state
 root_state code store sound state it =
     let idle = idle_host code store it.key code.root in
     entered code store it.key (entry_at code code.main) refl sound.main state
     (it.is ∙ ap (λ (b : Bool). if b then root_host code idle else idle) (eq-eqb code.root.0 code.root.0 refl))
 
-root_outside : (threat : Threat) (store : List (List ℤ)) (state : HostShape) →
+root_outside : (threat : Threat) (store : List (List ℤ)) (state : HostState) →
     (it : IsRoot threat.code store state) →
     StateIsOutside threat (last_entry threat.code store it.key ∷ [])
     (runs threat.code.root (first_thread threat.code store it.key it.there)) state
@@ -127,7 +127,7 @@ idle_outside threat chain holder store key me =
     record { running = inr tt; waiting = All-nil _; entries = All-nil _ }
 
 other_outside : (threat : Threat) (chain : List StackEntry) (holder : Holder) (store : List (List ℤ)) (host : HostId)
-    (state : HostShape) → IsStarted threat.code store host state → host.0 ≢ threat.code.root.0 →
+    (state : HostState) → IsStarted threat.code store host state → host.0 ≢ threat.code.root.0 →
     StateIsOutside threat chain holder state
 other_outside threat chain holder store host state it apart =
     let idle = idle_host threat.code store it.key host in
@@ -136,9 +136,9 @@ other_outside threat chain holder store host state it apart =
     (ne_eqb host.0 threat.code.root.0 apart))) (idle_outside threat chain holder store it.key host)
 
 module _ (threat : Threat) (rows : List declared_hosts.HostShape) (bad : ℕ) (store : List (List ℤ))
-    (state : HostShape) (obeys : state_at (world_at_start threat.code rows bad store) threat.code.root ≡ Some state)
+    (state : HostState) (obeys : state_at (world_at_start threat.code rows bad store) threat.code.root ≡ Some state)
     (it : IsRoot threat.code store state) where
-  outside_at : (host : HostId) (o : Option HostShape) →
+  outside_at : (host : HostId) (o : Option HostState) →
       state_at (world_at_start threat.code rows bad store) host ≡ o →
       IfSome o (StateIsOutside threat (last_entry threat.code store it.key ∷ [])
       (runs threat.code.root (first_thread threat.code store it.key it.there)))
@@ -177,7 +177,7 @@ module _ (threat : Threat) (rows : List declared_hosts.HostShape) (bad : ℕ) (s
   }
 
 pub starts_tight : (threat : Threat) (rows : List declared_hosts.HostShape) (bad : ℕ) (store : List (List ℤ))
-    (state : HostShape) → IsSoundCode threat.code →
+    (state : HostState) → IsSoundCode threat.code →
     state_at (world_at_start threat.code rows bad store) threat.code.root ≡ Some state →
     StartsTight threat (world_at_start threat.code rows bad store)
 starts_tight threat rows bad store state sound obeys =

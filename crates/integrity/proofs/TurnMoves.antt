@@ -13,7 +13,7 @@ use Rattle.host_code.specs.declared.message.Message.{Message}
 use Rattle.host_code.specs.declared.message.Message.TheVariants as message
 use Rattle.host_code.specs.Thread.{ThreadShape, WaitingShape, Awaited}
 use Rattle.host_code.specs.Thread.Awaited.{acknowledgement}
-use Rattle.host_core.specs.Host.{HostShape, Outcome, with_message, without_message, with_running, after_asking}
+use Rattle.host_core.specs.Host.{HostState, Outcome, with_message, without_message, with_running, after_asking}
 use Rattle.host_core.specs.Host.{with_one_ignored, after_pop, next_request}
 use Rattle.host_core.specs.Turn.{label_of_turn}
 use Rattle.net_world.specs.Fits.{ShapeFits}
@@ -22,7 +22,7 @@ use Rattle.net_world.specs.Told.{token_in}
 use Rattle.net_world.specs.World.{WorldShape, IsTurnStep, state_at, misbehaves, has_halted}
 use Rattle.net_world.proofs.Moved.{Moved, either, mover_state, moved_silent, moved_told, moved_posted}
 use Rattle.capability.specs.declared.token.Token.{Token}
-use Rattle.token_laws.specs.Holders.{Place, HoldsAt, running_on, waiting_on, kept_on, in_flight}
+use Rattle.token_laws.specs.Holders.{TokenPlace, HoldsAt, running_on, waiting_on, kept_on, in_flight}
 use Rattle.token_laws.specs.Requests.{number_asked}
 use Rattle.token_laws.proofs.EachFlight.{of_state}
 use Rattle.token_laws.proofs.WorldTokens.{Accounts}
@@ -33,16 +33,16 @@ use Rattle.split_rules.specs.Handing.{Arrival, arrival_in}
 use Rattle.typed_steps.specs.Requests.{IsRequest, GoesTo, GivesUp}
 use Rattle.typed_steps.specs.Turns as turns
 use Rattle.typed_steps.specs.Turns.{IsActing, Grows, stays, grows, waiting_for}
-use Rattle.typed_steps.specs.Variables.{Sends}
+use Rattle.typed_steps.specs.Variables.{HasWhatIsOwed}
 use Rattle.typed_steps.specs.Views.{Split, View, entries_of}
 use Rattle.typed_steps.proofs.HeldSteps.{holds_same}
 use Rattle.integrity.proofs.Entering.{arrival_token}
 use Rattle.integrity.specs.Holding.{IsAmong, Holder, runs, asked, passes, lost, halted, first_of}
-use Rattle.integrity.specs.Holding.{IsThere, HasTop, Flies, OwnsWaiting, OwnsMessage, StateIsOutside, IsStanding}
+use Rattle.integrity.specs.Holding.{IsThere, HasTop, MessageFlies, OwnsWaiting, OwnsMessage, StateIsOutside, IsStanding}
 use Rattle.integrity.specs.Holding.{IsTight}
 use Rattle.integrity.specs.Outside.{ThreadIsOpen, EntryIsOpen, MessageIsOpen}
 use Rattle.integrity.specs.Standing as standing
-use Rattle.integrity.specs.Standing.{threat_in, IsResult, IsPassing, StandsBy, Goes}
+use Rattle.integrity.specs.Standing.{threat_in, IsResultGiven, IsPassing, StandsBy, Goes}
 use Rattle.integrity.proofs.Among.{each_among, one_of_some, some_of, last_at}
 use Rattle.integrity.proofs.ChainMoves.{linked_of, grown_keeps, grown_entries, grown_stands, grown_known}
 use Rattle.integrity.proofs.FliesOn.{FlyAs, all_posted}
@@ -66,7 +66,7 @@ pub record Turning (split : Split) (c : Configuration) (view : View) (host : Hos
   pub step : IsTurnStep split.code world host after
   pub quiet : after.sent ≡ world.sent
   pub running : step.state.running ≡ Some thread
-  pub sends : Sends split view step.state host
+  pub sends : HasWhatIsOwed split view step.state host
   pub label : ℕ
   pub labels : label_of_turn split.code step.state ≡ Some label
 
@@ -143,7 +143,7 @@ module _ (split : Split) (c : Configuration) (view : View) (host : HostId) (thre
       (λ w may. inr (subst (λ h. ThreadIsOpen (threat_in split) h w.thread) (sym same) may)) waits_open)
 
   -- no host has halted
-  none_halted : (next : Holder) (new : HostShape) → after.hosts ≡ slice_set world.hosts host.0 (Some new) →
+  none_halted : (next : Holder) (new : HostState) → after.hosts ≡ slice_set world.hosts host.0 (Some new) →
       new.halted ≡ t.step.state.halted → has_halted split.code.root after → next ≡ halted
   none_halted next new puts same has =
       let never : runs host thread ≡ halted =
@@ -160,7 +160,7 @@ module _ (split : Split) (c : Configuration) (view : View) (host : HostId) (thre
       (world.flying from to) (λ flight either. inr (other_of either (λ never. never)))
       (t.stands.tight.outside.flying from to)
 
-  restacked : (old new : HostShape) → Restacks (RunsWith old.running) old t.step.outcome.state →
+  restacked : (old new : HostState) → Restacks (RunsWith old.running) old t.step.outcome.state →
       without_message new ≡ t.step.outcome → Restacks (RunsWith old.running) old new
   restacked old new moves is =
       subst (Restacks (RunsWith old.running) old) (ap (λ (o : Outcome). o.state) (sym is)) moves
@@ -172,7 +172,7 @@ module _ (split : Split) (c : Configuration) (view : View) (host : HostId) (thre
       (seen : View) × (next : Holder) × standing.IsFree next × StandsBy split now seen next after
   goes_on now more g =
       let old = t.step.state in
-      let new : HostShape = with_running g.state (Some g.next) in
+      let new : HostState = with_running g.state (Some g.next) in
       let next = runs host g.next in
       let moved =
       moved_silent world host t.step.outcome new (label_of_turn split.code old) after g.is t.step.leaves in
@@ -216,7 +216,7 @@ module _ (split : Split) (c : Configuration) (view : View) (host : HostId) (thre
                     (sym moved.flying) (all_flying next);
               });
           holds = g.keeps after moved.hosts;
-          sends = some_of (state_at after host) (λ state. Sends split g.seen state host) new there g.sent;
+          sends = some_of (state_at after host) (λ state. HasWhatIsOwed split g.seen state host) new there g.sent;
           does = (g.is_chain, g.at);
           halts = none_halted next new moved.hosts g.steady.halted;
         },
@@ -225,7 +225,7 @@ module _ (split : Split) (c : Configuration) (view : View) (host : HostId) (thre
   -- ---- a message is in flight
 
   -- and the chain is the same, and nothing runs on the host any more
-  posts : (new : HostShape) (next : Holder) (to : HostId) (m : Message) →
+  posts : (new : HostState) (next : Holder) (to : HostId) (m : Message) →
       Moved world host new
       (with_flights world.flying host to (world.flying host to ++ record { message = m; label = t.label } ∷ [])) after →
       new.me ≡ t.step.state.me → new.entries ≡ t.step.state.entries → new.running ≡ None →
@@ -266,10 +266,10 @@ module _ (split : Split) (c : Configuration) (view : View) (host : HostId) (thre
             world host (record { to = to; message = m; label = t.label }) (all_flying next) (inl own));
       })
 
-  own_flight : (to : HostId) (m : Message) (new : HostShape) →
+  own_flight : (to : HostId) (m : Message) (new : HostState) →
       Moved world host new
       (with_flights world.flying host to (world.flying host to ++ record { message = m; label = t.label } ∷ [])) after →
-      Flies after host to m
+      MessageFlies after host to m
   own_flight to m new moved =
       let flight : Flight = record { message = m; label = t.label } in
       record {
@@ -282,7 +282,7 @@ module _ (split : Split) (c : Configuration) (view : View) (host : HostId) (thre
       }
 
   -- what is sent goes to a host that obeys
-  posted_if : (new : HostShape) (to : HostId) (m : Message) → with_message new to m ≡ t.step.outcome → (bad : Bool) →
+  posted_if : (new : HostState) (to : HostId) (m : Message) → with_message new to m ≡ t.step.outcome → (bad : Bool) →
       misbehaves world to ≡ bad →
       Moved world host new
       (with_flights world.flying host to (world.flying host to ++ record { message = m; label = t.label } ∷ [])) after
@@ -295,7 +295,7 @@ module _ (split : Split) (c : Configuration) (view : View) (host : HostId) (thre
       (moved_posted world host t.step.outcome t.step.state new to m (label_of_turn split.code t.step.state) t.label
       after t.step.obeys good t.labels is t.step.leaves).moved
 
-  posted : (new : HostShape) (to : HostId) (m : Message) → with_message new to m ≡ t.step.outcome →
+  posted : (new : HostState) (to : HostId) (m : Message) → with_message new to m ≡ t.step.outcome →
       Moved world host new
       (with_flights world.flying host to (world.flying host to ++ record { message = m; label = t.label } ∷ [])) after
   posted new to m is = posted_if new to m is (misbehaves world to) refl
@@ -306,11 +306,11 @@ module _ (split : Split) (c : Configuration) (view : View) (host : HostId) (thre
       let w = waiting_for t.step.state thread.at next awaited to in
       with_message (after_asking (with_running t.step.state None) thread.at next awaited to) to m ≡ t.step.outcome →
       number_asked m ≡ Some w.request → first_of (token_in m) next.held ≡ top_token (entries_of view.chain) →
-      IsRequest split c view host to w m ⊎ IsResult split c view host w m →
+      IsRequest split c view host to w m ⊎ IsResultGiven split c view host w m →
       StandsBy split c view (asked host w m) after
   asks next awaited to m is number top request =
       let old = t.step.state in
-      let new : HostShape = after_asking (with_running old None) thread.at next awaited to in
+      let new : HostState = after_asking (with_running old None) thread.at next awaited to in
       let w = waiting_for old thread.at next awaited to in
       let holder = asked host w m in
       let Waits : WaitingShape → Type 0 =
@@ -328,7 +328,7 @@ module _ (split : Split) (c : Configuration) (view : View) (host : HostId) (thre
               number,
             ) top (λ same. absurd (cc)) (refl, refl, number);
         holds = holds_same split c view world after host old new _ t.stands.holds t.step.obeys moved refl refl refl;
-        sends = some_of (state_at after host) (λ state. Sends split view state host) new there t.sends;
+        sends = some_of (state_at after host) (λ state. HasWhatIsOwed split view state host) new there t.sends;
         does = (t.stands.does.0, request);
         halts = none_halted holder new moved.hosts refl;
       }
@@ -340,7 +340,7 @@ module _ (split : Split) (c : Configuration) (view : View) (host : HostId) (thre
       StandsBy split c view (passes host to m) after
   ends_with to m is top passing =
       let old = t.step.state in
-      let new : HostShape = with_running old None in
+      let new : HostState = with_running old None in
       let holder = passes host to m in
       let moved = posted new to m is in
       record {
@@ -354,15 +354,15 @@ module _ (split : Split) (c : Configuration) (view : View) (host : HostId) (thre
 
   -- ---- an entry is taken off
 
-  module _ (new : HostShape) (puts : after.hosts ≡ slice_set world.hosts host.0 (Some new)) where
-    before_at : (other : HostId) (P : HostShape → Type 0) → IsSomeAnd (state_at after other) P →
+  module _ (new : HostState) (puts : after.hosts ≡ slice_set world.hosts host.0 (Some new)) where
+    before_at : (other : HostId) (P : HostState → Type 0) → IsSomeAnd (state_at after other) P →
         (P new → P t.step.state) → IsSomeAnd (state_at world other) P
     before_at other P has keeps = was_at world after host other t.step.state new t.step.obeys puts P has keeps
 
     runs_elsewhere : (token : Token) (other : HostId) → new.running ≡ None → HoldsAt after token (running_on other) →
         HoldsAt world token (running_on other) × (other.0 ≢ host.0)
     runs_elsewhere token other rests has =
-        let P : HostShape → Type 0 = λ s. IsSomeAnd s.running (λ one. one.held ≡ Some token) in
+        let P : HostState → Type 0 = λ s. IsSomeAnd s.running (λ one. one.held ≡ Some token) in
         let at = one_of_some (state_at after other) P has in
         elim (either world after host t.step.state new after.flying t.step.obeys
         (record { hosts = puts; flying = refl }) other at.one at.is) [
@@ -374,7 +374,7 @@ module _ (split : Split) (c : Configuration) (view : View) (host : HostId) (thre
 
     nobody_has : (token : Token) → new.running ≡ None → new.waiting ≡ t.step.state.waiting →
         new.entries ≡ t.step.state.entries → after.flying ≡ world.flying →
-        ((place : Place) → HoldsAt world token place → place ≡ running_on host) → (place : Place) →
+        ((place : TokenPlace) → HoldsAt world token place → place ≡ running_on host) → (place : TokenPlace) →
         HoldsAt after token place → ⊥
     nobody_has token rests waiting entries flying only (running_on other) has =
         let before = runs_elsewhere token other rests has in
@@ -457,7 +457,7 @@ module _ (split : Split) (c : Configuration) (view : View) (host : HostId) (thre
       pops_held split c view (runs host thread) world after host popping (running_on host)
       (λ other at same. absurd (cc)) token (held_here token top) own top (passing refl) gives_up is
   ends_if token false passing own top gives_up is =
-      let new : HostShape = with_one_ignored (with_running t.step.state None) in
+      let new : HostState = with_one_ignored (with_running t.step.state None) in
       let moved =
       moved_silent world host t.step.outcome new (label_of_turn split.code t.step.state) after is t.step.leaves in
       loses split c view (runs host thread) world after host popping (running_on host) held_here

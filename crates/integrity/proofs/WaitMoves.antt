@@ -17,7 +17,7 @@ use Rattle.host_code.specs.Thread.{ThreadShape, WaitingShape, Awaited}
 use Rattle.host_code.specs.Thread.Awaited.{value_of_field, acknowledgement, token_of_entry}
 use Rattle.host_code.specs.Code.{CodeShape, halt, entry_at}
 use Rattle.host_core.specs.Awaiting.{awaits}
-use Rattle.host_core.specs.Host.{HostShape, Outcome, with_temporary, with_token, after_pop, after_entering}
+use Rattle.host_core.specs.Host.{HostState, Outcome, with_temporary, with_token, after_pop, after_entering}
 use Rattle.host_core.specs.Host.{with_variables_set}
 use Rattle.host_core.specs.Taking.{IsTaking, after_taking, after_answer, place_of_awaiting}
 use Rattle.net_world.proofs.Present.{same_id}
@@ -55,7 +55,7 @@ pub data Rewaits (from : HostId) (m : Message) (old new : List WaitingShape) : T
       ((waiting : WaitingShape) → slice_get old place ≡ Some waiting → WaitsAt old request from place waiting) →
       number_answered m ≡ Some request → new ≡ remove old place → Rewaits from m old new
 
-answered_waiting : (host : HostShape) (place : Option ℕ) (answered : ThreadShape → ThreadShape)
+answered_waiting : (host : HostState) (place : Option ℕ) (answered : ThreadShape → ThreadShape)
     (awaited : Awaited) (request : RequestId) (from : HostId) (m : Message) →
     place_of_awaiting host awaited request from ≡ place → number_answered m ≡ Some request →
     Rewaits from m host.waiting (after_answer host place answered).waiting
@@ -63,19 +63,19 @@ answered_waiting host None answered awaited request from m is number = stays ref
 answered_waiting host (Some place) answered awaited request from m is number =
     wakes request place (λ waiting there. found_at host.waiting awaited request from place waiting is there) number refl
 
-popped_waiting : (code : CodeShape) (host : HostShape) (entry : EntryId) (frame : FrameId) (kept : Token)
+popped_waiting : (code : CodeShape) (host : HostState) (entry : EntryId) (frame : FrameId) (kept : Token)
     (halts : Bool) → (if halts then record host { running = None; halted = true }
     else after_entering host (entry_at code entry) frame kept).waiting ≡ host.waiting
 popped_waiting code host entry frame kept true = refl
 popped_waiting code host entry frame kept false = (entering_same host (entry_at code entry) frame kept).waiting
 
-pop_waiting : (code : CodeShape) (host : HostShape) (entries : List StackEntry) →
+pop_waiting : (code : CodeShape) (host : HostState) (entries : List StackEntry) →
     (after_pop code host entries).waiting ≡ host.waiting
 pop_waiting code host [] = refl
 pop_waiting code host (top ∷ below) =
     popped_waiting code (record host { entries = below }) top.entry top.frame top.kept (top.entry.0 == halt.0)
 
-takes : (code : CodeShape) (host : HostShape) (from : HostId) (m : Message) (passes : Bool) →
+takes : (code : CodeShape) (host : HostState) (from : HostId) (m : Message) (passes : Bool) →
     Rewaits from m host.waiting (after_taking code host from m passes).state.waiting
 takes code host from m false = stays refl
 takes code host from (message.Get request field index) true = stays refl
@@ -86,7 +86,7 @@ takes code host from (message.Rgoto frame entry token) true =
     stays (entering_same host (entry_at code entry) frame token).waiting
 takes code host from (message.RgotoWith frame entry token riders) true =
     stays ((entering_same (with_variables_set host frame riders) (entry_at code entry) frame token).waiting
-    ∙ ap (λ (h : HostShape). h.waiting) (sym (riding_is host frame riders)))
+    ∙ ap (λ (h : HostState). h.waiting) (sym (riding_is host frame riders)))
 takes code host from (message.Lgoto token) true = stays (pop_waiting code host host.entries)
 takes code host from (message.Value request value) true =
     answered_waiting host _ (with_temporary value) value_of_field request from _ refl refl
@@ -95,7 +95,7 @@ takes code host from (message.Ack request) true =
 takes code host from (message.Token request token) true =
     answered_waiting host _ (with_token (Some token)) token_of_entry request from _ refl refl
 
-pub taking_rewaits : (code : CodeShape) (host : HostShape) (from : HostId) (m : Message) (outcome : Outcome) →
+pub taking_rewaits : (code : CodeShape) (host : HostState) (from : HostId) (m : Message) (outcome : Outcome) →
     IsTaking code host from m outcome → Rewaits from m host.waiting outcome.state.waiting
 taking_rewaits code host from m outcome step =
     subst (λ (o : Outcome). Rewaits from m host.waiting o.state.waiting) step.2 (takes code host from m step.0)

@@ -23,8 +23,8 @@ GoesOnAltered program exposure c now = (others : List Configuration) × Altered 
 
 -- Events leave a world, and all along the hosts that obey stand for what one altered run has come to. Bit h of the word
 -- says that host h misbehaves.
-abbrev pub FollowsAltered : Program → Exposure → CodeShape → List declared_hosts.HostShape → (bad : ℕ) →
+abbrev pub WorldFollowsAltered : Program → Exposure → CodeShape → List declared_hosts.HostShape → (bad : ℕ) →
     (store : List (List ℤ)) → List Event → WorldShape → Type 0
-FollowsAltered program exposure code rows bad store events last =
+WorldFollowsAltered program exposure code rows bad store events last =
     Together (StandsFor code exposure) (GoesOnAltered program exposure) code (world_at_start code rows bad store)
     (configuration_at_start program store) events last

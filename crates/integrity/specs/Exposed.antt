@@ -11,7 +11,7 @@ use Rattle.host_decl.specs.Hosts as declared_hosts
 use Rattle.jif_tree.specs.Altered.{Exposure, FieldIsAffected, VariableIsAffected}
 use Rattle.jif_tree.specs.Store.{row_of}
 use Rattle.host_code.specs.Code.{CodeShape, CodeFieldShape}
-use Rattle.host_core.specs.Host.{HostShape}
+use Rattle.host_core.specs.Host.{HostState}
 use Rattle.net_world.specs.World.{WorldShape, state_at}
 use Rattle.split_rules.specs.Placed.{PlacedProgram}
 
@@ -35,7 +35,7 @@ exposure_of placed bad = record {
 -- ---- what they leave
 
 -- each field and each variable of a host is as it was, or may be affected
-pub record IsAsBefore (exposure : Exposure) (old new : HostShape) : Type 0 where
+pub record IsAsBefore (exposure : Exposure) (old new : HostState) : Type 0 where
   pub rows : (field : FieldId) →
       (row_of new.rows field.0 ≡ row_of old.rows field.0) ⊎ FieldIsAffected exposure field
   pub variables : (frame : FrameId) (x : VarId) →
@@ -43,12 +43,12 @@ pub record IsAsBefore (exposure : Exposure) (old new : HostShape) : Type 0 where
 
 -- so it is on each obeying host, and these hosts obeyed before
 abbrev pub AreAsBefore : Exposure → WorldShape → WorldShape → Type 0
-AreAsBefore exposure world after = (host : HostId) (new : HostShape) → state_at after host ≡ Some new →
+AreAsBefore exposure world after = (host : HostId) (new : HostState) → state_at after host ≡ Some new →
     IsSomeAnd (state_at world host) (λ old. IsAsBefore exposure old new)
 
 -- each field on an obeying host that may not be affected has there what the store has
 abbrev pub FieldsStand : CodeShape → Exposure → WorldShape → List (List ℤ) → Type 0
 FieldsStand code exposure world store =
-    (number : ℕ) (field : CodeFieldShape) (state : HostShape) → slice_get code.fields number ≡ Some field →
+    (number : ℕ) (field : CodeFieldShape) (state : HostState) → slice_get code.fields number ≡ Some field →
     state_at world field.host ≡ Some state → ¬ FieldIsAffected exposure (record { 0 = number }) →
     row_of state.rows number ≡ row_of store number

@@ -10,13 +10,13 @@ use Rattle.ics_stack.specs.Stack.{top_token}
 use Rattle.host_code.specs.declared.message.Message.{Message}
 use Rattle.host_code.specs.Code.{halt}
 use Rattle.host_code.specs.Thread.{ThreadShape, WaitingShape}
-use Rattle.host_core.specs.Host.{HostShape}
+use Rattle.host_core.specs.Host.{HostState}
 use Rattle.event_text.specs.declared.event.Event.{Event}
 use Rattle.event_text.specs.declared.event.Event.TheVariants.{Take, Turn, Act}
 use Rattle.net_world.specs.Flying.{Flight}
 use Rattle.net_world.specs.Told.{token_in, message_made}
 use Rattle.net_world.specs.World.{WorldShape, state_at, misbehaves, tokens_sent}
-use Rattle.token_laws.specs.Holders.{IsHeld, IsSent}
+use Rattle.token_laws.specs.Holders.{IsTokenHeld, IsTokenSent}
 use Rattle.token_laws.specs.Requests.{number_asked, number_answered}
 use Rattle.integrity.specs.Outside.{Threat, ThreadIsOpen, EntryIsOpen, MessageIsOpen}
 
@@ -61,7 +61,7 @@ abbrev pub Waits : WorldShape → HostId → WaitingShape → Type 0
 Waits world host waiting = IsSomeAnd (state_at world host) (λ state. IsAmong state.waiting waiting)
 
 -- the message is in flight
-pub record Flies (world : WorldShape) (from to : HostId) (m : Message) : Type 0 where
+pub record MessageFlies (world : WorldShape) (from to : HostId) (m : Message) : Type 0 where
   pub flight : Flight
   pub among : IsAmong (world.flying from to) flight
   pub is : flight.message ≡ m
@@ -69,17 +69,17 @@ pub record Flies (world : WorldShape) (from to : HostId) (m : Message) : Type 0 
 abbrev pub IsThere : WorldShape → Holder → Type 0
 IsThere world (runs host thread) = IsSomeAnd (state_at world host) (λ state. state.running ≡ Some thread)
 IsThere world (asked host waiting m) =
-    Waits world host waiting × Flies world host waiting.asked m × (number_asked m ≡ Some waiting.request)
+    Waits world host waiting × MessageFlies world host waiting.asked m × (number_asked m ≡ Some waiting.request)
 IsThere world (answered host waiting m) =
-    Waits world host waiting × Flies world waiting.asked host m × (number_answered m ≡ Some waiting.request)
+    Waits world host waiting × MessageFlies world waiting.asked host m × (number_answered m ≡ Some waiting.request)
 IsThere world (stuck host waiting) = Waits world host waiting × (misbehaves world waiting.asked ≡ true)
-IsThere world (passes from to m) = Flies world from to m
+IsThere world (passes from to m) = MessageFlies world from to m
 IsThere world lost = ⊤
 IsThere world halted = ⊤
 
 -- The holder has the token of the first entry. Where that is lost, nobody has it.
 abbrev pub HasTop : WorldShape → List StackEntry → Holder → Type 0
-HasTop world chain lost = (token : Token) → top_token chain ≡ Some token → ¬ IsHeld world token
+HasTop world chain lost = (token : Token) → top_token chain ≡ Some token → ¬ IsTokenHeld world token
 HasTop world chain holder = token_of holder ≡ top_token chain
 
 -- ---- what is the holder's
@@ -107,17 +107,17 @@ OwnsMessage (passes sender target m) from to one = (from ≡ sender) × (to ≡ 
 OwnsMessage other from to one = ⊥
 
 -- the holder's thread makes a turn, or a message of the holder's is taken
-abbrev pub IsOwn : Holder → WorldShape → Event → Type 0
-IsOwn holder world (Take from to place) =
+abbrev pub IsHoldersEvent : Holder → WorldShape → Event → Type 0
+IsHoldersEvent holder world (Take from to place) =
     IsSomeAnd (slice_get (world.flying from to) place) (λ flight. OwnsMessage holder from to flight.message)
-IsOwn holder world (Turn host) = OwnsRunning holder host
-IsOwn holder world (Act from to made) =
+IsHoldersEvent holder world (Turn host) = OwnsRunning holder host
+IsHoldersEvent holder world (Act from to made) =
     IsSomeAnd (message_made (tokens_sent world) made) (OwnsMessage holder from to)
 
 -- ---- what is not
 
 -- each is open, or the holder's or the chain's
-pub record StateIsOutside (threat : Threat) (chain : List StackEntry) (holder : Holder) (state : HostShape) : Type 0
+pub record StateIsOutside (threat : Threat) (chain : List StackEntry) (holder : Holder) (state : HostState) : Type 0
   where
     pub running : OwnsRunning holder state.me ⊎ IfSome state.running (ThreadIsOpen threat state.me)
     pub waiting : All (λ waiting. OwnsWaiting holder state.me waiting ⊎ ThreadIsOpen threat state.me waiting.thread)
@@ -144,7 +144,7 @@ AreLinked (one ∷ next ∷ chain) = (one.kept ≡ next.token) × AreLinked (nex
 -- an entry is on the stack of the host that its token names, and misbehaving hosts were not sent that
 pub record IsStanding (world : WorldShape) (on_stack : StackEntry) : Type 0 where
   pub there : IsSomeAnd (state_at world on_stack.token.host) (λ state. IsAmong state.entries on_stack)
-  pub unsent : ¬ IsSent world on_stack.token
+  pub unsent : ¬ IsTokenSent world on_stack.token
 
 -- The chain stands, the holder has the token of its first entry, or nobody has, and all else is outside.
 pub record IsTight (threat : Threat) (chain : List StackEntry) (holder : Holder) (world : WorldShape) : Type 0 where

@@ -13,7 +13,7 @@ use Rattle.event_text.specs.declared.event.Event.{Event}
 use Rattle.event_text.specs.declared.event.Event.TheVariants.{Act}
 use Rattle.event_text.specs.declared.event.BadToken.TheVariants.{Sent}
 use Rattle.event_text.specs.declared.event.BadMessage.TheVariants as bad
-use Rattle.host_core.specs.Host.{HostShape, Outcome, with_running}
+use Rattle.host_core.specs.Host.{HostState, Outcome, with_running}
 use Rattle.host_core.specs.Start.{main_frame, idle_host, last_token}
 use Rattle.host_core.specs.Taking.{after_taking}
 use Rattle.host_core.specs.Turn.{after_operation}
@@ -30,17 +30,17 @@ abbrev pub sent_threat : ℕ → Threat
 sent_threat bad = threat_of (placed_with sent_local (trusted_by_first ∷ [])) sent_table bad
 
 -- the first host with nothing on its stack, where a thread is about to send the local
-abbrev idle : HostShape
+abbrev idle : HostState
 idle = idle_host (sent_threat 2).code [] [] (host_id 0)
 
 abbrev sender : ThreadShape
 sender = record { at = 1; frame = main_frame; new_frame = main_frame; temporaries = []; held = None }
 
-abbrev pub sending : HostShape
+abbrev pub sending : HostState
 sending = with_running idle (Some sender)
 
 -- and where it was sent, and the thread waits
-abbrev pub waiting : HostShape
+abbrev pub waiting : HostState
 waiting = (after_operation (sent_threat 2).code idle sender (op.Send (var_id 0) (host_id 1)) true).state
 
 -- ---- a world: the first host has a field that nobody trusts and one that the first principal trusts
@@ -80,7 +80,7 @@ exposed_to bad = record {
 abbrev pub before_set : WorldShape
 before_set = world_at_start two_fields rows 2 store
 
-abbrev pub holder : HostShape
+abbrev pub holder : HostState
 holder = idle_host two_fields store [] (host_id 0)
 
 -- the second host sets a field to 9, and that passes its check or does not

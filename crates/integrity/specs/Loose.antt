@@ -6,10 +6,10 @@ use Rattle.jif_tree.specs.Altered.{Altered}
 use Rattle.jif_tree.specs.SourceRun.{Configuration}
 use Rattle.ics_stack.specs.declared.stack.StackEntry.{StackEntry}
 use Rattle.net_world.specs.World.{WorldShape, state_at, has_halted}
-use Rattle.token_laws.specs.Holders.{IsSent}
+use Rattle.token_laws.specs.Holders.{IsTokenSent}
 use Rattle.typed_steps.specs.Chains.{IsChain}
 use Rattle.typed_steps.specs.Requests.{GivesUp}
-use Rattle.typed_steps.specs.Variables.{Holds}
+use Rattle.typed_steps.specs.Variables.{HostsHold}
 use Rattle.typed_steps.specs.Views.{Split, View, entries_of}
 use Rattle.integrity.specs.Holding.{IsAmong, Holder, lost, AreLinked, IsOutsideBut}
 use Rattle.integrity.specs.Outside.{Threat}
@@ -20,7 +20,7 @@ use Rattle.integrity.specs.Standing.{threat_in, IsFree, StandsBy}
 -- Misbehaving hosts were sent the token of no entry but the first.
 abbrev pub AreUnsentBelow : WorldShape → List StackEntry → Type 0
 AreUnsentBelow world [] = ⊤
-AreUnsentBelow world (first ∷ below) = AllByRecursion (λ on_stack. ¬ IsSent world on_stack.token) below
+AreUnsentBelow world (first ∷ below) = AllByRecursion (λ on_stack. ¬ IsTokenSent world on_stack.token) below
 
 -- Each entry is on the stack of the host that its token names. The token of the first may be anywhere. All else is
 -- outside.
@@ -37,7 +37,7 @@ pub record IsLoose (threat : Threat) (chain : List StackEntry) (world : WorldSha
 pub record StandsLoosely (split : Split) (c : Configuration) (view : View) (world : WorldShape) : Type 0 where
   pub loose : IsLoose (threat_in split) (entries_of view.chain) world
   pub chain : IsChain split view.naming view.chain
-  pub holds : Holds split c view world
+  pub holds : HostsHold split c view world
   pub gives_up : GivesUp split c view
   pub goes_on : ¬ has_halted split.code.root world
 

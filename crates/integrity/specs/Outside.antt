@@ -9,7 +9,7 @@ use Rattle.host_code.specs.declared.message.Message.{Message}
 use Rattle.host_code.specs.declared.message.Message.TheVariants as message
 use Rattle.host_code.specs.Code.{CodeShape, halt}
 use Rattle.host_code.specs.Thread.{ThreadShape}
-use Rattle.host_core.specs.Host.{HostShape}
+use Rattle.host_core.specs.Host.{HostState}
 use Rattle.net_world.specs.World.{WorldShape, state_at}
 use Rattle.split_rules.specs.Placed.{PlacedProgram, planned_from}
 use Rattle.split_rules.specs.Opening.{IsOpenTo, HasNeed}
@@ -59,7 +59,7 @@ MessageIsOpen threat (message.RgotoWith frame there token riders) =
 MessageIsOpen threat _ = ⊤
 
 -- what runs on a host, waits there and is on its stack
-pub record StateIsOpen (threat : Threat) (state : HostShape) : Type 0 where
+pub record StateIsOpen (threat : Threat) (state : HostState) : Type 0 where
   pub running : IfSome state.running (ThreadIsOpen threat state.me)
   pub waiting : All (λ waiting. ThreadIsOpen threat state.me waiting.thread) state.waiting
   pub entries : All (λ on_stack. EntryIsOpen threat on_stack.entry) state.entries

@@ -18,8 +18,8 @@ use Rattle.net_world.specs.World.{WorldShape, state_at, has_halted}
 use Rattle.typed_steps.specs.Views.{Split, View, entries_of}
 use Rattle.typed_steps.specs.Chains.{IsChain}
 use Rattle.typed_steps.specs.Threads.{IsAt}
-use Rattle.typed_steps.specs.Variables.{Sends, Holds}
-use Rattle.typed_steps.specs.Requests.{IsRequest, IsAnswer, GivesResult, GoesTo, GivesUp}
+use Rattle.typed_steps.specs.Variables.{HasWhatIsOwed, HostsHold}
+use Rattle.typed_steps.specs.Requests.{IsRequest, IsAnswerTo, GivesResult, GoesTo, GivesUp}
 use Rattle.integrity.specs.Holding.{Holder, runs, asked, answered, stuck, passes, lost, halted, IsTight}
 use Rattle.integrity.specs.Outside.{Threat}
 
@@ -31,19 +31,19 @@ threat_in split =
 -- ---- what the holder is to do
 
 -- A message gives a result back to the call that made this one.
-abbrev pub IsResult : Split → Configuration → View → HostId → WaitingShape → Message → Type 0
-IsResult split c view host waiting (message.Forward request frame x value) =
+abbrev pub IsResultGiven : Split → Configuration → View → HostId → WaitingShape → Message → Type 0
+IsResultGiven split c view host waiting (message.Forward request frame x value) =
     (waiting.awaited ≡ acknowledgement) × (waiting.request ≡ request)
     × May split.code waiting.asked (ask.Forward x) host
     × GivesResult split c view host waiting.thread frame x value waiting.asked
-IsResult split c view host waiting other = ⊥
+IsResultGiven split c view host waiting other = ⊥
 
 -- whatever number a misbehaving host answers, the thread goes on with it
-abbrev pub IsFor : Split → Configuration → View → HostId → WaitingShape → Awaited → Type 0
-IsFor split c view host waiting value_of_field =
+abbrev pub GoesOnWhatever : Split → Configuration → View → HostId → WaitingShape → Awaited → Type 0
+GoesOnWhatever split c view host waiting value_of_field =
     (value : ℤ) → IsNumber value → IsAt split c view host (with_temporary value waiting.thread)
-IsFor split c view host waiting acknowledgement = IsAt split c view host waiting.thread
-IsFor split c view host waiting token_of_entry = ⊥
+GoesOnWhatever split c view host waiting acknowledgement = IsAt split c view host waiting.thread
+GoesOnWhatever split c view host waiting token_of_entry = ⊥
 
 -- the token goes back to the host that gave it
 pub record GoesBack (split : Split) (c : Configuration) (view : View) (to : HostId) (token : Token) : Type 0 where
@@ -60,22 +60,22 @@ IsPassing split c view from to (message.RgotoWith frame entry token riders) =
 IsPassing split c view from to (message.Lgoto token) = GoesBack split c view to token
 IsPassing split c view from to other = ⊥
 
-abbrev pub Does : Split → Configuration → View → Holder → Type 0
-Does split c view (runs host thread) = IsChain split view.naming view.chain × IsAt split c view host thread
-Does split c view (asked host waiting m) =
+abbrev pub HolderDoes : Split → Configuration → View → Holder → Type 0
+HolderDoes split c view (runs host thread) = IsChain split view.naming view.chain × IsAt split c view host thread
+HolderDoes split c view (asked host waiting m) =
     IsChain split view.naming view.chain
-    × (IsRequest split c view host waiting.asked waiting m ⊎ IsResult split c view host waiting m)
-Does split c view (answered host waiting m) =
-    IsChain split view.naming view.chain × IsAnswer split c view host waiting m
-Does split c view (stuck host waiting) =
-    IsChain split view.naming view.chain × IsFor split c view host waiting waiting.awaited
-Does split c view (passes from to m) = IsChain split view.naming view.chain × IsPassing split c view from to m
-Does split c view lost = IsChain split view.naming view.chain × GivesUp split c view
-Does split c view halted = (view.chain ≡ []) × (view.out ≡ []) × IsAtEnd c
+    × (IsRequest split c view host waiting.asked waiting m ⊎ IsResultGiven split c view host waiting m)
+HolderDoes split c view (answered host waiting m) =
+    IsChain split view.naming view.chain × IsAnswerTo split c view host waiting m
+HolderDoes split c view (stuck host waiting) =
+    IsChain split view.naming view.chain × GoesOnWhatever split c view host waiting waiting.awaited
+HolderDoes split c view (passes from to m) = IsChain split view.naming view.chain × IsPassing split c view from to m
+HolderDoes split c view lost = IsChain split view.naming view.chain × GivesUp split c view
+HolderDoes split c view halted = (view.chain ≡ []) × (view.out ≡ []) × IsAtEnd c
 
 -- whoever acts has the variables that are still to be sent
 abbrev pub HasSends : Split → View → WorldShape → HostId → Type 0
-HasSends split view world host = IsSomeAnd (state_at world host) (λ state. Sends split view state host)
+HasSends split view world host = IsSomeAnd (state_at world host) (λ state. HasWhatIsOwed split view state host)
 
 abbrev pub HolderSends : Split → View → WorldShape → Holder → Type 0
 HolderSends split view world (runs host thread) = HasSends split view world host
@@ -90,9 +90,9 @@ HolderSends split view world other = ⊤
 pub record StandsBy (split : Split) (c : Configuration) (view : View) (holder : Holder) (world : WorldShape) : Type 0
   where
     pub tight : IsTight (threat_in split) (entries_of view.chain) holder world
-    pub holds : Holds split c view world
+    pub holds : HostsHold split c view world
     pub sends : HolderSends split view world holder
-    pub does : Does split c view holder
+    pub does : HolderDoes split c view holder
     pub halts : has_halted split.code.root world → holder ≡ halted
 
 -- the holder waits for no misbehaving host

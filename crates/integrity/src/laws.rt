@@ -17,7 +17,7 @@ ghost use Rattle.host_code.specs.Riders.{Rider};
 ghost use Rattle.host_code.specs.Code.{halt};
 ghost use Rattle.host_code.specs.Sound.{IsSoundCode};
 ghost use Rattle.host_code.specs.Thread.{ThreadShape, WaitingShape};
-ghost use Rattle.host_core.specs.Host.{HostShape};
+ghost use Rattle.host_core.specs.Host.{HostState};
 ghost use Rattle.capability.specs.declared.token.Token.{Token};
 ghost use Rattle.ics_stack.specs.declared.stack.StackEntry.{StackEntry};
 ghost use Rattle.event_text.specs.declared.event.Event.{Event};
@@ -30,7 +30,7 @@ ghost use Rattle.net_world.specs.World.{world_at_start};
 ghost use Rattle.split_rules.specs.Placed.{PlacedProgram, planned_from};
 ghost use Rattle.split_rules.specs.Walk.{entry_id};
 ghost use Rattle.split_rules.specs.Allowed.{IsAllowed};
-ghost use Rattle.split_rules.specs.Held.{IsHeld};
+ghost use Rattle.split_rules.specs.Held.{IsWellHeld};
 ghost use Rattle.split_rules.specs.OpenExamples.{untrusted, trusted_by_first};
 ghost use Rattle.split_rules.specs.Worked.{field_id, var_id, statement_id};
 ghost use Rattle.split_rules.specs.SplitCode.{split_code};
@@ -41,9 +41,10 @@ ghost use Rattle.token_laws.specs.Reached.{IsReached};
 ghost use Rattle.typed_steps.specs.Views.{Split, View};
 ghost use Rattle.simulation.specs.Obeying.{IsSet};
 ghost use Rattle.token_laws.specs.TokenExamples.{first_token, given, handing, host_id, small, start};
-ghost use Rattle.integrity.specs.Altering.{FollowsAltered, StandsFor};
+ghost use Rattle.integrity.specs.Altering.{WorldFollowsAltered, StandsFor};
 ghost use Rattle.integrity.specs.Exposed.{AreAsBefore, FieldsStand, bad_labels, exposure_of};
-ghost use Rattle.integrity.specs.Holding.{AreLinked, Holder, runs, lost, IsOwn, IsOutsideBut, IsStanding, IsTight};
+ghost use Rattle.integrity.specs.Holding.{AreLinked, Holder, runs, lost, IsHoldersEvent, IsOutsideBut, IsStanding};
+ghost use Rattle.integrity.specs.Holding.{IsTight};
 ghost use Rattle.integrity.specs.Holding.{stuck, StartsTight};
 ghost use Rattle.integrity.specs.IntegrityExamples.{sent_threat, sending, waiting, two_fields, exposed_to, store};
 ghost use Rattle.integrity.specs.IntegrityExamples.{before_set, sets_to_nine, after_set, after_refused, halted_world};
@@ -101,7 +102,7 @@ pub fn root_laws()
         let code = split_code placed in
         IsSplittable placed → IsAllowed placed →
         IsReached code placed.hosts.hosts bad store events world → bit_at bad code.root.0 ≡ 1 →
-        FollowsAltered program (exposure_of placed bad) code placed.hosts.hosts bad store events world }
+        WorldFollowsAltered program (exposure_of placed bad) code placed.hosts.hosts bad store events world }
 {
     split_laws();
     trust_laws();
@@ -114,7 +115,7 @@ pub fn root_laws()
 pub fn chain_laws()
     // Where the root obeys, the entry that ends the program is such a chain before the first event, and the thread at
     // `main` holds its token.
-    ensures start { (threat : Threat) (rows : List HostRow) (bad : ℕ) (store : List (List ℤ)) (state : HostShape) →
+    ensures start { (threat : Threat) (rows : List HostRow) (bad : ℕ) (store : List (List ℤ)) (state : HostState) →
         IsSoundCode threat.code →
         state_at (world_at_start threat.code rows bad store) threat.code.root ≡ Some state →
         StartsTight threat (world_at_start threat.code rows bad store) }
@@ -128,7 +129,7 @@ pub fn chain_laws()
         IsTypedCode (planned_from placed) code table →
         IsReached code placed.hosts.hosts bad store events world →
         HasOwnToken (world_at_start code placed.hosts.hosts bad store) event → IsStep code world event after →
-        IsTight threat chain holder world → ¬ IsOwn holder world event →
+        IsTight threat chain holder world → ¬ IsHoldersEvent holder world event →
         IsTight threat chain holder after × AreAsBefore threat.exposure world after }
 {
     opening_laws();
@@ -138,7 +139,7 @@ pub fn chain_laws()
 /// what is seen of it and by whoever holds the token.
 pub fn standing_laws()
     // Where the root obeys, the world before the first event stands for the start of the program.
-    ensures start { (split : Split) (rows : List HostRow) (bad : ℕ) (store : List (List ℤ)) (state : HostShape) →
+    ensures start { (split : Split) (rows : List HostRow) (bad : ℕ) (store : List (List ℤ)) (state : HostState) →
         state_at (world_at_start split.code rows bad store) split.code.root ≡ Some state →
         (view : View) × (thread : ThreadShape)
         × StandsBy split (configuration_at_start split.program store) view (runs split.code.root thread)
@@ -151,7 +152,7 @@ pub fn standing_laws()
         IsReached split.code placed.hosts.hosts bad store events world →
         HasOwnToken (world_at_start split.code placed.hosts.hosts bad store) event →
         IsStep split.code world event after →
-        StandsBy split c view holder world → ¬ IsOwn holder world event → StandsBy split c view holder after }
+        StandsBy split c view holder world → ¬ IsHoldersEvent holder world event → StandsBy split c view holder after }
     // Where the holder's thread makes a turn that tells misbehaving hosts nothing, it stands for the same configuration
     // again, or for one that a step leads to.
     ensures turned { (split : Split) (rows : List HostRow) (bad : ℕ) (store : List (List ℤ)) (events : List Event)
@@ -166,7 +167,7 @@ pub fn standing_laws()
         split.exposure.bad ≡ bad_labels bad 0 rows → IsReached split.code rows bad store events world →
         CodeHasNumbers split.code → RowsHaveNumbers store → All EventHasNumbers events →
         StandsBy split c view holder world → IsStep split.code world (Take from to place) after →
-        IsOwn holder world (Take from to place) → Goes split c after }
+        IsHoldersEvent holder world (Take from to place) → Goes split c after }
     // Where a turn of the holder's thread sets a field of a misbehaving host, the step is made at once, and the thread
     // waits for that host.
     ensures told { (split : Split) (rows : List HostRow) (bad : ℕ) (store : List (List ℤ)) (events : List Event)
@@ -184,7 +185,7 @@ pub fn standing_laws()
         (world after : WorldShape)
         (host : HostId) (thread : ThreadShape) (c : Configuration) (view : View) (to : HostId) (sent : Message) →
         threat_in split ≡ threat_of placed split.table bad → IsAllowed placed →
-        IsHeld placed → IsReached split.code placed.hosts.hosts bad store events world →
+        IsWellHeld placed → IsReached split.code placed.hosts.hosts bad store events world →
         CodeHasNumbers split.code → RowsHaveNumbers store → All EventHasNumbers events →
         IsStep split.code world (Turn host) after → misbehaves world to ≡ true →
         after.sent ≡ world.sent ++ (host, to, sent) ∷ [] → token_in sent ≡ None →
@@ -206,7 +207,7 @@ pub fn standing_laws()
         (world after : WorldShape)
         (host : HostId) (thread : ThreadShape) (c : Configuration) (view : View) →
         threat_in split ≡ threat_of placed split.table bad → IsSplittable placed →
-        IsAllowed placed → IsHeld placed →
+        IsAllowed placed → IsWellHeld placed →
         IsReached split.code placed.hosts.hosts bad store events world → CodeHasNumbers split.code →
         RowsHaveNumbers store →
         All EventHasNumbers events → IsStep split.code world (Turn host) after →
@@ -221,7 +222,8 @@ pub fn standing_laws()
         let act = Act waiting.asked host made in
         split.exposure.bad ≡ bad_labels bad 0 rows → IsReached split.code rows bad store events world →
         StandsBy split c view (stuck host waiting) world → HasOwnToken start act → IsStep split.code world act after →
-        IfSome (message_made (tokens_sent world) made) MessageHasNumbers → IsOwn (stuck host waiting) world act →
+        IfSome (message_made (tokens_sent world) made) MessageHasNumbers →
+        IsHoldersEvent (stuck host waiting) world act →
         Goes split c after ⊎ StandsBy split c view (stuck host waiting) after }
 {
     opening_laws();
@@ -256,7 +258,7 @@ pub fn integrity_laws()
         let code = split_code placed in
         IsSet program placed → CodeHasNumbers code → RowsHaveNumbers store →
         IsReached code placed.hosts.hosts bad store events world → All EventHasNumbers events →
-        FollowsAltered program (exposure_of placed bad) code placed.hosts.hosts bad store events world }
+        WorldFollowsAltered program (exposure_of placed bad) code placed.hosts.hosts bad store events world }
 {
     split_laws();
     trust_laws();
@@ -333,8 +335,8 @@ pub fn chain_examples()
     // No entry of a chain has a token that a misbehaving host was sent.
     ensures sent_falls { (on_stack : StackEntry) → on_stack.token ≡ first_token → ¬ IsStanding given on_stack }
     // A turn of the host where the holder's thread runs is the holder's, and one of another host is not.
-    ensures own_turn { (thread : ThreadShape) → IsOwn (runs (host_id 0) thread) start (Turn (host_id 0)) }
-    ensures other_turn { (thread : ThreadShape) → ¬ IsOwn (runs (host_id 0) thread) start (Turn (host_id 1)) }
+    ensures own_turn { (thread : ThreadShape) → IsHoldersEvent (runs (host_id 0) thread) start (Turn (host_id 0)) }
+    ensures other_turn { (thread : ThreadShape) → ¬ IsHoldersEvent (runs (host_id 0) thread) start (Turn (host_id 1)) }
     // Each entry of a chain keeps the token of the next.
     ensures unlinked { (one next : StackEntry) → one.kept ≢ next.token → ¬ AreLinked (one ∷ next ∷ []) }
     // Where the token of the entry that ends the program is handed over to a misbehaving host, the chain is loose.

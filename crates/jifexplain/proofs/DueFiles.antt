@@ -54,10 +54,10 @@ two_due program hosts asked files p h result two loads faults due =
     (due two.program_bytes two.hosts_bytes two.program_loaded two.hosts_loaded)
 
 -- what is due for two names is due for the words
-pub due_for_words : (words : List (List ℕ)) (program hosts : List ℕ) (asked : Option (List ℕ)) (files : FilesChange)
+pub verdict_for_words : (words : List (List ℕ)) (program hosts : List ℕ) (asked : Option (List ℕ)) (files : FilesChange)
     (verdict : VerdictShape) → AskFor words program hosts asked → IsDueForNames program hosts asked files verdict →
     IsDue words files verdict
-due_for_words words program hosts asked files verdict asks due =
+verdict_for_words words program hosts asked files verdict asks due =
     ⊎_elim
     (λ whole. inl (whole.0, names program hosts asked whole.0 verdict asks whole.1, whole.2))
     (λ fault. inr (program, hosts, asked, asks, fault))

@@ -14,7 +14,7 @@ use Rattle.label_reasons.specs.Reasons.{explained, first_refused, label_reasons}
 use Rattle.place_reasons.specs.Refuted.{IsCauseTrue, RefutesHead}
 use Rattle.place_reasons.specs.declared.reason.PlaceReason.{PlaceReason}
 use Rattle.place_reasons.specs.declared.reason.PlaceReason.TheVariants as row
-use Rattle.front_end.specs.Sources.{HostsRead, Labelled as WasLabelled, Resolved, Source, Sources}
+use Rattle.front_end.specs.Sources.{HostsRead, ProgramLabelled as WasLabelled, Resolved, Source, Sources}
 use Rattle.front_end.specs.Stages.{given}
 use Rattle.jifexplain.specs.Places.{lines_or}
 use Rattle.jifexplain.proofs.StoppedStages.{source_accepted, then_given}

@@ -27,7 +27,7 @@ use Rattle.place_rules.specs.declared.place_error.PlaceError.{PlaceError}
 use Rattle.front_end.specs.PlacedSources.{PlacedSources, labelled_source}
 use Rattle.front_end.specs.Refusals.{RefusalShape}
 use Rattle.front_end.specs.Refusals as refusals
-use Rattle.front_end.specs.Sources.{Accepted, HostsRead, Lexed, Parsed, Resolved, Source, Sources}
+use Rattle.front_end.specs.Sources.{DraftAccepted, HostsRead, Lexed, Parsed, Resolved, Source, Sources}
 use Rattle.front_end.specs.Stages.{given, stopped}
 use Rattle.front_end.specs.Verdicts.{VerdictShape, hosts_refused}
 use Rattle.front_end.proofs.Stages.{IsOne}
@@ -113,7 +113,8 @@ labels_are : OneOfEach → (name p h : List ℕ) (refusal : RefusalShape) (list 
     (reasons.explained file.principals tree)
 labels_are one name p h refusal list draft file tree verdict was due =
     due_given (Resolved file draft)
-    (λ t v. v ≡ labels_verdict name (readable p) refusal (sheet_of list draft file t) (reasons.explained file.principals t))
+    (λ t v. v ≡ labels_verdict name (readable p) refusal (sheet_of list draft file t)
+    (reasons.explained file.principals t))
     tree verdict (one.programs file draft (one.declared h file was.hosts)) was.resolved
     (due_given (HostsRead h) (TreeExplained name p refusal list draft) file verdict (one.hosts h) was.hosts
     (due_given (Parsed list) (DraftExplained name p h refusal list) draft verdict (one.drafts list) was.drafted.parsed
@@ -122,7 +123,7 @@ labels_are one name p h refusal list draft file tree verdict was due =
 -- ---- places
 
 accepted_once : OneOfEach → (p h : List ℕ) (list : List Token) (draft : DraftShape) (file : HostsShape) →
-    WasDrafted p list draft → HostsRead h (given file) → IsOne (Accepted file draft)
+    WasDrafted p list draft → HostsRead h (given file) → IsOne (DraftAccepted file draft)
 accepted_once one p h list draft file drafted hosts first second here there =
     one.sources p h first second (accepted_is p h list draft file first drafted hosts here)
     (accepted_is p h list draft file second drafted hosts there)
@@ -132,7 +133,7 @@ pub places_are : OneOfEach → (name p h : List ℕ) (asked : Option (List ℕ))
     WasAccepted p h list draft file source → PlacesTold name p h asked why verdict →
     verdict ≡ source_verdict name (readable p) asked why list draft source
 places_are one name p h asked why list draft file source verdict was due =
-    due_given (Accepted file draft)
+    due_given (DraftAccepted file draft)
     (λ s v. v ≡ source_verdict name (readable p) asked why list draft s)
     source verdict (accepted_once one p h list draft file was.drafted was.hosts) was.accepted
     (due_given (HostsRead h) (SourcePlaced name p asked why list draft) file verdict (one.hosts h) was.hosts
@@ -152,7 +153,11 @@ pub some_told : (name p h : List ℕ) (asked : Option (List ℕ)) (why : Option 
 some_told name p h asked why source is =
     let was = source_accepted p h source is in (
       source_verdict name (readable p) asked why was.0 was.1 source,
-      inl (was.0, was.3.drafted.lexed, inl (was.1, was.3.drafted.parsed, inl (was.2, was.3.hosts, inl (source, was.3.accepted, refl)))),
+      inl (
+        was.0,
+        was.3.drafted.lexed,
+        inl (was.1, was.3.drafted.parsed, inl (was.2, was.3.hosts, inl (source, was.3.accepted, refl))),
+      ),
     )
 
 -- ---- one explanation
@@ -162,7 +167,8 @@ hosts_once : OneTold → (name h : List ℕ) (why : HostsRefusal) (first second 
 hosts_once told name h why first second is one two =
     one.2 ∙ ap (told_hosts name h) (told (readable_hosts h) why one.0 two.0 is one.1 two.1) ∙ sym two.2
 
-once_at : OneOfEach → OneTold → (program hosts p h : List ℕ) (asked : Option (List ℕ)) (refused first second : VerdictShape) →
+once_at : OneOfEach → OneTold →
+    (program hosts p h : List ℕ) (asked : Option (List ℕ)) (refused first second : VerdictShape) →
     StopsAt p h refused → refused ≢ hosts_refused not_toml → ExplainsVerdict program hosts p h asked refused first →
     ExplainsVerdict program hosts p h asked refused second → first ≡ second
 once_at one told program hosts p h asked _ first second (no_tokens why) is here there = here ∙ sym there
@@ -175,7 +181,8 @@ once_at one told program hosts p h asked _ first second (no_hosts why refuses me
 once_at one told program hosts p h asked _ first second (no_labels list draft file tree why was) is here there =
     labels_are one program p h _ list draft file tree first was here
     ∙ sym (labels_are one program p h _ list draft file tree second was there)
-once_at one told program hosts p h asked _ first second (no_places list draft source why was sourced none) is here there =
+once_at one told program hosts p h asked _ first second (no_places list draft source why was sourced none) is here
+    there =
     told_once one program p h asked (Some why) source first second sourced here there
 
 pub explained_once : OneOfEach → OneTold → (program hosts p h : List ℕ) (asked : Option (List ℕ))
@@ -194,8 +201,14 @@ some_at told program hosts p h asked _ (no_draft list why lexed) = (_, inl (list
 some_at told program hosts p h asked _ (no_program list why lexed) = (_, inl (list, lexed, refl))
 some_at told program hosts p h asked _ (no_hosts why refuses memory) =
     let what = some_read told h why refuses memory in (_, (what.0, what.1, refl))
-some_at told program hosts p h asked _ (no_labels list draft file tree why was) =
-    (_, inl (list, was.drafted.lexed, inl (draft, was.drafted.parsed, inl (file, was.hosts, inl (tree, was.resolved, refl)))))
+some_at told program hosts p h asked _ (no_labels list draft file tree why was) = (
+  _,
+  inl (
+    list,
+    was.drafted.lexed,
+    inl (draft, was.drafted.parsed, inl (file, was.hosts, inl (tree, was.resolved, refl))),
+  ),
+)
 some_at told program hosts p h asked _ (no_places list draft source why was sourced none) =
     some_told program p h asked (Some why) source sourced
 
@@ -254,7 +267,8 @@ told_status : OneOfEach → (name p h : List ℕ) (asked : Option (List ℕ)) (w
     IsStatusOr name asked status verdict
 told_status one name p h asked why status source verdict is due same =
     let was = source_accepted p h source is in
-    subst (IsStatusOr name asked status) (sym (places_are one name p h asked why was.0 was.1 was.2 source verdict was.3 due))
+    subst (IsStatusOr name asked status)
+    (sym (places_are one name p h asked why was.0 was.1 was.2 source verdict was.3 due))
     (subst (λ (s : Status). IsStatusOr name asked s (source_verdict name (readable p) asked why was.0 was.1 source))
     (same was.0 was.1)
     (places_have name (readable p) (head_told was.0 was.1 why) (sheet_of was.0 was.1 source.file source.tree)
@@ -281,7 +295,8 @@ status_at one program hosts p h asked _ verdict (no_hosts why refuses memory) du
 status_at one program hosts p h asked _ verdict (no_labels list draft file tree why was) due =
     same_for program asked _ verdict
     (ap verdict_status (labels_are one program p h _ list draft file tree verdict was due)
-    ∙ labels_status program (readable p) why _ _ (sheet_of list draft file tree) (reasons.explained file.principals tree))
+    ∙ labels_status program (readable p) why _ _ (sheet_of list draft file tree)
+    (reasons.explained file.principals tree))
 status_at one program hosts p h asked _ verdict (no_places list draft source why was sourced none) due =
     told_status one program p h asked (Some why) SourceRefused source verdict sourced due (λ other drafted. refl)
 

@@ -1,14 +1,14 @@
 -- For words, and for files that tell what they hold, one verdict is due, where the host file is TOML.
 use Rattle.std.proofs.Common.{◌≡◌, ◌≢◌, ◌⊎◌, ℕ, ◌+◌, ◌<◌, List, [], ◌∷◌, length, Option, Some, None, refl, sym, ap}
-use Rattle.std.proofs.Common.{◌∙◌, subst, ⊎_elim}
+use Rattle.std.proofs.Common.{◌∙◌, subst, inl, inr, ⊎_elim}
 use Rattle.js_base.specs.Counts.{last_count}
 use Rattle.host_decl.specs.Refusal.{not_toml}
 use Rattle.front_end.specs.Loads.{FilesChange, Told, IsHeld, IsFirstAbsent}
 use Rattle.front_end.specs.PlacedSources.{PlacedSource, PlacedSources}
 use Rattle.front_end.specs.Sources.{HostsRead}
-use Rattle.front_end.specs.Stages.{Outcome, given, stopped}
+use Rattle.front_end.specs.Stages.{StageEnd, given, stopped}
 use Rattle.front_end.specs.Verdicts.{VerdictShape, hosts_refused, no_such_file}
-use Rattle.front_end.proofs.Answering.{no_fault_and_fault}
+use Rattle.front_end.proofs.DueByFiles.{IsDueOrFault, due_or_fault_once}
 use Rattle.front_end.proofs.Places.{of_all}
 use Rattle.front_end.proofs.Stages.{IsOne, give, stop_with}
 use Rattle.front_end.proofs.AbsentFiles.{held_once as one_held, told_held, absent_not_held, absent_once}
@@ -155,50 +155,46 @@ due_once one words holds _ _ _ _ toml (names program hosts asked number first as
     here
     (subst (λ (name : List ℕ). DueForNames (Some holds) name hosts asked place second) same.program_same
     (subst (λ (name : List ℕ). DueForNames (Some holds) other name asked place second) same.hosts_same
-    (subst (λ (parts : Option (List ℕ)). DueForNames (Some holds) other file parts place second) same.asked_same there)))
+    (subst (λ (parts : Option (List ℕ)). DueForNames (Some holds) other file parts place second) same.asked_same
+    there)))
 
 -- ---- what is due for words and for what the files did
+
+-- for a file whose load failed its line is due
+due_or_fault : (words : List (List ℕ)) (files : FilesChange) (verdict : VerdictShape) → IsDue words files verdict →
+    IsDueOrFault (Due words) files verdict
+due_or_fault words files verdict due =
+    ⊎_elim (λ by_files. inl by_files) (λ fault. inr (fault.4.rose, fault.4.verdict_is)) due
 
 pub answer_once : OneOfAll → (words : List (List ℕ)) (files : FilesChange) (holds : List ℕ → Option (List ℕ))
     (first second : VerdictShape) → HoldsToml words holds → files.held ≡ Some holds →
     files.faults_before < last_count → IsDue words files first → IsDue words files second → first ≡ second
 answer_once one words files holds first second toml tells below here there =
-    ⊎_elim
-    (λ by_files. ⊎_elim
-    (λ also. (due_once one words holds by_files.0 also.0 first second toml
-    (subst (λ (held : Option (List ℕ → Option (List ℕ))). Due words held by_files.0 first) tells by_files.1)
-    (subst (λ (held : Option (List ℕ → Option (List ℕ))). Due words held also.0 second) tells also.1)).1)
-    (λ fault. absurd (no_fault_and_fault files.faults_before files.faults_after below by_files.2.no_fault
-    fault.4.rose))
-    there)
-    (λ fault. ⊎_elim
-    (λ also. absurd (no_fault_and_fault files.faults_before files.faults_after below also.2.no_fault
-    fault.4.rose))
-    (λ also. fault.4.verdict_is ∙ sym also.4.verdict_is)
-    there)
-    here
+    due_or_fault_once (Due words) files holds
+    (λ number other former latter due also. due_once one words holds number other former latter toml due also) tells below
+    first second (due_or_fault words files first here) (due_or_fault words files second there)
 
 -- ---- the status of `check`
 
-status_or : OneOfAll → (program hosts : List ℕ) (asked : Option (List ℕ)) (p h : List ℕ) (end : Outcome PlacedSource)
+status_or : OneOfAll → (program hosts : List ℕ) (asked : Option (List ℕ)) (p h : List ℕ) (end : StageEnd PlacedSource)
     (verdict : VerdictShape) → PlacedSources p h end → DueForBytes program hosts asked p h verdict →
     IsStatusOr program asked (checked_status end) verdict
 status_or one program hosts asked p h end verdict was due =
     ⊎_elim
-    (λ held. subst (λ (e : Outcome PlacedSource). IsStatusOr program asked (checked_status e) verdict)
+    (λ held. subst (λ (e : StageEnd PlacedSource). IsStatusOr program asked (checked_status e) verdict)
     (one.plans p h (given held.0) end held.1 was)
     (let source = placed_source p h held.0 held.1 in
     placed_status one.each program p h asked source.0 verdict source.1 held.2))
-    (λ stops. subst (λ (e : Outcome PlacedSource). IsStatusOr program asked (checked_status e) verdict)
+    (λ stops. subst (λ (e : StageEnd PlacedSource). IsStatusOr program asked (checked_status e) verdict)
     (one.plans p h (stopped stops.0) end stops.1 was)
     (explained_status one.each program hosts p h asked stops.0 verdict stops.1 stops.2))
     due
 
-pub same_status : OneOfAll → (program hosts p h : List ℕ) (end : Outcome PlacedSource) (verdict : VerdictShape) →
+pub same_status : OneOfAll → (program hosts p h : List ℕ) (end : StageEnd PlacedSource) (verdict : VerdictShape) →
     PlacedSources p h end → DueForBytes program hosts None p h verdict → verdict_status verdict ≡ checked_status end
 same_status one program hosts p h end verdict was due = status_or one program hosts None p h end verdict was due
 
-pub word_status : OneOfAll → (program hosts word p h : List ℕ) (end : Outcome PlacedSource) (verdict : VerdictShape) →
+pub word_status : OneOfAll → (program hosts word p h : List ℕ) (end : StageEnd PlacedSource) (verdict : VerdictShape) →
     PlacedSources p h end → DueForBytes program hosts (Some word) p h verdict →
     (verdict_status verdict ≡ checked_status end) ⊎ (verdict ≡ no_part program word)
 word_status one program hosts word p h end verdict was due =

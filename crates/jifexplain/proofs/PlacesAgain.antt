@@ -1,5 +1,6 @@
 -- What is told of an accepted program that is read once more.
-use Rattle.std.proofs.Common.{◌≡◌, ◌≢◌, ◌≤◌, ◌<◌, ◌*◌, ◌+◌, ◌^◌, ℕ, List, [], ◌∷◌, length, Option, Some, None, refl, sym}
+use Rattle.std.proofs.Common.{◌≡◌, ◌≢◌, ◌≤◌, ◌<◌, ◌*◌, ◌+◌, ◌^◌, ℕ, List, [], ◌∷◌, length, Option, Some, None, refl}
+use Rattle.std.proofs.Common.{sym}
 use Rattle.std.proofs.Common.{ap, ◌∙◌, subst, Result, arith}
 use Rattle.std.specs.Prelude.{IfOk}
 use Rattle.std.proofs.lemmas.Result.{IfOk-weaker}
@@ -24,7 +25,7 @@ use Rattle.front_end.specs.declared.verdict.Verdict.{Verdict}
 use Rattle.front_end.specs.PlacedSources.{labelled_source}
 use Rattle.front_end.specs.ReadPrograms.{IsReadProgram}
 use Rattle.front_end.specs.SourceShapes.{SourceModel, source_shape}
-use Rattle.front_end.specs.Sources.{Accepted, Labelled as WasLabelled, Resolved, Source}
+use Rattle.front_end.specs.Sources.{DraftAccepted, ProgramLabelled as WasLabelled, Resolved, Source}
 use Rattle.front_end.specs.Stages.{given}
 use Rattle.front_end.specs.Verdicts.{VerdictShape, verdict_shape}
 use Rattle.front_end.proofs.ListLimits.{short_variables}
@@ -36,7 +37,7 @@ use Rattle.jifexplain.proofs.StoppedStages.{then_given}
 
 -- an accepted program has few variables
 pub few_accepted : (file : HostsShape) (draft : DraftShape) (source : Source) → KeepsLimits draft →
-    Accepted file draft (given source) → length source.tree.vars ≤ METHODS * (VARIABLES + 1)
+    DraftAccepted file draft (given source) → length source.tree.vars ≤ METHODS * (VARIABLES + 1)
 few_accepted file draft source keeps is =
     let tree = then_given (Resolved file draft) (WasLabelled file) source is in
     let same : source ≡ record { file = file; tree = tree.0 } = tree.2.1 in
@@ -54,7 +55,8 @@ pub verdict_is : (name text p : List ℕ) (asked : Option (List ℕ)) (why : Opt
       principals = source.file.principals;
       tree = source.tree;
     }) labelled source.file.hosts why asked → verdict ≡ source_verdict name (readable p) asked why list draft source
-verdict_is name text p asked why list draft source head places labelled verdict text_is head_is places_are labelled_is is =
+verdict_is name text p asked why list draft source head places labelled verdict text_is head_is places_are labelled_is
+    is =
     let sheet : PlacesShape → SheetShape = λ these. record {
       tokens = list;
       places = these;
@@ -65,8 +67,10 @@ verdict_is name text p asked why list draft source head places labelled verdict 
     is
     ∙ ap (λ (t : List ℕ). places_verdict name t head (sheet places) labelled hosts why asked) text_is
     ∙ ap (λ (h : Option ToldShape). places_verdict name (readable p) h (sheet places) labelled hosts why asked) head_is
-    ∙ ap (λ (these : PlacesShape). places_verdict name (readable p) (head_told list draft why) (sheet these) labelled hosts why asked) places_are
-    ∙ ap (λ (l : Labelled). places_verdict name (readable p) (head_told list draft why) (sheet (draft_places draft)) l hosts why asked) labelled_is
+    ∙ ap (λ (these : PlacesShape). places_verdict name (readable p) (head_told list draft why) (sheet these) labelled
+    hosts why asked) places_are
+    ∙ ap (λ (l : Labelled). places_verdict name (readable p) (head_told list draft why) (sheet (draft_places draft)) l
+    hosts why asked) labelled_is
 
 -- a word that means some parts
 some_meant : (name text : List ℕ) (head : Option ToldShape) (sheet : SheetShape) (labelled : Labelled)
@@ -107,13 +111,14 @@ whole_due name text head sheet labelled hosts why asked parts lines result asks 
     IfOk-weaker result _ _
     (λ verdict is. is ∙ ap (lines_verdict name text head) told
     ∙ ap (λ (ps : List PartShape). lines_verdict name text head (lines_told sheet labelled hosts asked ps)) are
-    ∙ ap (λ (a : Option (List ℕ)). lines_verdict name text head (lines_told sheet labelled hosts a (whole_parts sheet.tree why))) asks
+    ∙ ap (λ (a : Option (List ℕ)). lines_verdict name text head
+    (lines_told sheet labelled hosts a (whole_parts sheet.tree why))) asks
     ∙ ap (places_verdict name text head sheet labelled hosts why) (sym asks))
     due
 
 -- an accepted program that was read has few variables
 pub few_read : (file : HostsShape) (draft : DraftShape) (inside source : SourceModel) → inside ≡ source →
-    KeepsLimits draft → Accepted file draft (given (source_shape source)) →
+    KeepsLimits draft → DraftAccepted file draft (given (source_shape source)) →
     length inside.checked.program.vars.items < 2 ^ 32
 few_read file draft inside source same keeps is =
     few_variables inside.checked.program.vars.items

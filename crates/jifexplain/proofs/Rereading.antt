@@ -7,12 +7,12 @@ use Rattle.jif_tree.specs.Trees.{var_tree}
 use Rattle.front_end.specs.declared.stop.Stop.{Stop}
 use Rattle.front_end.specs.declared.verdict.Verdict.{Verdict}
 use Rattle.front_end.specs.Loading.{EndsIn}
-use Rattle.front_end.specs.Stages.{Outcome, given, DueThen}
+use Rattle.front_end.specs.Stages.{StageEnd, given, DueThen}
 use Rattle.front_end.specs.Verdicts.{VerdictShape}
 use Rattle.front_end.proofs.Stages.{ends_weaker}
 
 -- a stage that gave this, and what is due for it
-pub due_behind : {X : Type 0} (First : Outcome X → Type 0) (Last : X → VerdictShape → Type 0) (x : X)
+pub due_behind : {X : Type 0} (First : StageEnd X → Type 0) (Last : X → VerdictShape → Type 0) (x : X)
     (result : Result Verdict Stop) → First (given x) → EndsIn (Last x) result → EndsIn (DueThen First Last) result
 due_behind First Last x result was ends =
     ends_weaker (Last x) (DueThen First Last) result (λ verdict is. inl (x, was, is)) ends

@@ -1,7 +1,7 @@
 -- For all words something is due, whatever the files hold and whether they tell or not.
 use Rattle.std.proofs.Common.{◌≡◌, ℕ, List, [], ◌∷◌, Option, Some, None, refl, inl, inr, arith}
 use Rattle.front_end.specs.PlacedSources.{PlacedSource, PlacedSources}
-use Rattle.front_end.specs.Stages.{Outcome, given, stopped}
+use Rattle.front_end.specs.Stages.{StageEnd, given, stopped}
 use Rattle.front_end.specs.Verdicts.{VerdictShape, no_such_file}
 use Rattle.front_end.proofs.AbsentFiles.{told_held}
 use Rattle.front_end.proofs.SomeStages.{HasOutcome, HasVerdict}
@@ -13,7 +13,7 @@ use Rattle.jifexplain.proofs.StoppedStages.{placed_source}
 abbrev pub SomePlan : Type 0
 SomePlan = (p h : List ℕ) → HasOutcome (PlacedSources p h)
 
-due_at : SomeTold → (program hosts : List ℕ) (asked : Option (List ℕ)) (p h : List ℕ) (end : Outcome PlacedSource) →
+due_at : SomeTold → (program hosts : List ℕ) (asked : Option (List ℕ)) (p h : List ℕ) (end : StageEnd PlacedSource) →
     PlacedSources p h end → HasVerdict (DueForBytes program hosts asked p h)
 due_at told program hosts asked p h (given placed) was =
     let source = placed_source p h placed was in

@@ -15,9 +15,10 @@ use Rattle.host_decl.specs.Refusal.{refusal_shape}
 use Rattle.label_check.specs.declared.check_error.CheckError.{CheckError}
 use Rattle.place_rules.specs.declared.place_error.PlaceError.{PlaceError}
 use Rattle.front_end.specs.PlacedSources.{AreChosen, HasNoPlace, OnHosts, PlacedSource, PlacedSources}
-use Rattle.front_end.specs.Sources.{Accepted, AcceptedWith, Drafted, HostsRead, Labelled, Lexed, Parsed, Resolved}
+use Rattle.front_end.specs.Sources.{DraftAccepted, AcceptedWith, Drafted, HostsRead, ProgramLabelled, Lexed, Parsed}
+use Rattle.front_end.specs.Sources.{Resolved}
 use Rattle.front_end.specs.Sources.{Source, Sources}
-use Rattle.front_end.specs.Stages.{Outcome, given, stopped, DueThen, Then}
+use Rattle.front_end.specs.Stages.{StageEnd, given, stopped, DueThen, Then}
 use Rattle.front_end.specs.Verdicts.{VerdictShape, hosts_refused, labels_refused, not_lexed, not_parsed, not_resolved}
 use Rattle.front_end.specs.Verdicts.{places_refused}
 use Rattle.front_end.proofs.Stages.{IsOne, give, stop_with}
@@ -25,13 +26,13 @@ use Rattle.front_end.proofs.Stages.{IsOne, give, stop_with}
 -- ---- two stages in a row
 
 -- the first gave what the second went on with
-pub then_given : {X Y : Type 0} (First : Outcome X → Type 0) (Next : X → Outcome Y → Type 0) (y : Y) →
+pub then_given : {X Y : Type 0} (First : StageEnd X → Type 0) (Next : X → StageEnd Y → Type 0) (y : Y) →
     Then First Next (given y) → (x : X) × First (given x) × Next x (given y)
 then_given {X} {Y} First Next y is =
     ⊎_elim (λ left. left) (λ right. absurd (let no : give y ≡ stop_with right.0 = right.2 in cc)) is
 
 -- the second stopped, or the first did
-then_stopped : {X Y : Type 0} (First : Outcome X → Type 0) (Next : X → Outcome Y → Type 0) (verdict : VerdictShape) →
+then_stopped : {X Y : Type 0} (First : StageEnd X → Type 0) (Next : X → StageEnd Y → Type 0) (verdict : VerdictShape) →
     Then First Next (stopped verdict) →
     ((x : X) × First (given x) × Next x (stopped verdict)) ⊎ First (stopped verdict)
 then_stopped {X} {Y} First Next verdict is =
@@ -42,7 +43,7 @@ then_stopped {X} {Y} First Next verdict is =
     is
 
 -- what is due behind a stage that gave this is due for this
-pub due_given : {X : Type 0} (First : Outcome X → Type 0) (Last : X → VerdictShape → Type 0) (x : X)
+pub due_given : {X : Type 0} (First : StageEnd X → Type 0) (Last : X → VerdictShape → Type 0) (x : X)
     (verdict : VerdictShape) → IsOne First → First (given x) → DueThen First Last verdict → Last x verdict
 due_given {X} First Last x verdict one was due =
     ⊎_elim
@@ -69,7 +70,8 @@ pub record WasRead (p h : List ℕ) (list : List Token) (draft : DraftShape) (fi
 pub data StopsAt (p h : List ℕ) : VerdictShape → Type 0 where
   no_tokens : (why : LexError) → StopsAt p h (not_lexed why)
   no_draft : (list : List Token) (why : ParseError) → Lexed p (given list) → StopsAt p h (not_parsed why)
-  no_hosts : (why : HostsError) → RefusesHosts h why → why ≢ hosts_error.OutOfMemory → StopsAt p h (hosts_refused (refusal_shape why))
+  no_hosts : (why : HostsError) → RefusesHosts h why → why ≢ hosts_error.OutOfMemory →
+      StopsAt p h (hosts_refused (refusal_shape why))
   no_program : (list : List Token) (why : ResolveError) → Lexed p (given list) → StopsAt p h (not_resolved why)
   no_labels : (list : List Token) (draft : DraftShape) (file : HostsShape) (tree : ProgramTree) (why : CheckError) →
       WasRead p h list draft file tree → StopsAt p h (labels_refused file.principals (statement_lines tree) why)
@@ -81,14 +83,14 @@ pub record WasAccepted (p h : List ℕ) (list : List Token) (draft : DraftShape)
     Type 0 where
   pub drafted : WasDrafted p list draft
   pub hosts : HostsRead h (given file)
-  pub accepted : Accepted file draft (given source)
+  pub accepted : DraftAccepted file draft (given source)
 
 pub source_accepted : (p h : List ℕ) (source : Source) → Sources p h (given source) →
     (list : List Token) × (draft : DraftShape) × (file : HostsShape) × WasAccepted p h list draft file source
 source_accepted p h source is =
     let behind = then_given (Drafted p) (AcceptedWith h) source is in
     let before = then_given (Lexed p) Parsed behind.0 behind.1 in
-    let hosts = then_given (HostsRead h) (λ file. Accepted file behind.0) source behind.2 in (
+    let hosts = then_given (HostsRead h) (λ file. DraftAccepted file behind.0) source behind.2 in (
       before.0,
       behind.0,
       hosts.0,
@@ -105,8 +107,8 @@ pub placed_source : (p h : List ℕ) (placed : PlacedSource) → PlacedSources p
 placed_source p h placed is = then_given (Sources p h) OnHosts placed is
 
 -- what was given by an accepted program's stages is a source of the files
-pub accepted_is : (p h : List ℕ) (list : List Token) (draft : DraftShape) (file : HostsShape) (end : Outcome Source) →
-    WasDrafted p list draft → HostsRead h (given file) → Accepted file draft end → Sources p h end
+pub accepted_is : (p h : List ℕ) (list : List Token) (draft : DraftShape) (file : HostsShape) (end : StageEnd Source) →
+    WasDrafted p list draft → HostsRead h (given file) → DraftAccepted file draft end → Sources p h end
 accepted_is p h list draft file end drafted hosts is =
     inl (draft, inl (list, drafted.lexed, drafted.parsed), inl (file, hosts, is))
 
@@ -129,13 +131,14 @@ drafted_at p h verdict is =
     (then_stopped (Lexed p) Parsed verdict is)
 
 accepted_at : (p h : List ℕ) (list : List Token) (draft : DraftShape) (file : HostsShape) (verdict : VerdictShape) →
-    WasDrafted p list draft → HostsRead h (given file) → Accepted file draft (stopped verdict) → StopsAt p h verdict
+    WasDrafted p list draft → HostsRead h (given file) → DraftAccepted file draft (stopped verdict) →
+    StopsAt p h verdict
 accepted_at p h list draft file verdict drafted hosts is =
     ⊎_elim
     (λ left. subst (StopsAt p h) (sym left.2.3) (no_labels list draft file left.0 left.2.0
     (record { drafted = drafted; hosts = hosts; resolved = left.1 })))
     (λ right. subst (StopsAt p h) (sym right.3) (no_program list right.0 drafted.lexed))
-    (then_stopped (Resolved file draft) (Labelled file) verdict is)
+    (then_stopped (Resolved file draft) (ProgramLabelled file) verdict is)
 
 with_hosts_at : (p h : List ℕ) (list : List Token) (draft : DraftShape) (verdict : VerdictShape) →
     WasDrafted p list draft → AcceptedWith h draft (stopped verdict) → StopsAt p h verdict
@@ -143,7 +146,7 @@ with_hosts_at p h list draft verdict drafted is =
     ⊎_elim
     (λ left. accepted_at p h list draft left.0 verdict drafted left.1 left.2)
     (λ right. subst (StopsAt p h) (sym right.3) (no_hosts right.0 right.1 right.2))
-    (then_stopped (HostsRead h) (λ file. Accepted file draft) verdict is)
+    (then_stopped (HostsRead h) (λ file. DraftAccepted file draft) verdict is)
 
 sources_at : (p h : List ℕ) (verdict : VerdictShape) → Sources p h (stopped verdict) → StopsAt p h verdict
 sources_at p h verdict is =

@@ -20,7 +20,7 @@ use Rattle.place_texts.specs.Meant.{meant, unheld_parts}
 use Rattle.place_texts.specs.Parts.{PartShape, parts_of}
 use Rattle.front_end.specs.PlacedSources.{labelled_source}
 use Rattle.front_end.specs.Refusals as refusals
-use Rattle.front_end.specs.Sources.{Accepted, HostsRead, Lexed, Parsed, Source}
+use Rattle.front_end.specs.Sources.{DraftAccepted, HostsRead, Lexed, Parsed, Source}
 use Rattle.front_end.specs.Stages.{DueThen}
 use Rattle.front_end.specs.Verdicts.{VerdictShape, Print, Refuse}
 use Rattle.jifexplain.specs.Texts.{readable, sheet_of, told_of, unheld_told}
@@ -96,7 +96,7 @@ source_verdict name text asked why list draft source =
 abbrev pub SourcePlaced : (name p : List ℕ) (asked : Option (List ℕ)) → Option PlaceError → List Token → DraftShape →
     HostsShape → VerdictShape → Type 0
 SourcePlaced name p asked why list draft file =
-    DueThen (Accepted file draft)
+    DueThen (DraftAccepted file draft)
     (λ source verdict. verdict ≡ source_verdict name (readable p) asked why list draft source)
 
 abbrev pub DraftPlaced : (name p h : List ℕ) (asked : Option (List ℕ)) → Option PlaceError → List Token → DraftShape →

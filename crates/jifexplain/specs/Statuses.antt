@@ -5,7 +5,7 @@ use Rattle.host_decl.specs.Refusal.{not_toml}
 use Rattle.front_end.specs.PlacedSources.{PlacedSource}
 use Rattle.front_end.specs.Refusals.{refusal_status}
 use Rattle.front_end.specs.Sources.{HostsRead}
-use Rattle.front_end.specs.Stages.{Outcome, given, stopped}
+use Rattle.front_end.specs.Stages.{StageEnd, given, stopped}
 use Rattle.front_end.specs.Verdicts.{VerdictShape, Refuse, Print, hosts_refused}
 use Rattle.js_base.specs.declared.status.Status.{Status}
 use Rattle.js_base.specs.declared.status.Status.TheVariants.{Done}
@@ -16,7 +16,7 @@ verdict_status (Refuse refusal) = refusal_status refusal
 verdict_status (Print status text) = status
 
 -- `check` prints the places of an accepted program, and otherwise puts the refusal
-abbrev pub checked_status : Outcome PlacedSource → Status
+abbrev pub checked_status : StageEnd PlacedSource → Status
 checked_status (given placed) = Done
 checked_status (stopped refused) = verdict_status refused
 

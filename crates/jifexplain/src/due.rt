@@ -18,7 +18,11 @@ use std::alloc::Global;
 const FORMS: &str = "P H / P H PART";
 
 /// What is due for the words.
-pub fn due<F: Files>(alloc: Global, words: &[String], files: &mut F) -> Result<Verdict, OutOfMemory>
+pub fn due_verdict<F: Files>(
+    alloc: Global,
+    words: &[String],
+    files: &mut F,
+) -> Result<Verdict, OutOfMemory>
     ensures due { IfOk result (λ verdict. IsDue (map string_bytes words.now)
         (files_change F.Files files.old files.new)
         (verdict_shape verdict)) }
@@ -26,17 +30,23 @@ pub fn due<F: Files>(alloc: Global, words: &[String], files: &mut F) -> Result<V
     ensures kept { AreKept (files_change F.Files files.old files.new) }
 {
     match words {
-        [program, hosts] => due_for(alloc, program.as_str(), hosts.as_str(), Asked::All, files),
+        [program, hosts] => verdict_for_names(
+            alloc,
+            program.as_str(),
+            hosts.as_str(),
+            Asked::All,
+            files,
+        ),
         [program, hosts, part] => {
             let asked = Asked::Meant(part.as_str());
-            due_for(alloc, program.as_str(), hosts.as_str(), asked, files)
+            verdict_for_names(alloc, program.as_str(), hosts.as_str(), asked, files)
         }
         _ => Verdict::usage(alloc, FORMS),
     }
 }
 
 /// What is due for the names of a program and a host file, and what is asked.
-fn due_for<F: Files>(
+fn verdict_for_names<F: Files>(
     alloc: Global,
     program: &str,
     hosts: &str,
@@ -54,7 +64,7 @@ fn due_for<F: Files>(
         hosts,
         asked,
     };
-    match ended(alloc, &names, files) {
+    match verdict_or_stop(alloc, &names, files) {
         Ok(verdict) => Ok(verdict),
         Err(Stop::Due(verdict)) => Ok(verdict),
         Err(Stop::OutOfMemory) => Err(OutOfMemory),
@@ -62,7 +72,11 @@ fn due_for<F: Files>(
 }
 
 /// How the two names end: what is due for them, whether they stop early or not.
-fn ended<F: Files>(alloc: Global, names: &Names<'_>, files: &mut F) -> Result<Verdict, Stop>
+fn verdict_or_stop<F: Files>(
+    alloc: Global,
+    names: &Names<'_>,
+    files: &mut F,
+) -> Result<Verdict, Stop>
     ensures due { EndsIn (IsDueForNames names.now.program.now names.now.hosts.now (asked_shape names.now.asked)
         (files_change F.Files files.old files.new)) result }
     ensures loads { F.loads files.new ≤ F.loads files.old + 2 }
@@ -73,11 +87,11 @@ fn ended<F: Files>(alloc: Global, names: &Names<'_>, files: &mut F) -> Result<Ve
     let [p, h] = loaded.as_slice() else {
         unreachable!();
     };
-    due_for_loaded(alloc, names, p, h)
+    verdict_for_loaded(alloc, names, p, h)
 }
 
 /// What is due for a program and a host file of these names that were loaded.
-fn due_for_loaded(
+fn verdict_for_loaded(
     alloc: Global,
     names: &Names<'_>,
     program: &Loaded,

@@ -5,7 +5,7 @@ ghost use Rattle.js_base.specs.Counts.{last_count};
 ghost use Rattle.host_decl.specs.Refusal.{not_toml};
 ghost use Rattle.front_end.specs.Loads.{FilesChange};
 ghost use Rattle.front_end.specs.PlacedSources.{PlacedSource, PlacedSources};
-ghost use Rattle.front_end.specs.Stages.{Outcome, given, stopped};
+ghost use Rattle.front_end.specs.Stages.{StageEnd, given, stopped};
 ghost use Rattle.front_end.specs.Verdicts.{VerdictShape, hosts_refused, no_such_file};
 ghost use Rattle.jifexplain.specs.Due.{DueForBytes, Due, IsDue, usage};
 ghost use Rattle.jifexplain.specs.Explained.{ExplainsVerdict};
@@ -36,12 +36,12 @@ pub fn explanation_laws()
         PlacesTold program p h asked None second → first ≡ second }
 
     // For a program and a host file alone the status is that of `jifsplit check`.
-    ensures same_status { (program hosts p h : List ℕ) (end : Outcome PlacedSource) (verdict : VerdictShape) →
+    ensures same_status { (program hosts p h : List ℕ) (end : StageEnd PlacedSource) (verdict : VerdictShape) →
         PlacedSources p h end → DueForBytes program hosts None p h verdict →
         verdict_status verdict ≡ checked_status end }
 
     // So it is where a word asks about some parts, but for a word that means none.
-    ensures word_status { (program hosts word p h : List ℕ) (end : Outcome PlacedSource) (verdict : VerdictShape) →
+    ensures word_status { (program hosts word p h : List ℕ) (end : StageEnd PlacedSource) (verdict : VerdictShape) →
         PlacedSources p h end → DueForBytes program hosts (Some word) p h verdict →
         (verdict_status verdict ≡ checked_status end) ⊎ (verdict ≡ no_part program word) }
 

@@ -5,7 +5,7 @@ ghost use Rattle.front_end.specs.Answers.{sink_change};
 ghost use Rattle.front_end.specs.Loads.{AreKept, files_change};
 ghost use Rattle.jifexplain.specs.Answers.{AnswersTo};
 
-use crate::due::due;
+use crate::due::due_verdict;
 use crate::laws::explanation_laws;
 use crate::line_laws::line_laws;
 use front_end::answer;
@@ -54,6 +54,6 @@ pub fn jifexplain<F: Files, S: Sink, E: Sink>(
 {
     explanation_laws();
     line_laws();
-    let found = due(alloc, words, files);
+    let found = due_verdict(alloc, words, files);
     answer(alloc, PROGRAM, NO_MEMORY, found, out, err)
 }

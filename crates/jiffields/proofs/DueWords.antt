@@ -17,10 +17,10 @@ use Rattle.front_end.proofs.Stops.{GivesAsked}
 use Rattle.node_starts.specs.SourceNames.{most_of, name_of}
 use Rattle.jiffields.specs.Due.{DueForAsked, absent, loaded, Due, no_words, asks, DueForBytes, IsDue}
 use Rattle.jiffields.specs.Due.{IsDueForAsked, usage}
-use Rattle.jiffields.specs.Words.{Asked, files_of, words_of}
+use Rattle.jiffields.specs.Words.{FieldsAsked, files_of, words_of}
 
 -- one of the files was not loaded
-loading_due : (asked : Asked) (files : FilesChange) (verdict : VerdictShape) →
+loading_due : (asked : FieldsAsked) (files : FilesChange) (verdict : VerdictShape) →
     StopsLoading (files_of asked) files verdict → IsDueForAsked asked files verdict
 loading_due asked files verdict stops =
     ⊎_elim
@@ -32,7 +32,7 @@ loading_due asked files verdict stops =
     (λ fault. inr fault)
     stops
 
-pub loading_stops : (asked : Asked) (names : List (List ℕ)) (files : FilesChange) (why : Stop) →
+pub loading_stops : (asked : FieldsAsked) (names : List (List ℕ)) (files : FilesChange) (why : Stop) →
     names ≡ files_of asked → StopsWith (StopsLoading names files) why → StopsWith (IsDueForAsked asked files) why
 loading_stops asked names files why same stops =
     stops_weaker (StopsLoading names files) (IsDueForAsked asked files) why
@@ -40,7 +40,7 @@ loading_stops asked names files why same stops =
     (subst (λ (all : List (List ℕ)). StopsLoading all files verdict) same is)) stops
 
 -- all were loaded
-pub all_due : (asked : Asked) (files : FilesChange) (one two three four : file.Asked) (all : List Loaded)
+pub all_due : (asked : FieldsAsked) (files : FilesChange) (one two three four : file.Asked) (all : List Loaded)
     (c h s j : Loaded) (result : Result Verdict Stop) →
     AllZip (GivesAsked files.held) (one ∷ two ∷ three ∷ four ∷ []) all → c ≡ get_or all 0 c → h ≡ get_or all 1 h →
     s ≡ get_or all 2 s → j ≡ get_or all 3 j →
@@ -78,9 +78,9 @@ all_due asked files one two three four (x ∷ y ∷ z ∷ w ∷ []) c h s j resu
     (subst (IsLoaded JOURNAL_BYTES fourth.0) (sym pd) fourth.2))
 
 -- what is due for what is asked for is due for the words
-pub due_for_words : (words : List (List ℕ)) (asked : Asked) (files : FilesChange) (verdict : VerdictShape) →
+pub verdict_for_words : (words : List (List ℕ)) (asked : FieldsAsked) (files : FilesChange) (verdict : VerdictShape) →
     words ≡ words_of asked → IsDueForAsked asked files verdict → IsDue words files verdict
-due_for_words words asked files verdict are due =
+verdict_for_words words asked files verdict are due =
     ⊎_elim
     (λ whole. inl (whole.0, asks asked whole.0 verdict are whole.1, whole.2))
     (λ fault. inr (asked, are, fault))
@@ -88,7 +88,7 @@ due_for_words words asked files verdict are due =
 
 -- words that ask for nothing
 pub usage_due : (words : List (List ℕ)) (files : FilesChange) (verdict : VerdictShape) →
-    ((asked : Asked) → words ≢ words_of asked) → files.loads_after ≡ files.loads_before →
+    ((asked : FieldsAsked) → words ≢ words_of asked) → files.loads_after ≡ files.loads_before →
     files.faults_after ≡ files.faults_before → verdict ≡ usage → IsDue words files verdict
 usage_due words files verdict none loads faults is =
     inl (

@@ -6,17 +6,17 @@ use Rattle.std.specs.Prelude.{ℤ}
 use Rattle.js_base.specs.declared.ids.HostId.{HostId}
 use Rattle.host_code.specs.declared.message.Message.{Message}
 use Rattle.host_code.specs.Code.{CodeShape}
-use Rattle.host_core.specs.Host.{HostShape, Outcome}
+use Rattle.host_core.specs.Host.{HostState, Outcome}
 use Rattle.host_core.specs.Start.{host_at_start}
 use Rattle.event_text.specs.JournalText.{IsSendLine, sent_words}
 use Rattle.event_text.specs.Words.{Word}
-use Rattle.journal_laws.specs.Plays.{AreNotedOf, IsJournalOf, MayStep, Plays, step_words}
-use Rattle.journal_laws.specs.Steps.{IsStep, Step}
+use Rattle.journal_laws.specs.Plays.{AreNotedOf, IsJournalOf, MayMakeStep, Plays, step_words}
+use Rattle.journal_laws.specs.Steps.{IsStepOfHost, Step}
 use Rattle.jiffields.specs.Runs.{HasRun}
 
 -- some steps of the host have these lines
-abbrev HasSteps : CodeShape → HostShape → List (List Word) → Type 0
-HasSteps code start lines = (steps : List Step) × (last : HostShape) × IsJournalOf code start lines steps last
+abbrev HasSteps : CodeShape → HostState → List (List Word) → Type 0
+HasSteps code start lines = (steps : List Step) × (last : HostState) × IsJournalOf code start lines steps last
 
 -- nothing is sent, or there is one line for it
 sent_lines : (code : CodeShape) (sent : Option (HostId × Message)) →
@@ -25,12 +25,12 @@ sent_lines code None = inl refl
 sent_lines code (Some letter) = inr (_, refl, refl)
 
 -- no step
-none_made : (code : CodeShape) (start : HostShape) → HasSteps code start []
+none_made : (code : CodeShape) (start : HostState) → HasSteps code start []
 none_made code start = ([], start, ([], (refl, refl), inl refl))
 
 -- a step that sent nothing, in front of others
-quiet_step : (code : CodeShape) (start : HostShape) (step : Step) (outcome : Outcome) (lines : List (List Word)) →
-    MayStep code start step → IsStep code start step outcome → sent_words code outcome.sent ≡ [] →
+quiet_step : (code : CodeShape) (start : HostState) (step : Step) (outcome : Outcome) (lines : List (List Word)) →
+    MayMakeStep code start step → IsStepOfHost code start step outcome → sent_words code outcome.sent ≡ [] →
     HasSteps code outcome.state lines → HasSteps code start (step_words code step ∷ lines)
 quiet_step code start step outcome lines may is quiet (steps, last, (all, plays, noted)) = (
   step ∷ steps,
@@ -44,8 +44,8 @@ quiet_step code start step outcome lines may is quiet (steps, last, (all, plays,
 )
 
 -- a step that sent something, in front of others
-loud_step : (code : CodeShape) (start : HostShape) (step : Step) (outcome : Outcome) (sent : List Word)
-    (lines : List (List Word)) → MayStep code start step → IsStep code start step outcome →
+loud_step : (code : CodeShape) (start : HostState) (step : Step) (outcome : Outcome) (sent : List Word)
+    (lines : List (List Word)) → MayMakeStep code start step → IsStepOfHost code start step outcome →
     sent_words code outcome.sent ≡ sent ∷ [] → HasSteps code outcome.state lines →
     HasSteps code start (step_words code step ∷ sent ∷ lines)
 loud_step code start step outcome sent lines may is loud (steps, last, (all, plays, noted)) = (
@@ -60,8 +60,8 @@ loud_step code start step outcome sent lines may is loud (steps, last, (all, pla
 )
 
 -- a step whose line of what was sent is missing
-cut_step : (code : CodeShape) (start : HostShape) (step : Step) (outcome : Outcome) (sent : List Word) →
-    MayStep code start step → IsStep code start step outcome → IsSendLine sent →
+cut_step : (code : CodeShape) (start : HostState) (step : Step) (outcome : Outcome) (sent : List Word) →
+    MayMakeStep code start step → IsStepOfHost code start step outcome → IsSendLine sent →
     sent_words code outcome.sent ≡ sent ∷ [] → HasSteps code start (step_words code step ∷ [])
 cut_step code start step outcome sent may is sends loud = (
   step ∷ [],
@@ -79,7 +79,7 @@ first_same a b xs ys is = cc
 rest_same : (a b : List Word) (xs ys : List (List Word)) → ◌≡◌ {A = List (List Word)} (a ∷ xs) (b ∷ ys) → xs ≡ ys
 rest_same a b xs ys is = cc
 
-pub front_steps : (code : CodeShape) (steps : List Step) (start last : HostShape)
+pub front_steps : (code : CodeShape) (steps : List Step) (start last : HostState)
     (all front behind : List (List Word)) → Plays code start steps last all → all ≡ front ++ behind →
     HasSteps code start front
 front_steps code steps start last all [] behind plays is = none_made code start

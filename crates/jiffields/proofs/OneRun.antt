@@ -9,20 +9,20 @@ use Rattle.event_text.specs.Lines.{LineShape}
 use Rattle.event_text.specs.Words.{Word}
 use Rattle.host_code.specs.Code.{CodeShape}
 use Rattle.host_code.specs.Sound.{IsHost, IsSoundCode}
-use Rattle.host_core.specs.Host.{HostShape}
+use Rattle.host_core.specs.Host.{HostState}
 use Rattle.host_core.specs.Start.{host_at_start}
 use Rattle.journal_laws.specs.Plays.{HaveOwnNames, IsJournalOf}
 use Rattle.journal_laws.specs.Steps.{Step}
 use Rattle.front_end.specs.Verdicts.{VerdictShape, Print}
 use Rattle.node_starts.specs.NodeSources.{NodeStart}
 use Rattle.jiffields.specs.Fields.{fields_text}
-use Rattle.jiffields.specs.Runs.{DueForLines, EndsAt, HasRun, no_run, printed, refused, words_in}
+use Rattle.jiffields.specs.Runs.{DueForLines, RunsEndAt, HasRun, no_run, printed, refused, words_in}
 use Rattle.jiffields.proofs.JournalFronts.{front_run}
 
 -- a journal determines the fields of its host
 abbrev pub Determines : Type 0
 Determines = (code : CodeShape) (values : List (List ℤ)) (me : HostId) (key other : List ℕ) (lines : List (List Word))
-    (steps others : List Step) (last end : HostShape) →
+    (steps others : List Step) (last end : HostState) →
     IsSoundCode code → HaveOwnNames code → IsHost code me →
     IsJournalOf code (host_at_start code values key me) lines steps last →
     IsJournalOf code (host_at_start code values other me) lines others end →
@@ -50,7 +50,7 @@ run_up_to code values me front line behind run =
     ∙ sym (append_assoc (words_in front) (line.words ∷ []) (words_in behind))) run)
 
 no_run_of_all : (code : CodeShape) (values : List (List ℤ)) (me : HostId) (lines : List LineShape) (number : ℕ) →
-    EndsAt code values me lines number → ¬ HasRun code values me (words_in lines)
+    RunsEndAt code values me lines number → ¬ HasRun code values me (words_in lines)
 no_run_of_all code values me lines number ends run =
     ends.none (run_up_to code values me ends.front ends.line ends.behind
     (subst (λ (all : List LineShape). HasRun code values me (words_in all)) ends.lines_are run))
@@ -83,7 +83,7 @@ cut (one ∷ first) (two ∷ second) behind rest line other is =
     (one_more one first second line other (cut first second behind rest line other others))
 
 ends_once : (code : CodeShape) (values : List (List ℤ)) (me : HostId) (lines : List LineShape) (number other : ℕ) →
-    EndsAt code values me lines number → EndsAt code values me lines other → number ≡ other
+    RunsEndAt code values me lines number → RunsEndAt code values me lines other → number ≡ other
 ends_once code values me lines number other one two =
     by_cuts (cut one.front two.front one.behind two.behind one.line two.line (sym one.lines_are ∙ two.lines_are))
   where
@@ -115,7 +115,7 @@ lines_once determines file host node lines _ _ told (refused number one) (refuse
 
 -- the fields that are due are those of each run
 pub fields_of_run : Determines → (file host : List ℕ) (node : NodeStart) (lines : List LineShape)
-    (verdict : VerdictShape) (status : Status) (text key : List ℕ) (steps : List Step) (last : HostShape) →
+    (verdict : VerdictShape) (status : Status) (text key : List ℕ) (steps : List Step) (last : HostState) →
     IsTold node → DueForLines file host node lines verdict → verdict ≡ Print status text →
     IsJournalOf node.source.code (host_at_start node.source.code node.source.values key node.me) (words_in lines)
     steps last →

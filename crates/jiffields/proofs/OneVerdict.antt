@@ -1,9 +1,6 @@
 -- For words and for files that tell what they hold, one verdict is due.
-use Rattle.std.proofs.Common.{◌≡◌, ◌≢◌, ◌∙◌, ℕ, ◌+◌, ◌≤◌, ◌<◌, List, [], ◌∷◌, length, Option, Some, None, refl, sym, ap}
-use Rattle.std.proofs.Common.{subst, inl, inr, ⊎_elim, arith, map}
-use Rattle.std.specs.Prelude.{ℤ, ⊤}
-use Rattle.std.specs.List.{AllByRecursion, IsDistinct}
-use Rattle.std.specs.Str.{bytes_eq}
+use Rattle.std.proofs.Common.{◌≡◌, ◌∙◌, ℕ, ◌+◌, ◌<◌, List, [], ◌∷◌, length, Option, Some, None, refl, sym, ap}
+use Rattle.std.proofs.Common.{subst, inl, inr, ⊎_elim, arith}
 use Rattle.std.proofs.lemmas.List.{length-map}
 use Rattle.std.proofs.lemmas.Option.{slice_get_within}
 use Rattle.js_base.specs.Counts.{last_count}
@@ -11,20 +8,19 @@ use Rattle.js_base.proofs.Repeats.{none_repeated, one_repeated}
 use Rattle.js_base.specs.declared.status.Status.{Status}
 use Rattle.js_base.specs.declared.status.Status.TheVariants.{Done}
 use Rattle.event_text.specs.Lines.{LineShape}
-use Rattle.host_code.specs.Code.{CodeHostShape, CodeShape}
+use Rattle.host_code.specs.Code.{CodeShape}
 use Rattle.host_code.specs.Sound.{IsHost}
-use Rattle.host_core.specs.Host.{HostShape}
+use Rattle.host_core.specs.Host.{HostState}
 use Rattle.host_core.specs.Start.{host_at_start}
 use Rattle.journal_laws.specs.Plays.{IsJournalOf}
 use Rattle.journal_laws.specs.Steps.{Step}
 use Rattle.record_merge.specs.Journals.{journal_lines}
-use Rattle.record_merge.specs.declared.lines.TheConstants.{JOURNAL_BYTES}
 use Rattle.front_end.specs.declared.refusal.LineCause.{LineCause}
 use Rattle.front_end.specs.Loads.{FilesChange, Told, IsHeld, IsFirstAbsent}
 use Rattle.front_end.specs.Stages.{DueThen, given, stopped}
-use Rattle.front_end.specs.Verdicts.{VerdictShape, Print, at_line, no_such_file}
+use Rattle.front_end.specs.Verdicts.{VerdictShape, Print, no_such_file}
 use Rattle.front_end.proofs.AbsentFiles.{held_once, told_held, absent_not_held, absent_once}
-use Rattle.front_end.proofs.Answering.{no_fault_and_fault}
+use Rattle.front_end.proofs.DueByFiles.{IsDueOrFault, due_or_fault_once}
 use Rattle.front_end.proofs.Places.{of_all}
 use Rattle.front_end.proofs.Stages.{IsOne, give, one_due, one_then, stop_with}
 use Rattle.node_starts.specs.NodeSources.{NodeSources, NodeStart, OfHost, named_host}
@@ -32,13 +28,13 @@ use Rattle.node_starts.specs.SourceNames.{name_of, SourceName, Program, Code}
 use Rattle.node_starts.proofs.OneSource.{OneSources, host_once, source_once}
 use Rattle.node_starts.proofs.SourceRefusals.{IsRefusal, host_refuses, is_refused, source_refuses, then_refuses}
 use Rattle.jiffields.specs.Due.{Due, no_words, asks, DueForAsked, absent, loaded, DueForBytes, DueForNode}
-use Rattle.jiffields.specs.Due.{HostFound, IsDue, usage}
+use Rattle.jiffields.specs.Due.{FieldsHostFound, IsDue}
 use Rattle.jiffields.specs.Fields.{fields_text}
 use Rattle.jiffields.specs.Lines.{IsAtRefused, LinesRead, refused_line}
 use Rattle.jiffields.specs.Names.{NamesRead, field_names, two_fields, two_variables, variable_names}
 use Rattle.jiffields.specs.Runs.{DueForLines, words_in}
-use Rattle.jiffields.specs.Words.{Asked, files_of, words_of, words_with}
-use Rattle.jiffields.proofs.OneRun.{Determines, IsTold, fields_of_run, lines_once}
+use Rattle.jiffields.specs.Words.{FieldsAsked, files_of, words_of, words_with}
+use Rattle.jiffields.proofs.OneRun.{Determines, fields_of_run, lines_once}
 
 -- what is known of sources and of journals
 pub record ReportLaws : Type 0 where
@@ -47,7 +43,8 @@ pub record ReportLaws : Type 0 where
 
 -- ---- nodes
 
-found_once : ReportLaws → (asked : Asked) (source hosts start : List ℕ) → IsOne (HostFound asked source hosts start)
+found_once : ReportLaws → (asked : FieldsAsked) (source hosts start : List ℕ) →
+    IsOne (FieldsHostFound asked source hosts start)
 found_once laws asked source hosts start =
     one_then (NodeSources asked.source source hosts asked.start start)
     (OfHost asked.host (name_of asked.source) asked.hosts)
@@ -55,8 +52,8 @@ found_once laws asked source hosts start =
     (λ it was. host_once asked.host (name_of asked.source) asked.hosts it)
 
 -- the host of a node is one of its code's
-host_there : (asked : Asked) (source hosts start : List ℕ) (node : NodeStart) →
-    HostFound asked source hosts start (given node) → IsHost node.source.code node.me
+host_there : (asked : FieldsAsked) (source hosts start : List ℕ) (node : NodeStart) →
+    FieldsHostFound asked source hosts start (given node) → IsHost node.source.code node.me
 host_there asked source hosts start node (inl (it, was, (same, (row, here, named, first), alike))) =
     let within : node.me.0 < length it.hosts.hosts = slice_get_within it.hosts.hosts node.me.0 row here in
     let count = ap length alike in
@@ -122,7 +119,7 @@ read_once name code bytes (stopped verdict) (stopped other) (inr (few, refused))
 
 -- ---- bytes
 
-node_once : ReportLaws → (asked : Asked) (journal : List ℕ) (node : NodeStart) (first second : VerdictShape) →
+node_once : ReportLaws → (asked : FieldsAsked) (journal : List ℕ) (node : NodeStart) (first second : VerdictShape) →
     IsHost node.source.code node.me → DueForNode asked journal node first → DueForNode asked journal node second →
     first ≡ second
 node_once laws asked journal node first second me one two =
@@ -136,11 +133,12 @@ node_once laws asked journal node first second me one two =
     (record { sound = named.1; own = named.2; host = me }) this that)
     here there) one two
 
-pub bytes_once : ReportLaws → (asked : Asked) (source hosts start journal : List ℕ) (first second : VerdictShape) →
+pub bytes_once : ReportLaws → (asked : FieldsAsked) (source hosts start journal : List ℕ)
+    (first second : VerdictShape) →
     DueForBytes asked source hosts start journal first → DueForBytes asked source hosts start journal second →
     first ≡ second
 bytes_once laws asked source hosts start journal first second one two =
-    one_due (HostFound asked source hosts start) (DueForNode asked journal) first second
+    one_due (FieldsHostFound asked source hosts start) (DueForNode asked journal) first second
     (found_once laws asked source hosts start)
     (λ node found here there. node_once laws asked journal node first second
     (host_there asked source hosts start node found) here there) one two
@@ -156,11 +154,11 @@ with_once (Code name) (Program other) a b c d e f g h is = absurd (let never : �
 with_once (Program name) (Code other) a b c d e f g h is = absurd (let never : ⊥ = cc in never)
 with_once (Program name) (Program other) a b c d e f g h is = (cc, cc, cc, cc, cc)
 
-asked_of : SourceName → (hosts host start journal : List ℕ) → Asked
+asked_of : SourceName → (hosts host start journal : List ℕ) → FieldsAsked
 asked_of source hosts host start journal =
     record { source = source; hosts = hosts; host = host; start = start; journal = journal }
 
-asked_once : (one two : Asked) → words_of one ≡ words_of two → one ≡ two
+asked_once : (one two : FieldsAsked) → words_of one ≡ words_of two → one ≡ two
 unfolding asked_of
 asked_once one two is =
     let all = with_once one.source two.source one.hosts one.host one.start one.journal two.hosts two.host two.start
@@ -172,7 +170,7 @@ asked_once one two is =
     ∙ ap (λ it. asked_of two.source two.hosts two.host two.start it) all.4
 
 -- files that are held are not absent
-absent_or_told : (holds : List ℕ → Option (List ℕ)) (asked : Asked) (source hosts start journal : List ℕ)
+absent_or_told : (holds : List ℕ → Option (List ℕ)) (asked : FieldsAsked) (source hosts start journal : List ℕ)
     (place : ℕ) (file : List ℕ) → IsFirstAbsent (Some holds) (files_of asked) place file →
     Told (Some holds) (name_of asked.source) (Some source) → Told (Some holds) asked.hosts (Some hosts) →
     Told (Some holds) asked.start (Some start) → ¬ Told (Some holds) asked.journal (Some journal)
@@ -186,7 +184,7 @@ absent_or_told holds asked source hosts start journal place file first a b c d =
       ),
     ) first.here)
 
-asked_for_once : ReportLaws → (asked : Asked) (holds : List ℕ → Option (List ℕ)) (number other : ℕ)
+asked_for_once : ReportLaws → (asked : FieldsAsked) (holds : List ℕ → Option (List ℕ)) (number other : ℕ)
     (first second : VerdictShape) → DueForAsked asked (Some holds) number first →
     DueForAsked asked (Some holds) other second → (number ≡ other) × (first ≡ second)
 asked_for_once laws asked holds _ _ _ _ (absent place file one) (absent other second two) =
@@ -217,34 +215,28 @@ due_once laws words holds _ _ _ _ (asks asked number verdict are due) (no_words 
 due_once laws words holds _ _ _ _ (asks asked number first are one) (asks other count second also two) =
     let same : other ≡ asked = asked_once other asked (sym also ∙ are) in
     asked_for_once laws asked holds number count first second one
-    (subst (λ (it : Asked). DueForAsked it (Some holds) count second) same two)
+    (subst (λ (it : FieldsAsked). DueForAsked it (Some holds) count second) same two)
 
 -- ---- what is due for words and for what the files did
+
+-- for a file whose load failed its line is due
+pub due_or_fault : (words : List (List ℕ)) (files : FilesChange) (verdict : VerdictShape) → IsDue words files verdict →
+    IsDueOrFault (Due words) files verdict
+due_or_fault words files verdict due =
+    ⊎_elim (λ by_files. inl by_files) (λ fault. inr (fault.2.rose, fault.2.verdict_is)) due
 
 pub answer_once : ReportLaws → (words : List (List ℕ)) (files : FilesChange) (holds : List ℕ → Option (List ℕ))
     (first second : VerdictShape) →
     files.held ≡ Some holds → files.faults_before < last_count → IsDue words files first →
     IsDue words files second → first ≡ second
 answer_once laws words files holds first second tells below one two =
-    ⊎_elim
-    (λ by_files. ⊎_elim
-    (λ also. (due_once laws words holds by_files.0 also.0 first second
-    (subst (λ (held : Option (List ℕ → Option (List ℕ))). Due words held by_files.0 first) tells by_files.1)
-    (subst (λ (held : Option (List ℕ → Option (List ℕ))). Due words held also.0 second) tells also.1)).1)
-    (λ fault. absurd (no_fault_and_fault files.faults_before files.faults_after below by_files.2.no_fault
-    fault.2.rose))
-    two)
-    (λ fault. ⊎_elim
-    (λ also. absurd (no_fault_and_fault files.faults_before files.faults_after below also.2.no_fault
-    fault.2.rose))
-    (λ also. fault.2.verdict_is ∙ sym also.2.verdict_is)
-    two)
-    one
+    due_or_fault_once (Due words) files holds (due_once laws words holds) tells below first second
+    (due_or_fault words files first one) (due_or_fault words files second two)
 
 -- ---- the fields that are due
 
-found_refuses : (asked : Asked) (source hosts start : List ℕ) (verdict : VerdictShape) →
-    HostFound asked source hosts start (stopped verdict) → IsRefusal verdict
+found_refuses : (asked : FieldsAsked) (source hosts start : List ℕ) (verdict : VerdictShape) →
+    FieldsHostFound asked source hosts start (stopped verdict) → IsRefusal verdict
 found_refuses asked source hosts start =
     then_refuses (NodeSources asked.source source hosts asked.start start)
     (OfHost asked.host (name_of asked.source) asked.hosts)
@@ -267,9 +259,9 @@ read_refuses name code bytes verdict (inl (more, is)) = is_refused verdict _ is
 read_refuses name code bytes verdict (inr (few, refused)) =
     at_refused name (refused_line code bytes) verdict refused
 
-pub fields_due : ReportLaws → (asked : Asked) (source hosts start journal : List ℕ) (node : NodeStart)
-    (status : Status) (text key : List ℕ) (steps : List Step) (last : HostShape) →
-    HostFound asked source hosts start (given node) →
+pub fields_due : ReportLaws → (asked : FieldsAsked) (source hosts start journal : List ℕ) (node : NodeStart)
+    (status : Status) (text key : List ℕ) (steps : List Step) (last : HostState) →
+    FieldsHostFound asked source hosts start (given node) →
     DueForBytes asked source hosts start journal (Print status text) →
     IsJournalOf node.source.code (host_at_start node.source.code node.source.values key node.me)
     (words_in (journal_lines journal)) steps last →

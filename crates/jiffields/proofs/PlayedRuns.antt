@@ -8,7 +8,7 @@ use Rattle.event_text.specs.declared.lines.Line.{Line}
 use Rattle.event_text.specs.Lines.{words}
 use Rattle.event_text.specs.Words.{Word}
 use Rattle.host_code.specs.Code.{CodeShape}
-use Rattle.host_core.specs.Host.{HostShape}
+use Rattle.host_core.specs.Host.{HostState}
 use Rattle.host_core.specs.Start.{host_at_start}
 use Rattle.journal_laws.specs.Plays.{IsJournalOf}
 use Rattle.journal_laws.specs.Steps.{Step}
@@ -20,12 +20,12 @@ use Rattle.front_end.specs.Verdicts.{Print}
 use Rattle.front_end.proofs.Stages.{stops_weaker}
 use Rattle.node_starts.specs.NodeSources.{NodeStart}
 use Rattle.jiffields.specs.Fields.{fields_text}
-use Rattle.jiffields.specs.Runs.{DueForLines, EndsAt, HasRun, no_run, printed, refused, words_in}
+use Rattle.jiffields.specs.Runs.{DueForLines, RunsEndAt, HasRun, no_run, printed, refused, words_in}
 
 -- some run of the host has this journal and these rows behind it
 abbrev pub HasRows : CodeShape → (values : List (List ℤ)) → HostId → List (List Word) → List (List ℤ) → Type 0
 HasRows code values me lines rows =
-    (key : List ℕ) × (steps : List Step) × (last : HostShape)
+    (key : List ℕ) × (steps : List Step) × (last : HostState)
     × IsJournalOf code (host_at_start code values key me) lines steps last × (last.rows ≡ rows)
 
 said_words : (lines : List Line) → journal_of lines ≡ words_in (map said_line lines)
@@ -51,7 +51,7 @@ front_words (one ∷ front) line =
     ap (λ (more : List (List Word)). words one.bytes.now ∷ more) (front_words front line)
 
 ends_at : (code : CodeShape) (values : List (List ℤ)) (me : HostId) (lines : List Line) (number : ℕ) →
-    HasNoRun code values me lines number → EndsAt code values me (map said_line lines) number
+    HasNoRun code values me lines number → RunsEndAt code values me (map said_line lines) number
 ends_at code values me lines number ends = record {
   front = map said_line ends.front;
   line = said_line ends.line;

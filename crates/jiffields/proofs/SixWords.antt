@@ -1,8 +1,9 @@
 -- Lists of five and of six texts, as the words have them.
-use Rattle.std.proofs.Common.{◌≡◌, ◌≢◌, ◌+◌, ℕ, List, [], ◌∷◌, length, get_or, map, sym, ◌∙◌, ap, String, Global, refl, arith}
+use Rattle.std.proofs.Common.{◌≡◌, ◌≢◌, ◌+◌, ℕ, List, [], ◌∷◌, length, get_or, map, sym, ◌∙◌, ap, String, Global, refl}
+use Rattle.std.proofs.Common.{arith}
 use Rattle.std.specs.Prelude.{string_bytes, codes}
 use Rattle.node_starts.specs.SourceNames.{SourceName, Program, Code}
-use Rattle.jiffields.specs.Words.{Asked, words_of, words_with}
+use Rattle.jiffields.specs.Words.{FieldsAsked, words_of, words_with}
 
 -- texts, by their places
 pub five : (xs : List (String Global)) (a b c d e : String Global) → length xs ≡ 5 → a ≡ get_or xs 0 a →
@@ -44,14 +45,14 @@ by_source : (words : List (List ℕ)) (source : SourceName) (a b c d : List ℕ)
 by_source words (Code name) a b c d is not = absurd (not (ap length is))
 by_source words (Program name) a b c d is not = (name, is)
 
-pub no_count : (words : List (List ℕ)) → length words ≢ 5 → length words ≢ 6 → (asked : Asked) →
+pub no_count : (words : List (List ℕ)) → length words ≢ 5 → length words ≢ 6 → (asked : FieldsAsked) →
     words ≢ words_of asked
 no_count words not nor asked is =
     let six = by_source words asked.source asked.hosts asked.host asked.start asked.journal is not in
     nor (ap length six.1)
 
 pub no_flag : (words : List (List ℕ)) (a b c d e f : List ℕ) → words ≡ a ∷ b ∷ c ∷ d ∷ e ∷ f ∷ [] →
-    a ≢ codes "--program" → (asked : Asked) → words ≢ words_of asked
+    a ≢ codes "--program" → (asked : FieldsAsked) → words ≢ words_of asked
 no_flag words a b c d e f are other asked is =
     let not : length words ≢ 5 = λ five. let count = ap length are in omega (arith, five, count) in
     let six = by_source words asked.source asked.hosts asked.host asked.start asked.journal is not in

@@ -12,7 +12,7 @@ use Rattle.record_merge.specs.Journals.{first_bad, journal_lines}
 use Rattle.record_merge.specs.declared.lines.TheConstants.{JOURNAL_BYTES}
 use Rattle.front_end.specs.declared.refusal.LineCause.{LineCause}
 use Rattle.front_end.specs.declared.refusal.LineCause.TheVariants as cause
-use Rattle.front_end.specs.Stages.{Outcome, given, stopped}
+use Rattle.front_end.specs.Stages.{StageEnd, given, stopped}
 use Rattle.front_end.specs.Verdicts.{VerdictShape, at_line, too_long}
 
 -- there is text behind the last line feed
@@ -42,7 +42,7 @@ IsAtRefused name None verdict = ⊥
 IsAtRefused name (Some first) verdict = verdict ≡ at_line name first.0 first.1
 
 -- the lines of a journal of this name that tell of steps and of what was sent
-abbrev pub LinesRead : (name : List ℕ) → CodeShape → List ℕ → Outcome (List LineShape) → Type 0
+abbrev pub LinesRead : (name : List ℕ) → CodeShape → List ℕ → StageEnd (List LineShape) → Type 0
 LinesRead name code bytes (given said) =
     (length bytes ≤ JOURNAL_BYTES) × (refused_line code bytes ≡ None) × (said ≡ journal_lines bytes)
 LinesRead name code bytes (stopped verdict) =

@@ -7,7 +7,7 @@ use Rattle.host_code.specs.Code.{CodeShape}
 use Rattle.host_code.specs.Sound.{IsSoundCode}
 use Rattle.journal_laws.specs.Plays.{HaveOwnNames}
 use Rattle.front_end.specs.Refusals as refusals
-use Rattle.front_end.specs.Stages.{Outcome, given, stopped}
+use Rattle.front_end.specs.Stages.{StageEnd, given, stopped}
 use Rattle.front_end.specs.Verdicts.{VerdictShape, Refuse}
 
 abbrev pub field_names : CodeShape → List (List ℕ)
@@ -25,7 +25,7 @@ two_variables file name = Refuse (refusals.TwoVariables file name)
 
 -- Every code in memory is sound, and its hosts, which are those of a host file, have names of their own. It is refused
 -- for the first name that repeats an earlier one, of a field, or else of a variable.
-abbrev pub NamesRead : (file : List ℕ) → CodeShape → Outcome CodeShape → Type 0
+abbrev pub NamesRead : (file : List ℕ) → CodeShape → StageEnd CodeShape → Type 0
 NamesRead file code (given same) = (same ≡ code) × IsSoundCode code × HaveOwnNames code
 NamesRead file code (stopped verdict) =
     ((name : List ℕ) × IsFirstRepeated (field_names code) name × (verdict ≡ two_fields file name))

@@ -11,7 +11,7 @@ ghost use Rattle.record_merge.specs.declared.lines.TheConstants.{JOURNAL_BYTES};
 ghost use Rattle.front_end.specs.Loading.{EndsAs, EndsIn, IsLoaded, StopsWith};
 ghost use Rattle.front_end.specs.Loads.{AreKept, files_change};
 ghost use Rattle.front_end.specs.Verdicts.{verdict_shape};
-ghost use Rattle.jiffields.specs.Due.{DueForBytes, DueForNode, HostFound, IsDue, IsDueForAsked};
+ghost use Rattle.jiffields.specs.Due.{DueForBytes, DueForNode, FieldsHostFound, IsDue, IsDueForAsked};
 ghost use Rattle.jiffields.specs.Runs.{DueForLines, no_run};
 ghost use Rattle.jiffields.specs.Words.{asked_shape};
 
@@ -34,7 +34,11 @@ use std::alloc::{AllocError, Global};
 const FORMS: &str = "CODE HOSTS HOST START JOURNAL / --program P HOSTS HOST START JOURNAL";
 
 /// What is due for the words.
-pub fn due<F: Files>(alloc: Global, words: &[String], files: &mut F) -> Result<Verdict, OutOfMemory>
+pub fn due_verdict<F: Files>(
+    alloc: Global,
+    words: &[String],
+    files: &mut F,
+) -> Result<Verdict, OutOfMemory>
     ensures due { IfOk result (λ verdict. IsDue (map string_bytes words.now)
         (files_change F.Files files.old files.new)
         (verdict_shape verdict)) }
@@ -42,13 +46,13 @@ pub fn due<F: Files>(alloc: Global, words: &[String], files: &mut F) -> Result<V
     ensures kept { AreKept (files_change F.Files files.old files.new) }
 {
     match asked_for(words) {
-        Some(asked) => due_for_asked(alloc, &asked, files),
+        Some(asked) => verdict_for_asked(alloc, &asked, files),
         None => Verdict::usage(alloc, FORMS),
     }
 }
 
 /// What is due for what is asked for.
-fn due_for_asked<F: Files>(
+fn verdict_for_asked<F: Files>(
     alloc: Global,
     asked: &Asked<'_>,
     files: &mut F,
@@ -59,7 +63,7 @@ fn due_for_asked<F: Files>(
     ensures loads { F.loads files.new ≤ F.loads files.old + 4 }
     ensures kept { AreKept (files_change F.Files files.old files.new) }
 {
-    match ended(alloc, asked, files) {
+    match verdict_or_stop(alloc, asked, files) {
         Ok(verdict) => Ok(verdict),
         Err(Stop::Due(verdict)) => Ok(verdict),
         Err(Stop::OutOfMemory) => Err(OutOfMemory),
@@ -67,7 +71,11 @@ fn due_for_asked<F: Files>(
 }
 
 /// How what is asked for ends: what is due for it, whether it stops early or not.
-fn ended<F: Files>(alloc: Global, asked: &Asked<'_>, files: &mut F) -> Result<Verdict, Stop>
+fn verdict_or_stop<F: Files>(
+    alloc: Global,
+    asked: &Asked<'_>,
+    files: &mut F,
+) -> Result<Verdict, Stop>
     ensures due { EndsIn (IsDueForAsked (asked_shape asked.now) (files_change F.Files files.old files.new)) result }
     ensures loads { F.loads files.new ≤ F.loads files.old + 4 }
     ensures kept { AreKept (files_change F.Files files.old files.new) }
@@ -82,7 +90,7 @@ fn ended<F: Files>(alloc: Global, asked: &Asked<'_>, files: &mut F) -> Result<Ve
     let [source, hosts, start, journal] = loaded.as_slice() else {
         unreachable!();
     };
-    due_for_loaded(alloc, asked, source, hosts, start, journal)
+    verdict_for_loaded(alloc, asked, source, hosts, start, journal)
 }
 
 /// A file of this name, of which so many bytes are read.
@@ -94,7 +102,7 @@ fn file_of(name: &str, most: usize) -> File<'_>
 }
 
 /// What is due for files that were loaded.
-fn due_for_loaded(
+fn verdict_for_loaded(
     alloc: Global,
     asked: &Asked<'_>,
     source: &Loaded,
@@ -107,7 +115,7 @@ fn due_for_loaded(
         EndsIn (DueForBytes (asked_shape asked.now) c h s j) result }
 {
     let node = host_of_loaded(alloc, asked, source, hosts, start)?;
-    due_for_node(alloc, asked, &node, journal)
+    verdict_for_node(alloc, asked, &node, journal)
 }
 
 /// The node of files that were loaded.
@@ -120,7 +128,7 @@ fn host_of_loaded(
 ) -> Result<NodeStart, Stop>
     ensures due { (c h s : List ℕ) → IsLoaded (most_of (source_name asked.now.source)) c source.now →
         IsLoaded HOSTS_BYTES h hosts.now → IsLoaded SCRIPT_BYTES s start.now →
-        EndsAs node_start (HostFound (asked_shape asked.now) c h s) result }
+        EndsAs node_start (FieldsHostFound (asked_shape asked.now) c h s) result }
     ensures started { IfOk result IsStarted }
 {
     let source = source_of_loaded(alloc, asked, source, hosts, start)?;
@@ -157,7 +165,7 @@ fn name_of(source: SourceWord<'_>) -> &str
 }
 
 /// What is due for a node and its journal that was loaded.
-fn due_for_node(
+fn verdict_for_node(
     alloc: Global,
     asked: &Asked<'_>,
     node: &NodeStart,
@@ -170,11 +178,11 @@ fn due_for_node(
     let code = &node.source.code;
     names_read(alloc, name_of(asked.source), code, &node.source.hosts)?;
     let lines = lines_read(alloc, asked.journal, code, journal)?;
-    due_for_lines(alloc, asked.journal, asked.host, node, &lines)
+    verdict_for_lines(alloc, asked.journal, asked.host, node, &lines)
 }
 
 /// What is due for the lines of the journal of this name, of the host of this name.
-fn due_for_lines(
+fn verdict_for_lines(
     alloc: Global,
     file: &str,
     host: &str,

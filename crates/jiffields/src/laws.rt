@@ -7,7 +7,7 @@ ghost use Rattle.js_base.specs.declared.ids.HostId.{HostId};
 ghost use Rattle.js_base.specs.declared.status.Status.{Status};
 ghost use Rattle.js_base.specs.declared.status.Status.TheVariants.{Done};
 ghost use Rattle.host_code.specs.Code.{CodeShape};
-ghost use Rattle.host_core.specs.Host.{HostShape};
+ghost use Rattle.host_core.specs.Host.{HostState};
 ghost use Rattle.host_core.specs.Start.{host_at_start};
 ghost use Rattle.journal_laws.specs.Plays.{IsJournalOf};
 ghost use Rattle.journal_laws.specs.Steps.{Step};
@@ -16,10 +16,10 @@ ghost use Rattle.node_starts.specs.NodeSources.{NodeStart};
 ghost use Rattle.front_end.specs.Loads.{FilesChange};
 ghost use Rattle.front_end.specs.Stages.{given};
 ghost use Rattle.front_end.specs.Verdicts.{Print, VerdictShape, no_such_file};
-ghost use Rattle.jiffields.specs.Due.{Due, DueForBytes, HostFound, IsDue, usage};
+ghost use Rattle.jiffields.specs.Due.{Due, DueForBytes, FieldsHostFound, IsDue, usage};
 ghost use Rattle.jiffields.specs.Fields.{fields_text, row_line};
 ghost use Rattle.jiffields.specs.Runs.{words_in};
-ghost use Rattle.jiffields.specs.Words.{Asked};
+ghost use Rattle.jiffields.specs.Words.{FieldsAsked};
 
 use front_end::source_laws;
 use journal_laws::field_laws;
@@ -41,9 +41,9 @@ pub fn field_report_laws()
 
     // Where fields are due, they are those of each run of the host that has this journal, whatever its key is and
     // whatever tags its tokens have.
-    ensures fields { (asked : Asked) (source hosts start journal : List ℕ) (node : NodeStart) (status : Status)
-        (text key : List ℕ) (steps : List Step) (last : HostShape) →
-        HostFound asked source hosts start (given node) →
+    ensures fields { (asked : FieldsAsked) (source hosts start journal : List ℕ) (node : NodeStart) (status : Status)
+        (text key : List ℕ) (steps : List Step) (last : HostState) →
+        FieldsHostFound asked source hosts start (given node) →
         DueForBytes asked source hosts start journal (Print status text) →
         IsJournalOf node.source.code (host_at_start node.source.code node.source.values key node.me)
         (words_in (journal_lines journal)) steps last →

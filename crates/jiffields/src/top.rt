@@ -10,7 +10,7 @@ ghost use Rattle.front_end.specs.Verdicts.{Print};
 ghost use Rattle.jiffields.specs.Answers.{AnswersTo};
 ghost use Rattle.jiffields.specs.Due.{Due};
 
-use crate::due::due;
+use crate::due::due_verdict;
 use crate::laws::field_report_laws;
 use front_end::answer;
 use js_base::{Files, Sink, Status};
@@ -66,6 +66,6 @@ pub fn jiffields<F: Files, S: Sink, E: Sink>(
     ensures kept { AreKept (files_change F.Files files.old files.new) }
 {
     field_report_laws();
-    let found = due(alloc, words, files);
+    let found = due_verdict(alloc, words, files);
     answer(alloc, PROGRAM, NO_MEMORY, found, out, err)
 }

@@ -20,7 +20,7 @@ pub struct Asked<'a> {
 pub fn asked_for(words: &[String]) -> Option<Asked<'_>>
     ensures found { IfSome result (λ asked. map string_bytes words.now ≡ words_of (asked_shape asked)) }
     ensures many { IfSome result (λ _. 4 ≤ length words.now) }
-    ensures none { IfNone result ((asked : asking.Asked) → map string_bytes words.now ≢ words_of asked) }
+    ensures none { IfNone result ((asked : asking.FieldsAsked) → map string_bytes words.now ≢ words_of asked) }
 {
     match words {
         [code, hosts, host, start, journal] => Some(Asked {
@@ -48,7 +48,7 @@ fn asked_of_program<'a>(
 ) -> Option<Asked<'a>>
     ensures found { IfSome result (λ asked.
         flag.now ∷ program.now ∷ hosts.now ∷ host.now ∷ start.now ∷ journal.now ∷ [] ≡ words_of (asked_shape asked)) }
-    ensures none { IfNone result ((asked : asking.Asked) →
+    ensures none { IfNone result ((asked : asking.FieldsAsked) →
         flag.now ∷ program.now ∷ hosts.now ∷ host.now ∷ start.now ∷ journal.now ∷ [] ≢ words_of asked) }
 {
     if flag != "--program" {

@@ -22,7 +22,7 @@ use Rattle.js_base.specs.declared.status.Status.TheVariants.{Done}
 use Rattle.net_world.specs.World.{AreHostsOf, named_host, world_at_start}
 use Rattle.record_merge.specs.declared.journal.MergeError.{MergeError}
 use Rattle.record_merge.specs.declared.journal.MergeError.TheVariants as error
-use Rattle.record_merge.specs.Merging.{IsMerged, IsRefusedFor}
+use Rattle.record_merge.specs.Merging.{IsMerged, IsMergeRefusedFor}
 use Rattle.std.specs.Prelude.{IfOk, MatchResult}
 use Rattle.std.proofs.lemmas.Result.{IfOk-weaker}
 use Rattle.jifmerge.specs.Merged.{DueForValues, merged, refused, refusal_for}
@@ -51,7 +51,7 @@ script_due names journals placed code values events text is meets put =
 
 pub cause_due : (names journals : List (List ℕ)) (placed : PlacedSource) (code : CodeShape) (values : List (List ℤ))
     (why : MergeError) (due : Result Verdict OutOfMemory) (stopping : Stop) → code ≡ code_of placed →
-    IsRefusedFor code (world_at_start code placed.source.file.hosts 0 values) journals why →
+    IsMergeRefusedFor code (world_at_start code placed.source.file.hosts 0 values) journals why →
     IfOk due (λ verdict. verdict_shape verdict ≡ refusal_for names why) →
     IfOk due (λ _. why ≢ error.OutOfMemory) →
     MatchResult due (λ verdict. stopping ≡ stop.Due verdict) (λ _. stopping ≡ stop.OutOfMemory) →
@@ -61,7 +61,7 @@ cause_due names journals placed code values why due stopping is fails told not m
     (IfOk-weaker due _ _
     (λ verdict both. subst (DueForValues names journals placed values) (sym both.0)
     (refused why both.1
-    (subst (λ (c : CodeShape). IsRefusedFor c (world_at_start c placed.source.file.hosts 0 values) journals why) is
+    (subst (λ (c : CodeShape). IsMergeRefusedFor c (world_at_start c placed.source.file.hosts 0 values) journals why) is
     fails)))
     (both_ok due (λ verdict. verdict_shape verdict ≡ refusal_for names why) (λ _. why ≢ error.OutOfMemory) told not))
     made

@@ -19,9 +19,9 @@ use Rattle.net_world.specs.World.{WorldShape}
 use Rattle.record_merge.specs.declared.journal.MergeError.{MergeError}
 use Rattle.record_merge.specs.declared.journal.MergeError.TheVariants as error
 use Rattle.record_merge.specs.Journals.{Fault, fault_of, first_bad, first_fault, bad_line, too_long, or_later}
-use Rattle.record_merge.specs.Merging.{IsMerged, IsRefusedFor}
+use Rattle.record_merge.specs.Merging.{IsMerged, IsMergeRefusedFor}
 use Rattle.record_merge.specs.Reading.{bytes_of}
-use Rattle.jifmerge.specs.Merged.{StandsFor}
+use Rattle.jifmerge.specs.Merged.{StandsForJournal}
 
 -- two journals are one, or both are too long
 abbrev pub Alike : List ℕ → List ℕ → Type 0
@@ -82,34 +82,35 @@ merged_as code world firsts seconds events all merged =
     (journals_same code 0 firsts seconds all merged.0) merged
 
 pub refused_as : (code : CodeShape) (world : WorldShape) (firsts seconds : List (List ℕ)) (why : MergeError) →
-    AllZip Alike firsts seconds → IsRefusedFor code world firsts why → IsRefusedFor code world seconds why
+    AllZip Alike firsts seconds → IsMergeRefusedFor code world firsts why → IsMergeRefusedFor code world seconds why
 refused_as code world firsts seconds error.OutOfMemory all refused = tt
 refused_as code world firsts seconds (error.TooLong host) all refused =
     sym (faults_same code 0 firsts seconds all) ∙ refused
 refused_as code world firsts seconds (error.BadLine host number) all refused =
     sym (faults_same code 0 firsts seconds all) ∙ refused
 refused_as code world firsts seconds (error.NoMatch host number) all refused =
-    subst (λ (journals : List (List ℕ)). IsRefusedFor code world journals (error.NoMatch host number))
+    subst (λ (journals : List (List ℕ)). IsMergeRefusedFor code world journals (error.NoMatch host number))
     (journals_same code 0 firsts seconds all refused.0) refused
 
 -- ---- what was loaded
 
 -- the bytes of these journals
 abbrev pub AllStandFor : List Loaded → List (Vec ℕ Global) → Type 0
-AllStandFor journals all = AllZip (λ journal (bytes : Vec ℕ Global). StandsFor journal bytes.items) journals all
+AllStandFor journals all = AllZip (λ journal (bytes : Vec ℕ Global). StandsForJournal journal bytes.items) journals all
 
 -- one more journal
 pub one_more_stands : (journals : List Loaded) (place : ℕ) (default : Loaded) (all : List (Vec ℕ Global))
     (bytes : Vec ℕ Global) → place < length journals → AllStandFor (take place journals) all →
-    StandsFor (get_or journals place default) bytes.items →
+    StandsForJournal (get_or journals place default) bytes.items →
     AllStandFor (take (place + 1) journals) (all ++ bytes ∷ [])
 one_more_stands journals place default all bytes within so_far last =
     subst (λ (front : List Loaded). AllStandFor front (all ++ bytes ∷ []))
     (sym (take_more journals place default within))
-    (zip_push (λ (journal : Loaded) (one : Vec ℕ Global). StandsFor journal one.items) (take place journals) all
+    (zip_push (λ (journal : Loaded) (one : Vec ℕ Global). StandsForJournal journal one.items) (take place journals) all
     (get_or journals place default) bytes so_far last)
 
-one_alike : (journal : Loaded) (held bytes : List ℕ) → IsLoaded SCRIPT_BYTES held journal → StandsFor journal bytes →
+one_alike : (journal : Loaded) (held bytes : List ℕ) → IsLoaded SCRIPT_BYTES held journal →
+    StandsForJournal journal bytes →
     Alike bytes held
 one_alike (Bytes here) held bytes loaded stands = inl (stands ∙ loaded.0)
 one_alike TooLong held bytes loaded stands = inr (stands, loaded)

@@ -1,5 +1,5 @@
 -- For words and for files that tell what they hold, one verdict is due.
-use Rattle.std.proofs.Common.{◌≡◌, ◌≢◌, ◌∙◌, ℕ, ◌+◌, ◌≤◌, ◌<◌, List, [], ◌∷◌, length, Option, Some, refl, sym, ap}
+use Rattle.std.proofs.Common.{◌≡◌, ◌≢◌, ◌∙◌, ℕ, ◌+◌, ◌<◌, List, [], ◌∷◌, Option, Some, refl, sym, ap}
 use Rattle.std.proofs.Common.{subst, inl, inr, ⊎_elim, arith, map}
 use Rattle.std.specs.Prelude.{ℤ}
 use Rattle.std.specs.List.{AllZip, AllByRecursion}
@@ -14,21 +14,20 @@ use Rattle.js_base.specs.declared.status.Status.TheVariants.{Done}
 use Rattle.front_end.specs.Loads.{FilesChange, Told, IsHeld, IsFirstAbsent}
 use Rattle.front_end.specs.PlacedCode.{code_of}
 use Rattle.front_end.specs.PlacedSources.{OnHosts, PlacedSource, PlacedSources}
-use Rattle.front_end.specs.Sources.{Accepted, Drafted, HostsRead}
+use Rattle.front_end.specs.Sources.{DraftAccepted, Drafted, HostsRead}
 use Rattle.front_end.specs.Stages.{DueThen, given}
 use Rattle.front_end.specs.Starting.{StartingValues}
 use Rattle.front_end.specs.Verdicts.{VerdictShape, Print, no_such_file}
 use Rattle.front_end.proofs.AbsentFiles.{held_once, told_held, absent_not_held, absent_once}
-use Rattle.front_end.proofs.Answering.{no_fault_and_fault}
+use Rattle.front_end.proofs.DueByFiles.{IsDueOrFault, due_or_fault_once}
 use Rattle.front_end.proofs.OneStart.{start_moved, start_once}
 use Rattle.front_end.proofs.Places.{of_all}
 use Rattle.front_end.proofs.Stages.{IsOne, one_due}
 use Rattle.net_world.specs.World.{WorldShape, world_at_start}
 use Rattle.record_merge.specs.declared.journal.MergeError.{MergeError}
 use Rattle.record_merge.specs.declared.journal.MergeError.TheVariants.{OutOfMemory}
-use Rattle.record_merge.specs.Merging.{IsMerged, IsRefusedFor}
-use Rattle.jifmerge.specs.declared.due.TheConstants.{FEWEST}
-use Rattle.jifmerge.specs.Due.{AreLoaded, Due, few_words, absent, loaded, DueForAccepted, DueForBytes, DueForContents}
+use Rattle.record_merge.specs.Merging.{IsMerged, IsMergeRefusedFor}
+use Rattle.jifmerge.specs.Due.{Due, few_words, absent, loaded, DueForBytes, DueForContents}
 use Rattle.jifmerge.specs.Due.{DueForCount, wrong_count, counted, IsDue}
 use Rattle.jifmerge.specs.Merged.{DueForPlaced, DueForValues, merged, refused, first_world, refusal_for}
 
@@ -38,10 +37,10 @@ pub record MergeLaws : Type 0 where
       (events others : List Event) → IsMerged code (world_at_start code rows 0 store) journals events →
       IsMerged code (world_at_start code rows 0 store) journals others → events ≡ others
   pub one_cause : (code : CodeShape) (world : WorldShape) (journals : List (List ℕ)) (why other : MergeError) →
-      why ≢ OutOfMemory → other ≢ OutOfMemory → IsRefusedFor code world journals why →
-      IsRefusedFor code world journals other → why ≡ other
+      why ≢ OutOfMemory → other ≢ OutOfMemory → IsMergeRefusedFor code world journals why →
+      IsMergeRefusedFor code world journals other → why ≡ other
   pub merged_or_refused : (code : CodeShape) (world : WorldShape) (journals : List (List ℕ)) (events : List Event)
-      (why : MergeError) → why ≢ OutOfMemory → IsRefusedFor code world journals why →
+      (why : MergeError) → why ≢ OutOfMemory → IsMergeRefusedFor code world journals why →
       ¬ IsMerged code world journals events
   pub one_draft : (program : List ℕ) → IsOne (Drafted program)
   pub one_hosts : (bytes : List ℕ) → IsOne (HostsRead bytes)
@@ -81,7 +80,7 @@ placed_once laws name names start journals placed first second one two =
 -- a draft and hosts that were read, in the words of a whole program
 as_placed : (L : PlacedSource → VerdictShape → Type 0) (program hosts : List ℕ) (draft : DraftShape)
     (file : HostsShape) (verdict : VerdictShape) → Drafted program (given draft) → HostsRead hosts (given file) →
-    DueThen (Accepted file draft) (λ source. DueThen (OnHosts source) L) verdict →
+    DueThen (DraftAccepted file draft) (λ source. DueThen (OnHosts source) L) verdict →
     DueThen (PlacedSources program hosts) L verdict
 as_placed L program hosts draft file verdict drafted read due =
     ⊎_elim
@@ -196,22 +195,16 @@ due_once laws words holds _ _ _ _ (loaded bytes first enough told one) (loaded o
 
 -- ---- what is due for words and for what the files did
 
+-- for a file whose load failed its line is due
+pub due_or_fault : (words : List (List ℕ)) (files : FilesChange) (verdict : VerdictShape) → IsDue words files verdict →
+    IsDueOrFault (Due words) files verdict
+due_or_fault words files verdict due =
+    ⊎_elim (λ by_files. inl by_files) (λ fault. inr (fault.1.rose, fault.1.verdict_is)) due
+
 pub answer_once : MergeLaws → (words : List (List ℕ)) (files : FilesChange) (holds : List ℕ → Option (List ℕ))
     (first second : VerdictShape) →
     files.held ≡ Some holds → files.faults_before < last_count → IsDue words files first →
     IsDue words files second → first ≡ second
 answer_once laws words files holds first second tells below one two =
-    ⊎_elim
-    (λ by_files. ⊎_elim
-    (λ also. (due_once laws words holds by_files.0 also.0 first second
-    (subst (λ (held : Option (List ℕ → Option (List ℕ))). Due words held by_files.0 first) tells by_files.1)
-    (subst (λ (held : Option (List ℕ → Option (List ℕ))). Due words held also.0 second) tells also.1)).1)
-    (λ fault. absurd (no_fault_and_fault files.faults_before files.faults_after below by_files.2.no_fault
-    fault.1.rose))
-    two)
-    (λ fault. ⊎_elim
-    (λ also. absurd (no_fault_and_fault files.faults_before files.faults_after below also.2.no_fault
-    fault.1.rose))
-    (λ also. fault.1.verdict_is ∙ sym also.1.verdict_is)
-    two)
-    one
+    due_or_fault_once (Due words) files holds (due_once laws words holds) tells below first second
+    (due_or_fault words files first one) (due_or_fault words files second two)

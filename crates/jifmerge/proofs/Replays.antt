@@ -10,7 +10,7 @@ use Rattle.host_decl.specs.Hosts.{HostShape}
 use Rattle.net_world.specs.Fits.{ShapeFits}
 use Rattle.net_world.specs.World.{WorldShape, AreHostsOf, IsRun, world_at_start}
 use Rattle.record_merge.specs.Merging.{IsMerged}
-use Rattle.record_merge.specs.Notes.{Note, IsNotedRun}
+use Rattle.record_merge.specs.Notes.{JournalNote, IsNotedRun}
 use Rattle.record_merge.specs.Single.{IsSingle}
 use Rattle.jifmerge.specs.Replays.{CanBeSaid}
 use Rattle.jifmerge.proofs.SaidEvents.{StepLaws, all_said, step_of}
@@ -51,7 +51,7 @@ read_again laws code rows values journals events sound same can merged =
     })
 
 -- events that are noted happen
-pub noted_run : (code : CodeShape) (world last : WorldShape) (events : List Event) (notes : List Note) →
+pub noted_run : (code : CodeShape) (world last : WorldShape) (events : List Event) (notes : List JournalNote) →
     IsNotedRun code world events last notes → IsRun code world events last
 noted_run code world last [] notes run = run.0
 noted_run code world last (event ∷ events) notes run = (

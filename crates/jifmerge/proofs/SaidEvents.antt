@@ -24,12 +24,12 @@ use Rattle.event_text.proofs.PrintedWords.{name_word, number_word, take_word, tw
 use Rattle.host_code.specs.Code.{CodeShape, CodeHostShape}
 use Rattle.host_code.specs.MessageText.{host_text}
 use Rattle.host_code.specs.Sound.{IsHost, IsSoundCode}
-use Rattle.host_core.specs.Host.{HostShape}
+use Rattle.host_core.specs.Host.{HostState}
 use Rattle.net_world.specs.Choice.{Flies}
 use Rattle.net_world.specs.Fits.{ShapeFits, HasOwnToken, FlightFits}
 use Rattle.net_world.specs.Flying.{Flight}
 use Rattle.net_world.specs.World.{WorldShape, IsStep, given, state_at}
-use Rattle.record_merge.specs.Notes.{Note, IsNoted, IsNotedRun}
+use Rattle.record_merge.specs.Notes.{JournalNote, IsEventNoted, IsNotedRun}
 use Rattle.record_merge.specs.Single.{Active, nothing, runs, flies, IsOnly, IsSingle}
 
 -- ---- hosts
@@ -88,11 +88,11 @@ take_said code from to place sender target small =
 
 -- ---- events
 
-there_within : (world : WorldShape) (host : HostId) (state : HostShape) → state_at world host ≡ Some state →
+there_within : (world : WorldShape) (host : HostId) (state : HostState) → state_at world host ≡ Some state →
     host.0 < length world.hosts
 there_within world host state is = by (slice_get world.hosts host.0) refl is
   where
-    by : (found : Option (Option HostShape)) → slice_get world.hosts host.0 ≡ found → given found ≡ Some state →
+    by : (found : Option (Option HostState)) → slice_get world.hosts host.0 ≡ found → given found ≡ Some state →
         host.0 < length world.hosts
     by None here is = absurd cc
     by (Some row) here is = slice_get_within world.hosts host.0 row here
@@ -117,8 +117,8 @@ few_fly world from to (flies sender target) only flying =
     omega (arith, there)
 
 -- an event that happens is said
-event_said : (code : CodeShape) (world after : WorldShape) (event : Event) (note : Note) → IsSoundCode code →
-    AreApart code → IsSingle world → ShapeFits code world → IsNoted code world event after note →
+event_said : (code : CodeShape) (world after : WorldShape) (event : Event) (note : JournalNote) → IsSoundCode code →
+    AreApart code → IsSingle world → ShapeFits code world → IsEventNoted code world event after note →
     IsSaid code 0 event
 event_said code world after (Turn host) note sound apart single fits noted =
     let within = there_within world host noted.0.state noted.0.obeys in
@@ -134,8 +134,8 @@ event_said code world after (Take from to place) note sound apart single fits no
     (host_there code to sound apart flight.target.0) (omega (arith, within, few))
 event_said code world after (Act from to made) note sound apart single fits noted = absurd noted
 
-pub step_of : (code : CodeShape) (world after : WorldShape) (event : Event) (note : Note) →
-    IsNoted code world event after note → IsStep code world event after × HasOwnToken world event
+pub step_of : (code : CodeShape) (world after : WorldShape) (event : Event) (note : JournalNote) →
+    IsEventNoted code world event after note → IsStep code world event after × HasOwnToken world event
 step_of code world after (Turn host) note noted = (noted.0, tt)
 step_of code world after (Take from to place) note noted = (noted.0, tt)
 step_of code world after (Act from to made) note noted = absurd noted
@@ -148,7 +148,7 @@ pub record StepLaws : Type 0 where
       IsSoundCode code → ShapeFits code world → HasOwnToken world event → IsStep code world event after →
       ShapeFits code after
 
-run_said : StepLaws → (code : CodeShape) (world last : WorldShape) (events : List Event) (notes : List Note) →
+run_said : StepLaws → (code : CodeShape) (world last : WorldShape) (events : List Event) (notes : List JournalNote) →
     IsSoundCode code → AreApart code → IsSingle world → ShapeFits code world →
     IsNotedRun code world events last notes → AllByRecursion (IsSaid code 0) events
 run_said laws code world last [] notes sound apart single fits run = tt
@@ -161,7 +161,8 @@ run_said laws code world last (event ∷ events) notes sound apart single fits r
     )
 
 -- events that happen are said
-pub all_said : StepLaws → (code : CodeShape) (world last : WorldShape) (events : List Event) (notes : List Note) →
+pub all_said : StepLaws → (code : CodeShape) (world last : WorldShape) (events : List Event)
+    (notes : List JournalNote) →
     IsSoundCode code → AreApart code → IsSingle world → ShapeFits code world →
     IsNotedRun code world events last notes → All (IsSaid code 0) events
 all_said laws code world last events notes sound apart single fits run =

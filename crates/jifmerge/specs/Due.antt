@@ -9,7 +9,7 @@ use Rattle.front_end.specs.declared.load.Loaded.{Loaded}
 use Rattle.front_end.specs.Loading.{IsLoaded}
 use Rattle.front_end.specs.Loads.{FilesChange, Told, LoadsWell, IsFirstAbsent, IsFileFault}
 use Rattle.front_end.specs.PlacedSources.{OnHosts}
-use Rattle.front_end.specs.Sources.{Accepted, Drafted, HostsRead}
+use Rattle.front_end.specs.Sources.{DraftAccepted, Drafted, HostsRead}
 use Rattle.front_end.specs.Stages.{DueThen}
 use Rattle.front_end.specs.Verdicts.{VerdictShape, no_such_file, wrong_journals}
 use Rattle.front_end.specs.Verdicts as verdicts
@@ -26,7 +26,7 @@ usage = verdicts.usage (codes "P H START J1 .. Jn")
 abbrev pub DueForAccepted : (name : List ℕ) (names : List (List ℕ)) (start : List ℕ) (journals : List (List ℕ)) →
     HostsShape → DraftShape → VerdictShape → Type 0
 DueForAccepted name names start journals file draft =
-    DueThen (Accepted file draft) (λ source. DueThen (OnHosts source) (DueForPlaced name names start journals))
+    DueThen (DraftAccepted file draft) (λ source. DueThen (OnHosts source) (DueForPlaced name names start journals))
 
 -- There has to be one journal for each host.
 pub data DueForCount (name : List ℕ) (names : List (List ℕ)) (start : List ℕ) (journals : List (List ℕ))

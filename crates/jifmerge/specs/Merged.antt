@@ -20,7 +20,7 @@ use Rattle.front_end.specs.Verdicts.{VerdictShape, Print, Refuse, no_form, no_ma
 use Rattle.net_world.specs.World.{WorldShape, world_at_start}
 use Rattle.record_merge.specs.declared.journal.MergeError.{MergeError}
 use Rattle.record_merge.specs.declared.journal.MergeError.TheVariants as error
-use Rattle.record_merge.specs.Merging.{IsMerged, IsRefusedFor}
+use Rattle.record_merge.specs.Merging.{IsMerged, IsMergeRefusedFor}
 
 -- the world before the first event
 abbrev pub first_world : PlacedSource → List (List ℤ) → WorldShape
@@ -44,7 +44,7 @@ pub data DueForValues (names journals : List (List ℕ)) (placed : PlacedSource)
   merged : (events : List Event) → IsMerged (code_of placed) (first_world placed values) journals events →
       DueForValues names journals placed values (Print Done (script_text (code_of placed) 0 values events))
   refused : (why : MergeError) → why ≢ error.OutOfMemory →
-      IsRefusedFor (code_of placed) (first_world placed values) journals why →
+      IsMergeRefusedFor (code_of placed) (first_world placed values) journals why →
       DueForValues names journals placed values (refusal_for names why)
 
 -- The same for a file of starting values of this name. All programs with the same tree are told alike.
@@ -58,6 +58,6 @@ DueForPlaced name names start journals placed verdict =
 -- ---- in the program
 
 -- These bytes stand for what was loaded of a journal: for one that has more than are read, any bytes that are too many.
-abbrev pub StandsFor : Loaded → List ℕ → Type 0
-StandsFor (Bytes bytes) held = held ≡ bytes.items
-StandsFor TooLong held = SCRIPT_BYTES < length held
+abbrev pub StandsForJournal : Loaded → List ℕ → Type 0
+StandsForJournal (Bytes bytes) held = held ≡ bytes.items
+StandsForJournal TooLong held = SCRIPT_BYTES < length held

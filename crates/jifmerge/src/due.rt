@@ -13,7 +13,7 @@ ghost use Rattle.jifmerge.specs.Due.{AreLoaded, DueForAccepted, DueForBytes, Due
 ghost use Rattle.jifmerge.specs.Due.{IsDue, most_of, names_with_most};
 ghost use Rattle.jifmerge.specs.declared.due.TheConstants.{FEWEST};
 
-use crate::merged::due_for_placed;
+use crate::merged::verdict_for_placed;
 use front_end::{
     Asked, Loaded, Refusal, Stop, Verdict, accepted, drafted, hosts_read, load_all, on_hosts,
 };
@@ -30,7 +30,11 @@ const FORMS: &str = "P H START J1 .. Jn";
 const FEWEST: usize = 4;
 
 /// What is due for the words.
-pub fn due<F: Files>(alloc: Global, words: &[String], files: &mut F) -> Result<Verdict, OutOfMemory>
+pub fn due_verdict<F: Files>(
+    alloc: Global,
+    words: &[String],
+    files: &mut F,
+) -> Result<Verdict, OutOfMemory>
     ensures due { IfOk result (λ verdict. IsDue (map string_bytes words.now)
         (files_change F.Files files.old files.new)
         (verdict_shape verdict)) }
@@ -40,7 +44,7 @@ pub fn due<F: Files>(alloc: Global, words: &[String], files: &mut F) -> Result<V
     if words.len() < FEWEST {
         return Verdict::usage(alloc, FORMS);
     }
-    match ended(alloc, words, files) {
+    match verdict_or_stop(alloc, words, files) {
         Ok(verdict) => Ok(verdict),
         Err(Stop::Due(verdict)) => Ok(verdict),
         Err(Stop::OutOfMemory) => Err(OutOfMemory),
@@ -49,7 +53,11 @@ pub fn due<F: Files>(alloc: Global, words: &[String], files: &mut F) -> Result<V
 
 /// How words end that name a program, a host file, a file of starting values and journals: what is due for them,
 /// whether they stop early or not.
-fn ended<F: Files>(alloc: Global, words: &[String], files: &mut F) -> Result<Verdict, Stop>
+fn verdict_or_stop<F: Files>(
+    alloc: Global,
+    words: &[String],
+    files: &mut F,
+) -> Result<Verdict, Stop>
     requires { FEWEST ≤ length words.now }
     ensures due { EndsIn (IsDue (map string_bytes words.now) (files_change F.Files files.old files.new)) result }
     ensures loads { F.loads files.new ≤ F.loads files.old + length words.now }
@@ -57,7 +65,7 @@ fn ended<F: Files>(alloc: Global, words: &[String], files: &mut F) -> Result<Ver
 {
     let asked = asked_files(alloc, words)?;
     let loaded = load_all(alloc, files, &asked)?;
-    due_for_loaded(alloc, words, &loaded)
+    verdict_for_loaded(alloc, words, &loaded)
 }
 
 /// The files of the words, of which the first is a program, the second a host file, and the others are scripts and
@@ -89,13 +97,13 @@ fn most_of(place: usize) -> usize
 }
 
 /// What is due for the words, whose files were loaded.
-fn due_for_loaded(alloc: Global, words: &[String], loaded: &[Loaded]) -> Result<Verdict, Stop>
+fn verdict_for_loaded(alloc: Global, words: &[String], loaded: &[Loaded]) -> Result<Verdict, Stop>
     requires words { FEWEST ≤ length words.now }
     requires count { length loaded.now ≡ length words.now }
     ensures { (bytes : List (List ℕ)) → AreLoaded 0 bytes loaded.now →
         EndsIn (DueForBytes (map string_bytes words.now) bytes) result }
 {
-    due_for_files(
+    verdict_for_files(
         alloc,
         words[2].as_str(),
         journal_names(words),
@@ -124,7 +132,7 @@ fn journals_of(loaded: &[Loaded]) -> &[Loaded]
 
 /// What is due for a program, a host file, a file of starting values of this name, and journals of these names, which
 /// were loaded.
-fn due_for_files(
+fn verdict_for_files(
     alloc: Global,
     name: &str,
     names: &[String],
@@ -144,12 +152,12 @@ fn due_for_files(
     if journals.len() != hosts.hosts().len() {
         return Ok(Verdict::Refuse(Refusal::WrongJournals));
     }
-    due_for_accepted(alloc, name, names, draft, hosts, start, journals)
+    verdict_for_accepted(alloc, name, names, draft, hosts, start, journals)
 }
 
 /// What is due for a draft and hosts that were read, a file of starting values of this name, and journals of these
 /// names, one for each host.
-fn due_for_accepted(
+fn verdict_for_accepted(
     alloc: Global,
     name: &str,
     names: &[String],
@@ -168,5 +176,5 @@ fn due_for_accepted(
 {
     let source = accepted(alloc, draft, hosts)?;
     let placed = on_hosts(alloc, source)?;
-    due_for_placed(alloc, name, names, &placed, start, journals)
+    verdict_for_placed(alloc, name, names, &placed, start, journals)
 }

@@ -6,7 +6,7 @@ ghost use Rattle.js_base.specs.declared.limits.TheConstants.{SCRIPT_BYTES};
 ghost use Rattle.front_end.specs.Loading.{EndsIn, IsLoaded};
 ghost use Rattle.front_end.specs.PlacedShapes.{placed_shape};
 ghost use Rattle.front_end.specs.Verdicts.{verdict_shape};
-ghost use Rattle.jifmerge.specs.Merged.{DueForPlaced, DueForValues, StandsFor, name_of, refusal_for};
+ghost use Rattle.jifmerge.specs.Merged.{DueForPlaced, DueForValues, StandsForJournal, name_of, refusal_for};
 
 use crate::printing::merged_script;
 use event_text::{BadMessage, Event};
@@ -20,7 +20,7 @@ use record_merge::{MergeError, merge};
 use std::alloc::Global;
 
 /// What is due for a file of starting values of this name and for journals of these names, one for each host.
-pub fn due_for_placed(
+pub fn verdict_for_placed(
     alloc: Global,
     name: &str,
     names: &[String],
@@ -36,11 +36,11 @@ pub fn due_for_placed(
 {
     let source = &placed.source;
     let store = starting_values(alloc, name, start, &source.checked.program.fields)?;
-    due_for_values(alloc, names, placed, &store, journals)
+    verdict_for_values(alloc, names, placed, &store, journals)
 }
 
 /// What is due for these starting values and journals.
-fn due_for_values(
+fn verdict_for_values(
     alloc: Global,
     names: &[String],
     placed: &PlacedSource,
@@ -96,7 +96,7 @@ fn name_of(names: &[String], host: HostId) -> &str
 
 /// The bytes of journals.
 fn bytes_of_all(alloc: Global, journals: &[Loaded]) -> Result<Vec<Vec<u8>>, OutOfMemory>
-    ensures { IfOk result (λ all. AllZip (λ journal bytes. StandsFor journal bytes.items) journals.now all.items) }
+    ensures { IfOk result (λ all. AllZip (λ one bytes. StandsForJournal one bytes.items) journals.now all.items) }
 {
     let mut all = Vec::new(alloc);
     for journal in journals {
@@ -107,7 +107,7 @@ fn bytes_of_all(alloc: Global, journals: &[Loaded]) -> Result<Vec<Vec<u8>>, OutO
 
 /// The bytes of a journal, and for one that has more than are read so many others that they are too many too.
 fn bytes_of(alloc: Global, journal: &Loaded) -> Result<Vec<u8>, OutOfMemory>
-    ensures { IfOk result (λ bytes. StandsFor journal.now bytes.items) }
+    ensures { IfOk result (λ bytes. StandsForJournal journal.now bytes.items) }
 {
     match journal {
         Loaded::Bytes(bytes) => Ok(Vec::from_slice(alloc, bytes)?),

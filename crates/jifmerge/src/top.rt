@@ -10,7 +10,7 @@ ghost use Rattle.front_end.specs.Verdicts.{Print};
 ghost use Rattle.jifmerge.specs.Answers.{AnswersTo};
 ghost use Rattle.jifmerge.specs.Due.{Due};
 
-use crate::due::due;
+use crate::due::due_verdict;
 use crate::laws::merged_laws;
 use front_end::answer;
 use js_base::{Files, Sink, Status};
@@ -65,6 +65,6 @@ pub fn jifmerge<F: Files, S: Sink, E: Sink>(
     ensures kept { AreKept (files_change F.Files files.old files.new) }
 {
     merged_laws();
-    let found = due(alloc, words, files);
+    let found = due_verdict(alloc, words, files);
     answer(alloc, PROGRAM, NO_MEMORY, found, out, err)
 }

@@ -49,14 +49,18 @@ pub fn jiftokens<F: Files, S: Sink, E: Sink>(
     ensures saves { F.saves files.new ≡ F.saves files.old }
     ensures loads { F.loads files.new ≤ F.loads files.old + 1 }
 {
-    match due(alloc, words, files) {
+    match due_answer(alloc, words, files) {
         Ok(answer) => put(alloc, &answer, out, err),
         Err(OutOfMemory) => Status::NoMemory,
     }
 }
 
 /// What is due for the words.
-fn due<F: Files>(alloc: Global, words: &[String], files: &mut F) -> Result<Answer, OutOfMemory>
+fn due_answer<F: Files>(
+    alloc: Global,
+    words: &[String],
+    files: &mut F,
+) -> Result<Answer, OutOfMemory>
     ensures due { IfOk result (λ answer. IsDue (map string_bytes words.now) (F.held files.old) (F.faults files.old)
         (F.faults files.new) (answer_shape answer)) }
     ensures held { F.held files.new ≡ F.held files.old }
@@ -64,13 +68,17 @@ fn due<F: Files>(alloc: Global, words: &[String], files: &mut F) -> Result<Answe
     ensures loads { F.loads files.new ≤ F.loads files.old + 1 }
 {
     match words {
-        [name] => due_for_file(alloc, name.as_str(), files),
+        [name] => answer_for_file(alloc, name.as_str(), files),
         _ => refusal(alloc, Status::Usage, "usage: P"),
     }
 }
 
 /// What is due for a file.
-fn due_for_file<F: Files>(alloc: Global, name: &str, files: &mut F) -> Result<Answer, OutOfMemory>
+fn answer_for_file<F: Files>(
+    alloc: Global,
+    name: &str,
+    files: &mut F,
+) -> Result<Answer, OutOfMemory>
     ensures due { IfOk result (λ answer. IsDueForFile name.now (F.held files.old) (F.faults files.old)
         (F.faults files.new) (answer_shape answer)) }
     ensures held { F.held files.new ≡ F.held files.old }
@@ -78,7 +86,7 @@ fn due_for_file<F: Files>(alloc: Global, name: &str, files: &mut F) -> Result<An
     ensures loads { F.loads files.new ≤ F.loads files.old + 1 }
 {
     match files.load(alloc, name, PROGRAM_BYTES) {
-        Ok(text) => due_for(alloc, &text),
+        Ok(text) => answer_for_text(alloc, &text),
         Err(LoadError::TooLong) => too_long(alloc),
         Err(LoadError::Absent) => no_such_file(alloc, name),
         Err(LoadError::Failed) => file_fault(alloc, name),
@@ -87,7 +95,7 @@ fn due_for_file<F: Files>(alloc: Global, name: &str, files: &mut F) -> Result<An
 }
 
 /// What is due for a program.
-fn due_for(alloc: Global, text: &[u8]) -> Result<Answer, OutOfMemory>
+fn answer_for_text(alloc: Global, text: &[u8]) -> Result<Answer, OutOfMemory>
     ensures { IfOk result (λ answer. IsDueFor text.now (answer_shape answer)) }
 {
     reading_laws();

@@ -11,10 +11,10 @@ use Rattle.host_code.specs.declared.message.Message.{Message}
 use Rattle.host_code.specs.declared.message.Message.TheVariants as message
 use Rattle.host_code.specs.Code.{CodeShape}
 use Rattle.host_code.specs.Sound.{IsHost, IsSoundCode}
-use Rattle.host_core.specs.Host.{HostShape, Outcome}
+use Rattle.host_core.specs.Host.{HostState, Outcome}
 use Rattle.host_core.specs.Host.{without_message}
 use Rattle.host_core.specs.Told.{IsUnsure, settled, told_key, with_wrong_tags}
-use Rattle.journal_laws.specs.Plays.{MayStep}
+use Rattle.journal_laws.specs.Plays.{MayMakeStep}
 use Rattle.journal_laws.specs.Steps.{Step, turns, takes, bare_step}
 use Rattle.journal_laws.specs.ToldPlays.{IsChosenStep, IsToldStep}
 use Rattle.journal_laws.proofs.AlikeSteps.{wrong_alike}
@@ -70,19 +70,19 @@ pub marked_bare : (step : Step) → bare_step (tagged_step marked step) ≡ bare
 marked_bare turns = refl
 marked_bare (takes from letter) = ap (takes from) (message_bare marked letter)
 
-pub chosen_told : (code : CodeShape) (chosen : Bool → Type 0) (host : HostShape) (step : Step) (outcome : Outcome) →
+pub chosen_told : (code : CodeShape) (chosen : Bool → Type 0) (host : HostState) (step : Step) (outcome : Outcome) →
     IsChosenStep chosen code host step outcome → IsToldStep code host step outcome
 chosen_told code chosen host turns outcome (inl (passes, why, unsure, is)) = inl (passes, unsure, is)
 chosen_told code chosen host turns outcome (inr closed) = inr closed
 chosen_told code chosen host (takes from letter) outcome (inl (passes, why, unsure, is)) = inl (passes, unsure, is)
 chosen_told code chosen host (takes from letter) outcome (inr closed) = inr closed
 
-pub rests_made : (code : CodeShape) (host : HostShape) (step : Step) → MayStep code host step →
+pub rests_made : (code : CodeShape) (host : HostState) (step : Step) → MayMakeStep code host step →
     RestsFor host (made_of step)
 rests_made code host turns may = tt
 rests_made code host (takes from letter) may = may.rest
 
-pub off_syncs : (code : CodeShape) (host : HostShape) (step : Step) (passes : Bool) → takes_off code host step ≡ true →
+pub off_syncs : (code : CodeShape) (host : HostState) (step : Step) (passes : Bool) → takes_off code host step ≡ true →
     StepSyncs step passes
 off_syncs code host turns passes off = tt
 off_syncs code host (takes from (message.Lgoto token)) passes off = λ holds. tt
@@ -96,7 +96,7 @@ off_syncs code host (takes from (message.Value request value)) passes off = absu
 off_syncs code host (takes from (message.Ack request)) passes off = absurd cc
 off_syncs code host (takes from (message.Token request token)) passes off = absurd cc
 
-pub check_syncs : (code : CodeShape) (host : HostShape) (step : Step) (passes : Bool) →
+pub check_syncs : (code : CodeShape) (host : HostState) (step : Step) (passes : Bool) →
     IsTrue passes ↔ CheckOf code host step → StepSyncs step passes
 check_syncs code host turns passes check = tt
 check_syncs code host (takes from letter) passes check = λ holds. passing_syncs code host from letter (check.0 holds)
@@ -105,7 +105,7 @@ pub marked_syncs : (step : Step) (passes : Bool) → StepSyncs step passes → S
 marked_syncs turns passes syncs = tt
 marked_syncs (takes from letter) passes syncs = λ holds. tagged_syncs marked letter (syncs holds)
 
-pub pushes : (code : CodeShape) (host : HostShape) (step : Step) (passes : Bool) → IsSoundCode code →
+pub pushes : (code : CodeShape) (host : HostState) (step : Step) (passes : Bool) → IsSoundCode code →
     IsHost code host.me → StepSyncs step passes → StepPushes code host step passes
 pushes code host turns passes sound there syncs = thread_pushes code host.me host.running sound there
 pushes code host (takes from letter) passes sound there syncs = syncs
@@ -121,13 +121,13 @@ some_same {A = A} one other same = ap or_one same
     or_one (Some found) = found
 
 -- what a played host makes of a step that takes off: an open one as it was chosen, and any other by its check
-abbrev pub IsOff : (Bool → Type 0) → CodeShape → HostShape → Step → Outcome → Type 0
+abbrev pub IsOff : (Bool → Type 0) → CodeShape → HostState → Step → Outcome → Type 0
 IsOff chosen code host step outcome =
     (passes : Bool) × (without_message (settled code host passes) ≡ outcome)
     × (chosen passes
     ⊎ ((¬ MayBeTop host (presented host step)) × (IsTrue passes ↔ IsTop host (presented host step))))
 
-pub off_of : (code : CodeShape) (chosen : Bool → Type 0) (host : HostShape) (step : Step) (outcome : Outcome) →
+pub off_of : (code : CodeShape) (chosen : Bool → Type 0) (host : HostState) (step : Step) (outcome : Outcome) →
     takes_off code host (made_of step) ≡ true → RestsFor host (made_of step) →
     IsChosenStep chosen code host step outcome → IsOff chosen code host (made_of step) outcome
 off_of code chosen host turns outcome off rest (inl (passes, why, unsure, is)) =
@@ -155,7 +155,7 @@ off_of code chosen host (takes from letter) outcome off rest (inr (closed, is)) 
     )
 
 -- where the step is not open, the real host makes of it what the played one does
-pub agree : (key : List ℕ) (host real : HostShape) (top : Token) (held : Option Token) (one other : Bool) →
+pub agree : (key : List ℕ) (host real : HostState) (top : Token) (held : Option Token) (one other : Bool) →
     IsMade told_key top → top_token host.entries ≡ Some (tagged told_tag top) →
     top_token real.entries ≡ Some (tagged (real_tag key) top) →
     ¬ MayBeTop host (option_map (tagged told_tag) held) →

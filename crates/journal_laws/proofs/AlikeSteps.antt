@@ -19,14 +19,14 @@ use Rattle.host_code.specs.Code.{CodeShape, instruction_at}
 use Rattle.host_code.specs.Sound.{IsSoundCode}
 use Rattle.host_code.specs.Thread.{ThreadShape}
 use Rattle.host_core.specs.Fits.{StateFits}
-use Rattle.host_core.specs.Host.{HostShape, Outcome, with_running}
+use Rattle.host_core.specs.Host.{HostState, Outcome, with_running}
 use Rattle.host_core.specs.Taking.{after_taking}
 use Rattle.host_core.specs.Told.{IsOpenTaking, IsOpenTurnOf, IsOpenInstruction, IsOpenOperation, IsUnsure}
 use Rattle.host_core.specs.Told.{after_told_back, settled, with_wrong_tags}
 use Rattle.host_core.specs.Turn.{after_back}
 use Rattle.journal_laws.specs.Bare.{bare_host, bare_message, bare_outcome, bare_sent}
-use Rattle.journal_laws.specs.Plays.{MayStep}
-use Rattle.journal_laws.specs.Steps.{Step, turns, takes, IsStep, bare_step, told_step}
+use Rattle.journal_laws.specs.Plays.{MayMakeStep}
+use Rattle.journal_laws.specs.Steps.{Step, turns, takes, IsStepOfHost, bare_step, told_step}
 use Rattle.journal_laws.specs.ToldPlays.{IsToldStep}
 use Rattle.journal_laws.proofs.BareSteps.{steps_alike}
 use Rattle.journal_laws.proofs.SameChecks.{IsPlain, plain_step, same_passes, same_takes_off, takes_off, told_of}
@@ -39,18 +39,18 @@ use Rattle.journal_laws.proofs.WithoutHalt.{halt_left_out, without_halt}
 
 -- what the line of the step tells of it: a step that is alike leaves and sends this, whether or not the token that it
 -- may present is that of the top entry
-pub record IsLineStep (code : CodeShape) (host : HostShape) (step : Step) (outcome : Outcome) : Type 0 where
+pub record IsLineStep (code : CodeShape) (host : HostState) (step : Step) (outcome : Outcome) : Type 0 where
   pub made : Step
   pub alike : bare_step made ≡ bare_step step
   pub rest : RestsFor host made
-  pub is : IsStep code host made outcome ⊎ ((takes_off code host made ≡ true) × IsSettled code host outcome)
+  pub is : IsStepOfHost code host made outcome ⊎ ((takes_off code host made ≡ true) × IsSettled code host outcome)
 
-pub rests_for : (code : CodeShape) (host : HostShape) (step : Step) → MayStep code host step → RestsFor host step
+pub rests_for : (code : CodeShape) (host : HostState) (step : Step) → MayMakeStep code host step → RestsFor host step
 rests_for code host turns may = tt
 rests_for code host (takes from letter) may = may.rest
 
-pub made_step : (code : CodeShape) (host : HostShape) (step : Step) (outcome : Outcome) → MayStep code host step →
-    IsStep code host step outcome → IsLineStep code host step outcome
+pub made_step : (code : CodeShape) (host : HostState) (step : Step) (outcome : Outcome) → MayMakeStep code host step →
+    IsStepOfHost code host step outcome → IsLineStep code host step outcome
 made_step code host step outcome may is =
     record { made = step; alike = refl; rest = rests_for code host step may; is = inl is }
 
@@ -67,7 +67,7 @@ wrong_alike (message.Ack request) = refl
 wrong_alike (message.Token request token) = refl
 
 -- an open taking is that of an lgoto
-pub open_taken : (code : CodeShape) (host : HostShape) (from : HostId) (letter : Message) (passes : Bool)
+pub open_taken : (code : CodeShape) (host : HostState) (from : HostId) (letter : Message) (passes : Bool)
     (outcome : Outcome) → host.running ≡ None → IsOpenTaking host letter →
     after_taking code host from letter passes ≡ outcome →
     (takes_off code host (takes from letter) ≡ true) × IsSettled code host outcome
@@ -94,7 +94,7 @@ unsure_own me (top ∷ below) held own unsure =
     let number : held.host.0 ≡ me.0 = ap (λ (host : HostId). host.0) named in
     grind (arith, nat_tests)
 
-pub open_turned : (code : CodeShape) (host : HostShape) (running : Option ThreadShape) (passes : Bool)
+pub open_turned : (code : CodeShape) (host : HostState) (running : Option ThreadShape) (passes : Bool)
     (outcome : Outcome) → StateFits code host → IsOpenTurnOf code host running →
     after_told_back code host running passes ≡ outcome →
     (thread_takes_off code host.me running ≡ true) × IsSettled code host outcome
@@ -132,8 +132,8 @@ open_turned code host (Some thread) passes outcome fits unsure is =
     by None unsure = absurd unsure
     by (Some instruction) unsure = runs thread.held instruction.op refl unsure
 
-pub told_step_line : (code : CodeShape) (host : HostShape) (step : Step) (outcome : Outcome) → StateFits code host →
-    MayStep code host step → IsToldStep code host step outcome → IsLineStep code host step outcome
+pub told_step_line : (code : CodeShape) (host : HostState) (step : Step) (outcome : Outcome) → StateFits code host →
+    MayMakeStep code host step → IsToldStep code host step outcome → IsLineStep code host step outcome
 told_step_line code host turns outcome fits may (inl (passes, unsure, is)) =
     record {
       made = turns;
@@ -160,24 +160,24 @@ told_step_line code host (takes from letter) outcome fits may (inr (closed, is))
 
 -- ---- what two such steps leave
 
-abbrev pub HaveSameFields : HostShape → HostShape → Type 0
+abbrev pub HaveSameFields : HostState → HostState → Type 0
 HaveSameFields one other = (one.rows ≡ other.rows) × (one.variables ≡ other.variables)
 
-pub fields_through : (one other third : HostShape) → HaveSameFields one other → HaveSameFields other third →
+pub fields_through : (one other third : HostState) → HaveSameFields one other → HaveSameFields other third →
     HaveSameFields one third
 fields_through one other third first second = (first.0 ∙ second.0, first.1 ∙ second.1)
 
-pub fields_back : (one other : HostShape) → HaveSameFields one other → HaveSameFields other one
+pub fields_back : (one other : HostState) → HaveSameFields one other → HaveSameFields other one
 fields_back one other same = (sym same.0, sym same.1)
 
-pub fields_of_same : (one other : HostShape) → one ≡ other → HaveSameFields one other
+pub fields_of_same : (one other : HostState) → one ≡ other → HaveSameFields one other
 fields_of_same one other same = (ap (λ host. host.rows) same, ap (λ host. host.variables) same)
 
-pub fields_told : (one other : HostShape) → told_of one ≡ told_of other → HaveSameFields one other
+pub fields_told : (one other : HostState) → told_of one ≡ told_of other → HaveSameFields one other
 fields_told one other same = (ap (λ host. host.rows) same, ap (λ host. host.variables) same)
 
 -- one has a thread, and the other has none
-abbrev pub ArePart : HostShape → HostShape → Type 0
+abbrev pub ArePart : HostState → HostState → Type 0
 ArePart one other =
     ((one.running ≡ None) × IsSome other.running) ⊎ (IsSome one.running × (other.running ≡ None))
 
@@ -195,7 +195,7 @@ Meet outcome beside =
     ⊎ Parts outcome beside
 
 module _ (code : CodeShape) (sound : IsSoundCode code) where
-  plain_meet : (one other : HostShape) (step another : Step) (outcome beside : Outcome) →
+  plain_meet : (one other : HostState) (step another : Step) (outcome beside : Outcome) →
       told_of one ≡ told_of other → bare_step step ≡ bare_step another → IsPlain code one step outcome →
       IsPlain code other another beside → Meet outcome beside
   plain_meet one other step another outcome beside told alike plain also =
@@ -207,14 +207,14 @@ module _ (code : CodeShape) (sound : IsSoundCode code) where
       ∙ ap bare_outcome also.leaves in
       inl (ap (λ (left : Outcome). left.state) same, ap (λ (left : Outcome). left.sent) same)
 
-  left_fields : (host : HostShape) (outcome : Outcome) → IsSettled code host outcome →
+  left_fields : (host : HostState) (outcome : Outcome) → IsSettled code host outcome →
       HaveSameFields outcome.state host
   left_fields host outcome is =
       fields_through outcome.state (settled code host is.passes) host
       (fields_of_same outcome.state (settled code host is.passes) (sym (ap (λ (left : Outcome). left.state) is.leaves)))
       (settled_keeps code host is.passes)
 
-  settled_meet : (one other : HostShape) (outcome beside : Outcome) → StateFits code one → StateFits code other →
+  settled_meet : (one other : HostState) (outcome beside : Outcome) → StateFits code one → StateFits code other →
       told_of one ≡ told_of other → IsSettled code one outcome → IsSettled code other beside → Meet outcome beside
   settled_meet one other outcome beside fits fit told first second =
       by (settled_kind code one first.passes fits) (settled_kind code other second.passes fit)
@@ -265,27 +265,27 @@ module _ (code : CodeShape) (sound : IsSoundCode code) where
           (subst (λ host. IsSome host.running) here runs.runs, subst (λ host. host.running ≡ None) there still.rest))
 
   -- a step that takes off leaves a settled host
-  off_settles : (host : HostShape) (step : Step) (outcome : Outcome) → (line : IsLineStep code host step outcome) →
+  off_settles : (host : HostState) (step : Step) (outcome : Outcome) → (line : IsLineStep code host step outcome) →
       takes_off code host line.made ≡ true → IsSettled code host outcome
   off_settles host step outcome line off = by line.is
     where
-      by : IsStep code host line.made outcome
+      by : IsStepOfHost code host line.made outcome
           ⊎ ((takes_off code host line.made ≡ true) × IsSettled code host outcome) → IsSettled code host outcome
       by (inl is) = settles code host line.made outcome off line.rest is
       by (inr settled) = settled.1
 
-  on_plain : (host : HostShape) (step : Step) (outcome : Outcome) → StateFits code host →
+  on_plain : (host : HostState) (step : Step) (outcome : Outcome) → StateFits code host →
       (line : IsLineStep code host step outcome) → takes_off code host line.made ≡ false →
       IsPlain code host line.made outcome
   on_plain host step outcome fits line on = by line.is
     where
-      by : IsStep code host line.made outcome
+      by : IsStepOfHost code host line.made outcome
           ⊎ ((takes_off code host line.made ≡ true) × IsSettled code host outcome) →
           IsPlain code host line.made outcome
       by (inl is) = plain_step code host line.made outcome sound fits on is
       by (inr settled) = absurd (false≢true (sym on ∙ settled.0))
 
-  pub steps_meet : (one other : HostShape) (step another : Step) (outcome beside : Outcome) → StateFits code one →
+  pub steps_meet : (one other : HostState) (step another : Step) (outcome beside : Outcome) → StateFits code one →
       StateFits code other → told_of one ≡ told_of other → bare_step step ≡ bare_step another →
       IsLineStep code one step outcome → IsLineStep code other another beside → Meet outcome beside
   steps_meet one other step another outcome beside fits fit told alike first second =

@@ -14,7 +14,7 @@ use Rattle.host_code.specs.declared.message.Message.{Message}
 use Rattle.host_code.specs.Riders.{Rider}
 use Rattle.host_code.specs.Thread.{ThreadShape, WaitingShape, Awaited}
 use Rattle.host_code.specs.Code.{CodeShape, entry_at, halt}
-use Rattle.host_core.specs.Host.{HostShape, Outcome, after_asking, after_entering, after_pop, next_request}
+use Rattle.host_core.specs.Host.{HostState, Outcome, after_asking, after_entering, after_pop, next_request}
 use Rattle.host_core.specs.Host.{thread_at, with_running, with_variable_set, with_variables_set}
 use Rattle.journal_laws.specs.Bare.{bare_token, bare_thread, bare_waiting, bare_entry, bare_host}
 
@@ -39,7 +39,7 @@ running_twice (Some thread) = ap Some (thread_twice thread)
 waiting_twice : (waiting : WaitingShape) → bare_waiting (bare_waiting waiting) ≡ bare_waiting waiting
 waiting_twice waiting = rw (thread_twice waiting.thread) refl
 
-pub host_twice : (host : HostShape) → bare_host (bare_host host) ≡ bare_host host
+pub host_twice : (host : HostState) → bare_host (bare_host host) ≡ bare_host host
 host_twice host =
     rw (running_twice host.running)
     (rw (map_twice bare_waiting waiting_twice host.waiting)
@@ -47,23 +47,23 @@ host_twice host =
 
 -- ---- what a host leaves and sends
 
-abbrev leaving : HostShape → Option (HostId × Message) → Outcome
+abbrev leaving : HostState → Option (HostId × Message) → Outcome
 leaving state sent = record { state = state; sent = sent }
 
-pub sends : {other one : HostShape} {sent told : Option (HostId × Message)} → other ≡ one → sent ≡ told →
+pub sends : {other one : HostState} {sent told : Option (HostId × Message)} → other ≡ one → sent ≡ told →
     leaving other sent ≡ leaving one told
 sends {other} {one} {sent} {told} same alike = ap (λ state. leaving state sent) same ∙ ap (leaving one) alike
 
-pub leaves : {other one : HostShape} → other ≡ one → leaving other None ≡ leaving one None
+pub leaves : {other one : HostState} → other ≡ one → leaving other None ≡ leaving one None
 leaves same = ap (λ state. leaving state None) same
 
 -- ---- threads
 
-pub running_bare : (host : HostShape) (other one : Option ThreadShape) →
+pub running_bare : (host : HostState) (other one : Option ThreadShape) →
     option_map bare_thread other ≡ option_map bare_thread one →
     bare_host (with_running (bare_host host) other) ≡ bare_host (with_running host one)
 running_bare host other one same =
-    let runs : HostShape → Option ThreadShape → HostShape = λ host running. record host { running = running } in
+    let runs : HostState → Option ThreadShape → HostState = λ host running. record host { running = running } in
     ap (λ host. runs host (option_map bare_thread other)) (host_twice host) ∙ ap (runs (bare_host host)) same
 
 -- a thread more that waits
@@ -73,14 +73,14 @@ appended_bare [] other one same = ap (λ waiting. waiting ∷ []) same
 appended_bare (first ∷ waiting) other one same =
     rw (waiting_twice first) (ap (λ waiting. bare_waiting first ∷ waiting) (appended_bare waiting other one same))
 
-pub asking_bare : (host : HostShape) (at : ℕ) (other one : ThreadShape) (awaited : Awaited) (asked : HostId) →
+pub asking_bare : (host : HostState) (at : ℕ) (other one : ThreadShape) (awaited : Awaited) (asked : HostId) →
     bare_thread other ≡ bare_thread one →
     bare_host (after_asking (bare_host host) at other awaited asked)
     ≡ bare_host (after_asking host at one awaited asked)
 asking_bare host at other one awaited asked same =
     let waits : ThreadShape → WaitingShape =
     λ thread. record { thread = thread; awaited = awaited; request = next_request host at; asked = asked } in
-    let asks : HostShape → List WaitingShape → HostShape = λ after waiting. record after {
+    let asks : HostState → List WaitingShape → HostState = λ after waiting. record after {
       running = None;
       waiting = waiting;
       requests = slice_set host.requests at (slice_index host.requests at + 1);
@@ -88,7 +88,7 @@ asking_bare host at other one awaited asked same =
     ap (λ after. asks after (map bare_waiting (map bare_waiting host.waiting ++ waits other ∷ []))) (host_twice host)
     ∙ ap (asks (bare_host host)) (appended_bare host.waiting (waits other) (waits one) (ap waits same))
 
-pub entering_bare : (host : HostShape) (found : Option Entry) (frame : FrameId) (token : Token) →
+pub entering_bare : (host : HostState) (found : Option Entry) (frame : FrameId) (token : Token) →
     bare_host (after_entering (bare_host host) found frame (bare_token token))
     ≡ bare_host (after_entering host found frame token)
 entering_bare host None frame token = running_bare host None None refl
@@ -97,12 +97,12 @@ entering_bare host (Some entry) frame token =
 
 -- ---- the stack and the variables
 
-pub popped_bare : (code : CodeShape) (host : HostShape) (entries : List StackEntry) →
+pub popped_bare : (code : CodeShape) (host : HostState) (entries : List StackEntry) →
     bare_host (after_pop code (bare_host host) (map bare_entry entries)) ≡ bare_host (after_pop code host entries)
 popped_bare code host [] = host_twice host
 popped_bare code host (top ∷ below) = by (top.entry.0 == halt.0)
   where
-    left : HostShape
+    left : HostState
     left = record host { entries = below }
 
     by : (ends : Bool) →
@@ -115,7 +115,7 @@ popped_bare code host (top ∷ below) = by (top.entry.0 == halt.0)
     by true = running_bare left None None refl
     by false = entering_bare left (entry_at code top.entry) top.frame top.kept
 
-pub riders_bare : (host : HostShape) (frame : FrameId) (riders : List Rider) →
+pub riders_bare : (host : HostState) (frame : FrameId) (riders : List Rider) →
     with_variables_set (bare_host host) frame riders ≡ bare_host (with_variables_set host frame riders)
 riders_bare host frame [] = refl
 riders_bare host frame (rider ∷ riders) = riders_bare (with_variable_set host frame rider.0 rider.1) frame riders

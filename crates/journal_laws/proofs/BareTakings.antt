@@ -14,7 +14,7 @@ use Rattle.host_code.specs.Thread.Awaited.{value_of_field, acknowledgement, toke
 use Rattle.host_code.specs.Code.{CodeShape, entry_at}
 use Rattle.host_code.specs.MessageText.{message_text}
 use Rattle.host_core.specs.Awaiting.{awaits}
-use Rattle.host_core.specs.Host.{HostShape, after_push, with_row_written}
+use Rattle.host_core.specs.Host.{HostState, after_push, with_row_written}
 use Rattle.host_core.specs.Host.{with_temporary, with_token, with_variable_set, with_variables_set}
 use Rattle.host_core.specs.Taking.{after_taking, after_answer, place_of_awaiting}
 use Rattle.journal_laws.specs.Bare.{bare_token, bare_message, bare_thread, bare_waiting, bare_host, bare_outcome}
@@ -49,7 +49,7 @@ woken_bare : (other answered : ThreadShape → ThreadShape) →
 woken_bare other answered same None = refl
 woken_bare other answered same (Some waiting) = ap Some (same waiting.thread)
 
-answer_bare : (host : HostShape) (place : Option ℕ) (other answered : ThreadShape → ThreadShape) →
+answer_bare : (host : HostState) (place : Option ℕ) (other answered : ThreadShape → ThreadShape) →
     ((thread : ThreadShape) → bare_thread (other (bare_thread thread)) ≡ bare_thread (answered thread)) →
     bare_host (after_answer (bare_host host) place other) ≡ bare_host (after_answer host place answered)
 answer_bare host None other answered same = host_twice host
@@ -61,7 +61,7 @@ answer_bare host (Some place) other answered same =
     (option_map (λ waiting. answered waiting.thread) (slice_get host.waiting place))
     (woken_bare other answered same (slice_get host.waiting place))))
 
-answered_bare : (host : HostShape) (awaited : Awaited) (request : RequestId) (from : HostId)
+answered_bare : (host : HostState) (awaited : Awaited) (request : RequestId) (from : HostId)
     (other answered : ThreadShape → ThreadShape) →
     ((thread : ThreadShape) → bare_thread (other (bare_thread thread)) ≡ bare_thread (answered thread)) →
     bare_host (after_answer (bare_host host) (place_of_awaiting (bare_host host) awaited request from) other)
@@ -72,7 +72,7 @@ answered_bare host awaited request from other answered same =
 
 -- ---- messages
 
-pub takes_bare : (code : CodeShape) (host : HostShape) (from : HostId) (message : Message) (passes : Bool) →
+pub takes_bare : (code : CodeShape) (host : HostState) (from : HostId) (message : Message) (passes : Bool) →
     bare_outcome (after_taking code (bare_host host) from (bare_message message) passes)
     ≡ bare_outcome (after_taking code host from message passes)
 takes_bare code host from message false = leaves (host_twice host)

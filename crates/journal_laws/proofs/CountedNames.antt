@@ -25,7 +25,7 @@ use Rattle.host_code.specs.Riders.{Rider}
 use Rattle.host_code.specs.Thread.{ThreadShape, WaitingShape}
 use Rattle.host_code.specs.Thread.Awaited.{value_of_field, acknowledgement, token_of_entry}
 use Rattle.host_code.specs.Code.{CodeShape, CodeFieldShape, entry_at, field_at, halt, instruction_at}
-use Rattle.host_core.specs.Host.{HostShape, Outcome, after_entering, after_pop, new_token, with_running}
+use Rattle.host_core.specs.Host.{HostState, Outcome, after_entering, after_pop, new_token, with_running}
 use Rattle.host_core.specs.Host.{with_temporary, with_token, with_variable_set, with_variables_set, value_in_thread}
 use Rattle.host_core.specs.Taking.{after_passing, after_answer, place_of_awaiting}
 use Rattle.host_core.specs.Told.{settled, told_key}
@@ -78,15 +78,15 @@ entries_hits name [] = 0
 entries_hits name (top ∷ below) = entry_hits name top + entries_hits name below
 
 -- how many tokens on the host have the name
-abbrev pub count : ℕ → HostShape → ℕ
+abbrev pub count : ℕ → HostState → ℕ
 count name host = running_hits name host.running + (waiting_hits name host.waiting + entries_hits name host.entries)
 
 -- those that wait or are kept
-abbrev pub lying : ℕ → HostShape → ℕ
+abbrev pub lying : ℕ → HostState → ℕ
 lying name host = waiting_hits name host.waiting + entries_hits name host.entries
 
 -- no thread runs where a message is taken
-abbrev pub Rests : HostShape → Step → Type 0
+abbrev pub Rests : HostState → Step → Type 0
 Rests host turns = host.me ≡ host.me
 Rests host (takes from letter) = host.running ≡ None
 
@@ -99,7 +99,7 @@ no_more : (one : ℕ) → one ≤ one
 no_more one = omega arith
 
 module _ (name : ℕ) where
-  entered : (host : HostShape) (found : Option Entry) (frame : FrameId) (token : Token) →
+  entered : (host : HostState) (found : Option Entry) (frame : FrameId) (token : Token) →
       count name (after_entering host found frame token) ≤ hits name token + lying name host
   entered host None frame token = omega arith
   entered host (Some entry) frame token = no_more (hits name token + lying name host)
@@ -107,7 +107,7 @@ module _ (name : ℕ) where
   kept_hits : (top : StackEntry) → (top.entry.0 == halt.0) ≡ false → entry_hits name top ≡ hits name top.kept
   kept_hits top lasting = rw lasting refl
 
-  popped : (code : CodeShape) (host : HostShape) (entries : List StackEntry) → host.running ≡ None →
+  popped : (code : CodeShape) (host : HostState) (entries : List StackEntry) → host.running ≡ None →
       host.entries ≡ entries →
       count name (after_pop code host entries) ≤ waiting_hits name host.waiting + entries_hits name entries
   popped code host [] rest stack =
@@ -116,7 +116,7 @@ module _ (name : ℕ) where
       omega (arith, none, empty)
   popped code host (top ∷ below) rest stack = by (top.entry.0 == halt.0) refl
     where
-      left : HostShape
+      left : HostState
       left = record host { entries = below }
 
       by : (ends : Bool) → (top.entry.0 == halt.0) ≡ ends →
@@ -157,21 +157,21 @@ module _ (name : ℕ) where
       ≤ held + (waiting_hits name waiting + entries_hits name entries)
   asked waiting one entries held few = let all = appended waiting one in omega (arith, few, all)
 
-  abbrev Within : ThreadShape → HostShape → Outcome → Type 0
+  abbrev Within : ThreadShape → HostState → Outcome → Type 0
   Within thread host after = count name after.state ≤ held_hits name thread.held + lying name host
 
   -- the thread goes on, or ends
-  stays : (thread : ThreadShape) (host : HostShape) → held_hits name thread.held + lying name host
+  stays : (thread : ThreadShape) (host : HostState) → held_hits name thread.held + lying name host
       ≤ held_hits name thread.held + lying name host
   stays thread host = no_more (held_hits name thread.held + lying name host)
 
-  ends : (thread : ThreadShape) (host : HostShape) →
+  ends : (thread : ThreadShape) (host : HostState) →
       0 + lying name host ≤ held_hits name thread.held + lying name host
   ends thread host = omega arith
 
   -- ---- instructions
 
-  read_counts : (host : HostShape) (thread : ThreadShape) (field : FieldId) (index : List Node)
+  read_counts : (host : HostState) (thread : ThreadShape) (field : FieldId) (index : List Node)
       (there : Option CodeFieldShape) → Within thread host (after_read host thread field index there)
   read_counts host thread field index None = stays thread host
   read_counts host thread field index (Some there) = by (there.host.0 == host.me.0) refl
@@ -182,7 +182,7 @@ module _ (name : ℕ) where
       by false is = rw is (asked host.waiting _ host.entries (held_hits name thread.held)
           (no_more (held_hits name thread.held)))
 
-  put_counts : (host : HostShape) (thread : ThreadShape) (field : FieldId) (index value : List Node)
+  put_counts : (host : HostState) (thread : ThreadShape) (field : FieldId) (index value : List Node)
       (there : Option CodeFieldShape) → Within thread host (after_put host thread field index value there)
   put_counts host thread field index value None = stays thread host
   put_counts host thread field index value (Some there) = by (there.host.0 == host.me.0) refl
@@ -193,7 +193,7 @@ module _ (name : ℕ) where
       by false is = rw is (asked host.waiting _ host.entries (held_hits name thread.held)
           (no_more (held_hits name thread.held)))
 
-  branch_counts : (host : HostShape) (thread : ThreadShape) (guard : List Node) (target : ℕ) →
+  branch_counts : (host : HostState) (thread : ThreadShape) (guard : List Node) (target : ℕ) →
       Within thread host (after_branch host thread guard target)
   branch_counts host thread guard target = by (int_eq (value_in_thread host thread guard) (pos 0)) refl
     where
@@ -203,7 +203,7 @@ module _ (name : ℕ) where
       by false is = rw is (stays thread host)
 
   -- a token that the host makes has no name
-  made_counts : (host : HostShape) (entry : EntryId) (frame : FrameId) → host.key ≡ told_key →
+  made_counts : (host : HostState) (entry : EntryId) (frame : FrameId) → host.key ≡ told_key →
       hits name (new_token host entry frame) ≡ 0
   made_counts host entry frame key =
       let right : is_right (new_token host entry frame) ≡ true =
@@ -211,7 +211,7 @@ module _ (name : ℕ) where
       (ap (λ k. right_tag k (new_token host entry frame)) key) in
       rw right refl
 
-  pushed_entry : (host : HostShape) (entry : EntryId) (frame : FrameId) (kept : Token) → entry ≢ halt →
+  pushed_entry : (host : HostState) (entry : EntryId) (frame : FrameId) (kept : Token) → entry ≢ halt →
       entry_hits name (record {
         token = new_token host entry frame;
         entry = entry;
@@ -220,7 +220,7 @@ module _ (name : ℕ) where
       }) ≡ hits name kept
   pushed_entry host entry frame kept other = rw (lasts entry other) refl
 
-  push_counts : (host : HostShape) (thread : ThreadShape) (entry : EntryId) (held : Option Token) →
+  push_counts : (host : HostState) (thread : ThreadShape) (entry : EntryId) (held : Option Token) →
       host.key ≡ told_key → entry ≢ halt → thread.held ≡ held →
       Within thread host (after_own_push host thread entry held)
   push_counts host thread entry None key other at = stays thread host
@@ -230,29 +230,29 @@ module _ (name : ℕ) where
       let here : held_hits name thread.held ≡ hits name held = ap (held_hits name) at in
       omega (arith, none, kept, here)
 
-  ask_counts : (host : HostShape) (thread : ThreadShape) (entry : EntryId) (on : HostId) (held : Option Token) →
+  ask_counts : (host : HostState) (thread : ThreadShape) (entry : EntryId) (on : HostId) (held : Option Token) →
       Within thread host (after_ask host thread entry on held)
   ask_counts host thread entry on None = stays thread host
   ask_counts host thread entry on (Some held) =
       asked host.waiting _ host.entries (held_hits name thread.held) (omega arith)
 
-  go_counts : (host : HostShape) (thread : ThreadShape) (frame : FrameId) (entry : EntryId) (on : HostId)
+  go_counts : (host : HostState) (thread : ThreadShape) (frame : FrameId) (entry : EntryId) (on : HostId)
       (held : Option Token) → Within thread host (after_go host thread frame entry on held)
   go_counts host thread frame entry on None = stays thread host
   go_counts host thread frame entry on (Some held) = ends thread host
 
-  go_with_counts : (host : HostShape) (thread : ThreadShape) (frame : FrameId) (entry : EntryId) (on : HostId)
+  go_with_counts : (host : HostState) (thread : ThreadShape) (frame : FrameId) (entry : EntryId) (on : HostId)
       (variables : List VarId) (held : Option Token) →
       Within thread host (after_go_with host thread frame entry on variables held)
   go_with_counts host thread frame entry on variables None = stays thread host
   go_with_counts host thread frame entry on variables (Some held) = ends thread host
 
-  own_call_counts : (host : HostShape) (thread : ThreadShape) (there : Option Entry) →
+  own_call_counts : (host : HostState) (thread : ThreadShape) (there : Option Entry) →
       Within thread host (after_own_call host thread there)
   own_call_counts host thread None = stays thread host
   own_call_counts host thread (Some there) = stays thread host
 
-  call_counts : (code : CodeShape) (host : HostShape) (thread : ThreadShape) (entry : EntryId) (on : HostId) →
+  call_counts : (code : CodeShape) (host : HostState) (thread : ThreadShape) (entry : EntryId) (on : HostId) →
       Within thread host (after_call code host thread entry on)
   call_counts code host thread entry on = by (on.0 == host.me.0) refl
     where
@@ -260,7 +260,7 @@ module _ (name : ℕ) where
       by true is = rw is (own_call_counts host thread (entry_at code entry))
       by false is = rw is (go_counts host thread thread.new_frame entry on thread.held)
 
-  return_counts : (host : HostShape) (thread : ThreadShape) (variable : VarId) (value : List Node)
+  return_counts : (host : HostState) (thread : ThreadShape) (variable : VarId) (value : List Node)
       (held : Option Token) (passes : Bool) → Within thread host (after_return host thread variable value held passes)
   return_counts host thread variable value None passes = stays thread host
   return_counts host thread variable value (Some held) passes = by (held.host.0 == host.me.0) refl passes
@@ -272,7 +272,7 @@ module _ (name : ℕ) where
           (no_more (held_hits name thread.held)))
       by false is false = rw is (stays thread host)
 
-  back_counts : (code : CodeShape) (host : HostShape) (thread : ThreadShape) (held : Option Token) (passes : Bool) →
+  back_counts : (code : CodeShape) (host : HostState) (thread : ThreadShape) (held : Option Token) (passes : Bool) →
       Within thread host (after_back code host thread held passes)
   back_counts code host thread None passes = stays thread host
   back_counts code host thread (Some held) passes = by (held.host.0 == host.me.0) refl passes
@@ -287,7 +287,7 @@ module _ (name : ℕ) where
       by true is false = rw is (ends thread host)
       by false is may = rw is (ends thread host)
 
-  runs_counts : (code : CodeShape) (host : HostShape) (thread : ThreadShape) (operation : Op) (passes : Bool) →
+  runs_counts : (code : CodeShape) (host : HostState) (thread : ThreadShape) (operation : Op) (passes : Bool) →
       host.key ≡ told_key → PushesOther operation →
       Within thread host (after_operation code host thread operation passes)
   runs_counts code host thread (op.Read field index) passes key other =
@@ -317,7 +317,7 @@ module _ (name : ℕ) where
   runs_counts code host thread (op.Branch guard target) passes key other = branch_counts host thread guard target
 
   -- a step that takes off leaves what waits and is kept
-  pub settled_counts : (code : CodeShape) (host : HostShape) (passes : Bool) →
+  pub settled_counts : (code : CodeShape) (host : HostState) (passes : Bool) →
       count name (settled code host passes) ≤ lying name host
   settled_counts code host true = popped code (with_running host None) host.entries refl refl
   settled_counts code host false = omega arith
@@ -332,7 +332,7 @@ module _ (name : ℕ) where
   letter_hits (message.Token request token) = hits name token
   letter_hits _ = 0
 
-  riders_lying : (host : HostShape) (frame : FrameId) (riders : List Rider) →
+  riders_lying : (host : HostState) (frame : FrameId) (riders : List Rider) →
       lying name (with_variables_set host frame riders) ≡ lying name host
   riders_lying host frame [] = refl
   riders_lying host frame (rider ∷ riders) = riders_lying (with_variable_set host frame rider.0 rider.1) frame riders
@@ -348,14 +348,14 @@ module _ (name : ℕ) where
   woken (first ∷ waiting) (suc place) answered more few =
       let rest = woken waiting place answered more few in omega (arith, rest)
 
-  answered_counts : (host : HostShape) (place : Option ℕ) (answered : ThreadShape → ThreadShape) (more : ℕ) →
+  answered_counts : (host : HostState) (place : Option ℕ) (answered : ThreadShape → ThreadShape) (more : ℕ) →
       ((thread : ThreadShape) → held_hits name (answered thread).held ≤ held_hits name thread.held + more) →
       count name (after_answer host place answered) ≤ count name host + more
   answered_counts host None answered more few = omega arith
   answered_counts host (Some place) answered more few =
       let all = woken host.waiting place answered more few in omega (arith, all)
 
-  passing_counts : (code : CodeShape) (host : HostShape) (from : HostId) (letter : Message) →
+  passing_counts : (code : CodeShape) (host : HostState) (from : HostId) (letter : Message) →
       host.running ≡ None → host.key ≡ told_key → SyncsOther letter →
       count name (after_passing code host from letter).state ≤ count name host + letter_hits letter
   passing_counts code host from (message.Get request field index) rest key other = omega arith
@@ -385,7 +385,7 @@ module _ (name : ℕ) where
 
   -- ---- steps
 
-  turn_counts : (code : CodeShape) (host : HostShape) (running : Option ThreadShape) (passes : Bool) →
+  turn_counts : (code : CodeShape) (host : HostState) (running : Option ThreadShape) (passes : Bool) →
       host.running ≡ running → host.key ≡ told_key → ThreadPushes code host.me running →
       count name (after_turn code host running passes).state ≤ count name host
   turn_counts code host None passes runs key other = no_more (count name host)
@@ -405,7 +405,7 @@ module _ (name : ℕ) where
   step_hits turns = 0
   step_hits (takes from letter) = letter_hits letter
 
-  pub step_counts : (code : CodeShape) (host : HostShape) (step : Step) (passes : Bool) → Rests host step →
+  pub step_counts : (code : CodeShape) (host : HostState) (step : Step) (passes : Bool) → Rests host step →
       host.key ≡ told_key → StepPushes code host step passes →
       count name (told_step code host step passes).state ≤ count name host + step_hits step
   step_counts code host turns passes rest key other =

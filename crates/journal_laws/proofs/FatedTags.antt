@@ -16,7 +16,7 @@ use Rattle.host_code.specs.declared.message.Message.TheVariants as message
 use Rattle.host_code.specs.Code.{CodeShape}
 use Rattle.host_code.specs.Messages.{MessageFits}
 use Rattle.host_code.specs.Thread.{ThreadShape, WaitingShape}
-use Rattle.host_core.specs.Host.{HostShape}
+use Rattle.host_core.specs.Host.{HostState}
 use Rattle.host_core.specs.Told.{IsUnsure, other_tag, told_key, with_wrong_tags}
 use Rattle.wire_msg.specs.Frames.{IsMessage, IsTag, IsToken}
 use Rattle.journal_laws.proofs.CountedNames.{count, entries_hits, entry_hits, held_hits, hits, is_right, is_right_tag}
@@ -367,7 +367,7 @@ module _ (fate : ℕ → Bool) (name : ℕ) (right : Bool) where
       ap (λ first. first ∷ map (tagged_entry (fate_tag next)) below) one
       ∙ ap (λ others. tagged_entry (fate_tag fate) top ∷ others) rest
 
-  pub cast_same : (ignored : ℕ) (halted : Bool) (host : HostShape) → AreMade told_key host.entries →
+  pub cast_same : (ignored : ℕ) (halted : Bool) (host : HostState) → AreMade told_key host.entries →
       (name == 0) ≡ false → count name host ≡ 0 →
       cast (fate_tag next) told_key ignored halted host ≡ cast (fate_tag fate) told_key ignored halted host
   cast_same ignored halted host made some zero_there =

@@ -13,13 +13,13 @@ use Rattle.ics_stack.specs.Stack.{top_token}
 use Rattle.host_code.specs.Code.{CodeShape}
 use Rattle.host_code.specs.Sound.{IsHost, IsSoundCode}
 use Rattle.host_code.specs.Thread.{ThreadShape}
-use Rattle.host_core.specs.Fits.{EntryFits, IsEntryOf, StateFits}
-use Rattle.host_core.specs.Host.{HostShape, Outcome, with_running}
+use Rattle.host_core.specs.Fits.{StackEntryFits, IsEntryOf, StateFits}
+use Rattle.host_core.specs.Host.{HostState, Outcome, with_running}
 use Rattle.host_core.specs.Host.{without_message}
 use Rattle.host_core.specs.Told.{settled, told_key, with_wrong_tags}
 use Rattle.journal_laws.specs.Bare.{bare_host, bare_sent}
-use Rattle.journal_laws.specs.Plays.{HaveOwnNames, MayStep}
-use Rattle.journal_laws.specs.Steps.{Step, turns, takes, IsStep, bare_step, told_step}
+use Rattle.journal_laws.specs.Plays.{HaveOwnNames, MayMakeStep}
+use Rattle.journal_laws.specs.Steps.{Step, turns, takes, IsStepOfHost, bare_step, told_step}
 use Rattle.journal_laws.specs.ToldPlays.{IsChosenStep, IsToldStep}
 use Rattle.journal_laws.proofs.AlikeSteps.{open_taken, open_turned}
 use Rattle.journal_laws.proofs.KeptStacks.{AreMade, HasStack, IsMade, stack_kept}
@@ -43,8 +43,8 @@ use Rattle.journal_laws.proofs.AlikeMoves.{off_of, agree}
 module _ (code : CodeShape) (sound : IsSoundCode code) (own : HaveOwnNames code) where
   -- ---- a played host and a real one
 
-  pub record Follows (key : List ℕ) (host real : HostShape) : Type 0 where
-    pub both : HostShape
+  pub record Follows (key : List ℕ) (host real : HostState) : Type 0 where
+    pub both : HostState
     pub told : IsCast told_tag told_key (without_halt host) (without_halt both)
     pub casts : IsCast (real_tag key) key real both
     pub stack : HasStack told_key host
@@ -52,7 +52,7 @@ module _ (code : CodeShape) (sound : IsSoundCode code) (own : HaveOwnNames code)
     pub fits : StateFits code host
     pub fits_real : StateFits code real
 
-  pub both_told : (key : List ℕ) (host real : HostShape) → (follows : Follows key host real) →
+  pub both_told : (key : List ℕ) (host real : HostState) → (follows : Follows key host real) →
       told_of follows.both ≡ told_of real
   both_told key host real follows =
       let (ignored, halted, is) = follows.casts in
@@ -60,18 +60,18 @@ module _ (code : CodeShape) (sound : IsSoundCode code) (own : HaveOwnNames code)
       ∙ ap bare_host (sym (cast_without (real_tag key) key ignored halted follows.both))
       ∙ ap told_of (sym is)
 
-  pub same_told_of : (key : List ℕ) (host real : HostShape) → Follows key host real → told_of host ≡ told_of real
+  pub same_told_of : (key : List ℕ) (host real : HostState) → Follows key host real → told_of host ≡ told_of real
   same_told_of key host real follows =
       let (ignored, halted, is) = follows.told in
       ap bare_host is ∙ cast_bare told_tag told_key ignored halted (without_halt follows.both)
       ∙ both_told key host real follows
 
-  pub me_of_both : (key : List ℕ) (host real : HostShape) → (follows : Follows key host real) →
+  pub me_of_both : (key : List ℕ) (host real : HostState) → (follows : Follows key host real) →
       real.me ≡ follows.both.me
-  me_of_both key host real follows = let (ignored, halted, is) = follows.casts in ap (λ (h : HostShape). h.me) is
+  me_of_both key host real follows = let (ignored, halted, is) = follows.casts in ap (λ (h : HostState). h.me) is
 
   -- the real step, which the third host makes with it
-  pub real_cast : (key : List ℕ) (host real : HostShape) (another : Step) (beside : Outcome) (passes : Bool) →
+  pub real_cast : (key : List ℕ) (host real : HostState) (another : Step) (beside : Outcome) (passes : Bool) →
       (follows : Follows key host real) → told_step code real another passes ≡ beside →
       AreCast (real_tag key) key beside (told_step code follows.both (tagged_step marked another) passes)
   real_cast key host real another beside passes follows is =
@@ -84,7 +84,7 @@ module _ (code : CodeShape) (sound : IsSoundCode code) (own : HaveOwnNames code)
       ∙ ap (λ step. told_step code real step passes) (made_real key another) ∙ is)
       (step_cast (real_tag key) key code ignored halted follows.both (tagged_step marked another) passes has)
 
-  pub both_stack : (key : List ℕ) (host real : HostShape) (another : Step) (passes : Bool) →
+  pub both_stack : (key : List ℕ) (host real : HostState) (another : Step) (passes : Bool) →
       (follows : Follows key host real) → StepSyncs another passes →
       HasStack told_key (told_step code follows.both (tagged_step marked another) passes).state
   both_stack key host real another passes follows syncs =
@@ -94,9 +94,10 @@ module _ (code : CodeShape) (sound : IsSoundCode code) (own : HaveOwnNames code)
       (marked_syncs another passes syncs)) follows.stack_both
 
   -- what is left of both, where the played one is the third without the entry that ends the program
-  pub go_on : (key : List ℕ) (host real : HostShape) (step another : Step) (outcome beside : Outcome)
-      (one other : Bool) → (follows : Follows key host real) → MayStep code host step → MayStep code real another →
-      IsToldStep code host step outcome → IsStep code real another beside →
+  pub go_on : (key : List ℕ) (host real : HostState) (step another : Step) (outcome beside : Outcome)
+      (one other : Bool) → (follows : Follows key host real) → MayMakeStep code host step →
+      MayMakeStep code real another →
+      IsToldStep code host step outcome → IsStepOfHost code real another beside →
       told_step code host (made_of step) one ≡ outcome → StepSyncs (made_of step) one →
       told_step code real another other ≡ beside → StepSyncs another other →
       IsCast told_tag told_key (without_halt outcome.state)
@@ -117,9 +118,9 @@ module _ (code : CodeShape) (sound : IsSoundCode code) (own : HaveOwnNames code)
 
   -- ---- a step that takes nothing off
 
-  pub closed_step : (chosen : Bool → Type 0) (host : HostShape) (step : Step) (outcome : Outcome) →
-      StateFits code host → MayStep code host step → takes_off code host (made_of step) ≡ false →
-      IsChosenStep chosen code host step outcome → IsStep code host (made_of step) outcome
+  pub closed_step : (chosen : Bool → Type 0) (host : HostState) (step : Step) (outcome : Outcome) →
+      StateFits code host → MayMakeStep code host step → takes_off code host (made_of step) ≡ false →
+      IsChosenStep chosen code host step outcome → IsStepOfHost code host (made_of step) outcome
   closed_step chosen host turns outcome fits may off (inr closed) = closed.1
   closed_step chosen host (takes from letter) outcome fits may off (inr closed) = closed.1
   closed_step chosen host turns outcome fits may off (inl (passes, why, unsure, is)) =
@@ -128,7 +129,7 @@ module _ (code : CodeShape) (sound : IsSoundCode code) (own : HaveOwnNames code)
       absurd (false≢true (sym off
       ∙ (open_taken code host from (with_wrong_tags letter) passes outcome may.rest unsure is).0))
 
-  pub same_passing : (key : List ℕ) (host real : HostShape) (step another : Step) (one other : Bool) →
+  pub same_passing : (key : List ℕ) (host real : HostState) (step another : Step) (one other : Bool) →
       Follows key host real → bare_step step ≡ bare_step another → takes_off code host (made_of step) ≡ false →
       takes_off code real another ≡ false → IsTrue one ↔ CheckOf code host (made_of step) →
       IsTrue other ↔ CheckOf code real another → one ≡ other
@@ -141,7 +142,7 @@ module _ (code : CodeShape) (sound : IsSoundCode code) (own : HaveOwnNames code)
       (both_ways check (check_told code host (made_of step) off))) in
       same_value one other first (both_ways beside (check_told code real another off_too))
 
-  pub plain_cast : (key : List ℕ) (host real : HostShape) (step another : Step) (outcome : Outcome) (passes : Bool) →
+  pub plain_cast : (key : List ℕ) (host real : HostState) (step another : Step) (outcome : Outcome) (passes : Bool) →
       (follows : Follows key host real) → bare_step step ≡ bare_step another →
       takes_off code host (made_of step) ≡ false →
       takes_off code follows.both (tagged_step marked another) ≡ false →
@@ -187,10 +188,10 @@ module _ (code : CodeShape) (sound : IsSoundCode code) (own : HaveOwnNames code)
       (Follows key outcome.state beside.state × (bare_sent outcome.sent ≡ bare_sent beside.sent))
       ⊎ Parted chosen outcome beside
 
-  pub plain_meets : (key : List ℕ) (host real : HostShape) (step another : Step) (chosen : Bool → Type 0)
-      (outcome beside : Outcome) → (follows : Follows key host real) → MayStep code host step →
-      MayStep code real another → bare_step step ≡ bare_step another → IsChosenStep chosen code host step outcome →
-      IsStep code real another beside → takes_off code host (made_of step) ≡ false →
+  pub plain_meets : (key : List ℕ) (host real : HostState) (step another : Step) (chosen : Bool → Type 0)
+      (outcome beside : Outcome) → (follows : Follows key host real) → MayMakeStep code host step →
+      MayMakeStep code real another → bare_step step ≡ bare_step another → IsChosenStep chosen code host step outcome →
+      IsStepOfHost code real another beside → takes_off code host (made_of step) ≡ false →
       takes_off code real another ≡ false → takes_off code follows.both (tagged_step marked another) ≡ false →
       Meets key chosen outcome beside
   plain_meets key host real step another chosen outcome beside follows may also alike is made off off_too off_both =
@@ -218,24 +219,24 @@ module _ (code : CodeShape) (sound : IsSoundCode code) (own : HaveOwnNames code)
   -- ---- a step that takes off
 
   -- nothing lasts on the stacks
-  pub still_cast : (key : List ℕ) (host real : HostShape) (one other : Bool) → (follows : Follows key host real) →
+  pub still_cast : (key : List ℕ) (host real : HostState) (one other : Bool) → (follows : Follows key host real) →
       filter is_lasting follows.both.entries ≡ [] →
       IsCast told_tag told_key (without_halt (settled code host one)) (without_halt (settled code follows.both other))
   still_cast key host real one other follows none =
       let (ignored, halted, told) = follows.told in
       let both = follows.both in
       let nothing : filter is_lasting host.entries ≡ [] =
-      ap (λ (h : HostShape). h.entries) told ∙ ap (map (tagged_entry told_tag)) none in
+      ap (λ (h : HostState). h.entries) told ∙ ap (map (tagged_entry told_tag)) none in
       let (count, ends, left) = still code host one nothing in
       let (more, stops, beside) = still code both other none in (
         count,
         ends,
-        left ∙ ap (λ (h : HostShape). record h { running = None; ignored = count; halted = ends }) told
+        left ∙ ap (λ (h : HostState). record h { running = None; ignored = count; halted = ends }) told
             ∙ sym (ap (cast told_tag told_key count ends) beside),
       )
 
   -- neither takes an entry off
-  pub ignored_cast : (key : List ℕ) (host real : HostShape) → (follows : Follows key host real) →
+  pub ignored_cast : (key : List ℕ) (host real : HostState) → (follows : Follows key host real) →
       IsCast told_tag told_key (without_halt (settled code host false))
       (without_halt (settled code follows.both false))
   ignored_cast key host real follows =
@@ -244,12 +245,12 @@ module _ (code : CodeShape) (sound : IsSoundCode code) (own : HaveOwnNames code)
       let (more, stops, beside) = still_ignored code follows.both in (
         count,
         ends,
-        left ∙ ap (λ (h : HostShape). record h { running = None; ignored = count; halted = ends }) told
+        left ∙ ap (λ (h : HostState). record h { running = None; ignored = count; halted = ends }) told
             ∙ sym (ap (cast told_tag told_key count ends) beside),
       )
 
   -- both start the thread of the top entry
-  pub started_cast : (key : List ℕ) (host real : HostShape) → (follows : Follows key host real) →
+  pub started_cast : (key : List ℕ) (host real : HostState) → (follows : Follows key host real) →
       HasStarted code host (settled code host true) → HasStarted code follows.both (settled code follows.both true) →
       IsCast told_tag told_key (without_halt (settled code host true))
       (without_halt (settled code follows.both true))
@@ -265,7 +266,7 @@ module _ (code : CodeShape) (sound : IsSoundCode code) (own : HaveOwnNames code)
       )
 
   -- the top entry of the third host, and those of the two others
-  pub record HasTops (key : List ℕ) (host real both : HostShape) : Type 0 where
+  pub record HasTops (key : List ℕ) (host real both : HostState) : Type 0 where
     pub top : StackEntry
     pub made : IsMade told_key top.token
     pub host_starts : HasStarted code host (settled code host true)
@@ -274,7 +275,7 @@ module _ (code : CodeShape) (sound : IsSoundCode code) (own : HaveOwnNames code)
     pub host_top : top_token host.entries ≡ Some (tagged told_tag top.token)
     pub real_top : top_token real.entries ≡ Some (tagged (real_tag key) top.token)
 
-  pub has_tops : (key : List ℕ) (host real : HostShape) → (follows : Follows key host real) →
+  pub has_tops : (key : List ℕ) (host real : HostState) → (follows : Follows key host real) →
       HasTop follows.both.entries → HasTops key host real follows.both
   has_tops key host real follows (top, below, stack, lasting) =
       let (ignored, halted, told) = follows.told in
@@ -284,15 +285,16 @@ module _ (code : CodeShape) (sound : IsSoundCode code) (own : HaveOwnNames code)
       ap (filter is_lasting) stack ∙ rw lasting refl in
       let (under, here, lasting_too) =
       first_lasting host.entries (tagged_entry told_tag top) (map (tagged_entry told_tag) (filter is_lasting below))
-      follows.stack.low (ap (λ (h : HostShape). h.entries) told ∙ ap (map (tagged_entry told_tag)) lasts) in
+      follows.stack.low (ap (λ (h : HostState). h.entries) told ∙ ap (map (tagged_entry told_tag)) lasts) in
       let there : real.entries ≡ tagged_entry (real_tag key) top ∷ map (tagged_entry (real_tag key)) below =
-      ap (λ (h : HostShape). h.entries) casts ∙ ap (map (tagged_entry (real_tag key))) stack in
+      ap (λ (h : HostState). h.entries) casts ∙ ap (map (tagged_entry (real_tag key))) stack in
       let host_entry : IsEntryOf code host.me top.entry =
-      (All-head (EntryFits code host.me) (tagged_entry told_tag top) under
-      (subst (All (EntryFits code host.me)) here follows.fits.entries)).entry in
+      (All-head (StackEntryFits code host.me) (tagged_entry told_tag top) under
+      (subst (All (StackEntryFits code host.me)) here follows.fits.entries)).entry in
       let real_entry : IsEntryOf code real.me top.entry =
-      (All-head (EntryFits code real.me) (tagged_entry (real_tag key) top) (map (tagged_entry (real_tag key)) below)
-      (subst (All (EntryFits code real.me)) there follows.fits_real.entries)).entry in
+      (All-head (StackEntryFits code real.me) (tagged_entry (real_tag key) top)
+      (map (tagged_entry (real_tag key)) below)
+      (subst (All (StackEntryFits code real.me)) there follows.fits_real.entries)).entry in
       let both_entry : IsEntryOf code both.me top.entry =
       subst (λ me. IsEntryOf code me top.entry) (me_of_both key host real follows) real_entry in
       record {
@@ -308,7 +310,7 @@ module _ (code : CodeShape) (sound : IsSoundCode code) (own : HaveOwnNames code)
       }
 
   -- the tokens that both present are one token of the third host
-  pub host_presents : (key : List ℕ) (host real : HostShape) (step another : Step) → (follows : Follows key host real) →
+  pub host_presents : (key : List ℕ) (host real : HostState) (step another : Step) → (follows : Follows key host real) →
       bare_step step ≡ bare_step another →
       presented host (made_of step)
       ≡ option_map (tagged told_tag) (presented follows.both (tagged_step marked another))
@@ -318,7 +320,7 @@ module _ (code : CodeShape) (sound : IsSoundCode code) (own : HaveOwnNames code)
       ∙ ap (λ h. presented h (tagged_step told_tag (tagged_step marked another))) told
       ∙ presented_cast told_tag told_key ignored halted (without_halt follows.both) (tagged_step marked another)
 
-  pub real_presents : (key : List ℕ) (host real : HostShape) (another : Step) → (follows : Follows key host real) →
+  pub real_presents : (key : List ℕ) (host real : HostState) (another : Step) → (follows : Follows key host real) →
       presented real another
       ≡ option_map (tagged (real_tag key)) (presented follows.both (tagged_step marked another))
   real_presents key host real another follows =
@@ -328,7 +330,7 @@ module _ (code : CodeShape) (sound : IsSoundCode code) (own : HaveOwnNames code)
       ∙ presented_cast (real_tag key) key ignored halted follows.both (tagged_step marked another)
 
   -- the same truth value, or the step was open and chosen
-  pub chosen_or_same : (key : List ℕ) (host real : HostShape) (step another : Step) (chosen : Bool → Type 0)
+  pub chosen_or_same : (key : List ℕ) (host real : HostState) (step another : Step) (chosen : Bool → Type 0)
       (one other : Bool) → (follows : Follows key host real) → bare_step step ≡ bare_step another →
       HasTops key host real follows.both →
       (chosen one ⊎ ((¬ MayBeTop host (presented host (made_of step)))
@@ -344,10 +346,10 @@ module _ (code : CodeShape) (sound : IsSoundCode code) (own : HaveOwnNames code)
       (subst (λ found. IsTrue one ↔ IsTop host found) first check)
       (subst (λ found. IsTrue other ↔ IsTop real found) second beside))
 
-  pub off_meets : (key : List ℕ) (host real : HostShape) (step another : Step) (chosen : Bool → Type 0)
-      (outcome beside : Outcome) → (follows : Follows key host real) → MayStep code host step →
-      MayStep code real another → bare_step step ≡ bare_step another → IsChosenStep chosen code host step outcome →
-      IsStep code real another beside → takes_off code host (made_of step) ≡ true →
+  pub off_meets : (key : List ℕ) (host real : HostState) (step another : Step) (chosen : Bool → Type 0)
+      (outcome beside : Outcome) → (follows : Follows key host real) → MayMakeStep code host step →
+      MayMakeStep code real another → bare_step step ≡ bare_step another → IsChosenStep chosen code host step outcome →
+      IsStepOfHost code real another beside → takes_off code host (made_of step) ≡ true →
       takes_off code real another ≡ true → takes_off code follows.both (tagged_step marked another) ≡ true →
       RestsFor real another → RestsFor follows.both (tagged_step marked another) →
       Meets key chosen outcome beside
@@ -355,7 +357,7 @@ module _ (code : CodeShape) (sound : IsSoundCode code) (own : HaveOwnNames code)
       rest_both =
       by (top_or_none follows.both.entries follows.stack_both.low)
     where
-      both : HostShape
+      both : HostState
       both = follows.both
 
       move : Step
@@ -457,7 +459,7 @@ module _ (code : CodeShape) (sound : IsSoundCode code) (own : HaveOwnNames code)
 
   -- ---- one step of both
 
-  pub real_rests : (real : HostShape) (another : Step) → MayStep code real another → RestsFor real another
+  pub real_rests : (real : HostState) (another : Step) → MayMakeStep code real another → RestsFor real another
   real_rests real turns may = tt
   real_rests real (takes from letter) may = may.rest
 
@@ -466,17 +468,17 @@ module _ (code : CodeShape) (sound : IsSoundCode code) (own : HaveOwnNames code)
   none_before tags None none = refl
   none_before tags (Some thread) none = absurd cc
 
-  pub both_rests : (key : List ℕ) (host real : HostShape) (another : Step) → (follows : Follows key host real) →
-      MayStep code real another → RestsFor follows.both (tagged_step marked another)
+  pub both_rests : (key : List ℕ) (host real : HostState) (another : Step) → (follows : Follows key host real) →
+      MayMakeStep code real another → RestsFor follows.both (tagged_step marked another)
   both_rests key host real turns follows may = tt
   both_rests key host real (takes from letter) follows may =
       let (ignored, halted, casts) = follows.casts in
-      none_before (real_tag key) follows.both.running (sym (ap (λ (h : HostShape). h.running) casts) ∙ may.rest)
+      none_before (real_tag key) follows.both.running (sym (ap (λ (h : HostState). h.running) casts) ∙ may.rest)
 
-  pub meets : (key : List ℕ) (host real : HostShape) (step another : Step) (chosen : Bool → Type 0)
-      (outcome beside : Outcome) → Follows key host real → MayStep code host step → MayStep code real another →
+  pub meets : (key : List ℕ) (host real : HostState) (step another : Step) (chosen : Bool → Type 0)
+      (outcome beside : Outcome) → Follows key host real → MayMakeStep code host step → MayMakeStep code real another →
       bare_step step ≡ bare_step another → IsChosenStep chosen code host step outcome →
-      IsStep code real another beside → Meets key chosen outcome beside
+      IsStepOfHost code real another beside → Meets key chosen outcome beside
   meets key host real step another chosen outcome beside follows may also alike is made =
       by (takes_off code real another) refl
     where

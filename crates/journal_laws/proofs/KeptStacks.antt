@@ -23,7 +23,7 @@ use Rattle.host_code.specs.Riders.{Rider}
 use Rattle.host_code.specs.Thread.{ThreadShape}
 use Rattle.host_code.specs.Thread.Awaited.{value_of_field, acknowledgement, token_of_entry}
 use Rattle.host_code.specs.Code.{CodeShape, CodeFieldShape, entry_at, field_at, halt, instruction_at}
-use Rattle.host_core.specs.Host.{HostShape, after_entering, after_pop, after_push, new_token}
+use Rattle.host_core.specs.Host.{HostState, after_entering, after_pop, after_push, new_token}
 use Rattle.host_core.specs.Host.{with_running}
 use Rattle.host_core.specs.Host.{with_variable_set, with_variables_set, value_in_thread}
 use Rattle.host_core.specs.Taking.{after_passing, after_answer, place_of_awaiting}
@@ -46,7 +46,7 @@ AreLow [] = ⊤
 AreLow (top ∷ []) = ⊤
 AreLow (top ∷ next ∷ below) = (is_lasting top ≡ true) × AreLow (next ∷ below)
 
-pub record HasStack (key : List ℕ) (host : HostShape) : Type 0 where
+pub record HasStack (key : List ℕ) (host : HostState) : Type 0 where
   pub key_is : host.key ≡ key
   pub made : AreMade key host.entries
   pub low : AreLow host.entries
@@ -81,7 +81,7 @@ low_less : (top : StackEntry) (entries : List StackEntry) → AreLow (top ∷ en
 low_less top [] low = tt
 low_less top (next ∷ below) low = low.1
 
-kept : (key : List ℕ) (host after : HostShape) → after.key ≡ host.key → after.entries ≡ host.entries →
+kept : (key : List ℕ) (host after : HostState) → after.key ≡ host.key → after.entries ≡ host.entries →
     HasStack key host → HasStack key after
 kept key host after same stack has = record {
   key_is = subst (λ k. k ≡ key) (sym same) has.key_is;
@@ -89,7 +89,7 @@ kept key host after same stack has = record {
   low = subst AreLow (sym stack) has.low;
 }
 
-pushed : (key : List ℕ) (host : HostShape) (entry : EntryId) (frame : FrameId) (token : Token) → entry ≢ halt →
+pushed : (key : List ℕ) (host : HostState) (entry : EntryId) (frame : FrameId) (token : Token) → entry ≢ halt →
     HasStack key host → HasStack key (after_push host entry frame token)
 pushed key host entry frame token other has = record {
   key_is = has.key_is;
@@ -99,17 +99,17 @@ pushed key host entry frame token other has = record {
       (rw (lasts entry other) refl) has.low;
 }
 
-entered : (key : List ℕ) (host : HostShape) (found : Option Entry) (frame : FrameId) (token : Token) →
+entered : (key : List ℕ) (host : HostState) (found : Option Entry) (frame : FrameId) (token : Token) →
     HasStack key host → HasStack key (after_entering host found frame token)
 entered key host None frame token has = kept key host _ refl refl has
 entered key host (Some entry) frame token has = kept key host _ refl refl has
 
-popped : (code : CodeShape) (key : List ℕ) (host : HostShape) (entries : List StackEntry) → AreMade key entries →
+popped : (code : CodeShape) (key : List ℕ) (host : HostState) (entries : List StackEntry) → AreMade key entries →
     AreLow entries → HasStack key host → HasStack key (after_pop code host entries)
 popped code key host [] made low has = has
 popped code key host (top ∷ below) made low has = by (top.entry.0 == halt.0) refl
   where
-    left : HostShape
+    left : HostState
     left = record host { entries = below }
 
     keeps : HasStack key left
@@ -121,7 +121,7 @@ popped code key host (top ∷ below) made low has = by (top.entry.0 == halt.0) r
 
 -- ---- instructions
 
-read_kept : (key : List ℕ) (host : HostShape) (thread : ThreadShape) (field : FieldId) (index : List Node)
+read_kept : (key : List ℕ) (host : HostState) (thread : ThreadShape) (field : FieldId) (index : List Node)
     (there : Option CodeFieldShape) → HasStack key host → HasStack key (after_read host thread field index there).state
 read_kept key host thread field index None has = kept key host _ refl refl has
 read_kept key host thread field index (Some there) has = by (there.host.0 == host.me.0) refl
@@ -131,7 +131,7 @@ read_kept key host thread field index (Some there) has = by (there.host.0 == hos
     by true is = rw is (kept key host _ refl refl has)
     by false is = rw is (kept key host _ refl refl has)
 
-put_kept : (key : List ℕ) (host : HostShape) (thread : ThreadShape) (field : FieldId) (index value : List Node)
+put_kept : (key : List ℕ) (host : HostState) (thread : ThreadShape) (field : FieldId) (index value : List Node)
     (there : Option CodeFieldShape) → HasStack key host →
     HasStack key (after_put host thread field index value there).state
 put_kept key host thread field index value None has = kept key host _ refl refl has
@@ -142,7 +142,7 @@ put_kept key host thread field index value (Some there) has = by (there.host.0 =
     by true is = rw is (kept key host _ refl refl has)
     by false is = rw is (kept key host _ refl refl has)
 
-branch_kept : (key : List ℕ) (host : HostShape) (thread : ThreadShape) (guard : List Node) (target : ℕ) →
+branch_kept : (key : List ℕ) (host : HostState) (thread : ThreadShape) (guard : List Node) (target : ℕ) →
     HasStack key host → HasStack key (after_branch host thread guard target).state
 branch_kept key host thread guard target has = by (int_eq (value_in_thread host thread guard) (pos 0)) refl
   where
@@ -151,34 +151,34 @@ branch_kept key host thread guard target has = by (int_eq (value_in_thread host 
     by true is = rw is (kept key host _ refl refl has)
     by false is = rw is (kept key host _ refl refl has)
 
-push_kept : (key : List ℕ) (host : HostShape) (thread : ThreadShape) (entry : EntryId) (held : Option Token) →
+push_kept : (key : List ℕ) (host : HostState) (thread : ThreadShape) (entry : EntryId) (held : Option Token) →
     entry ≢ halt → HasStack key host → HasStack key (after_own_push host thread entry held).state
 push_kept key host thread entry None other has = kept key host _ refl refl has
 push_kept key host thread entry (Some held) other has =
     kept key (after_push host entry thread.frame held) _ refl refl (pushed key host entry thread.frame held other has)
 
-ask_kept : (key : List ℕ) (host : HostShape) (thread : ThreadShape) (entry : EntryId) (on : HostId)
+ask_kept : (key : List ℕ) (host : HostState) (thread : ThreadShape) (entry : EntryId) (on : HostId)
     (held : Option Token) → HasStack key host → HasStack key (after_ask host thread entry on held).state
 ask_kept key host thread entry on None has = kept key host _ refl refl has
 ask_kept key host thread entry on (Some held) has = kept key host _ refl refl has
 
-go_kept : (key : List ℕ) (host : HostShape) (thread : ThreadShape) (frame : FrameId) (entry : EntryId) (on : HostId)
+go_kept : (key : List ℕ) (host : HostState) (thread : ThreadShape) (frame : FrameId) (entry : EntryId) (on : HostId)
     (held : Option Token) → HasStack key host → HasStack key (after_go host thread frame entry on held).state
 go_kept key host thread frame entry on None has = kept key host _ refl refl has
 go_kept key host thread frame entry on (Some held) has = kept key host _ refl refl has
 
-go_with_kept : (key : List ℕ) (host : HostShape) (thread : ThreadShape) (frame : FrameId) (entry : EntryId)
+go_with_kept : (key : List ℕ) (host : HostState) (thread : ThreadShape) (frame : FrameId) (entry : EntryId)
     (on : HostId) (variables : List VarId) (held : Option Token) → HasStack key host →
     HasStack key (after_go_with host thread frame entry on variables held).state
 go_with_kept key host thread frame entry on variables None has = kept key host _ refl refl has
 go_with_kept key host thread frame entry on variables (Some held) has = kept key host _ refl refl has
 
-own_call_kept : (key : List ℕ) (host : HostShape) (thread : ThreadShape) (there : Option Entry) →
+own_call_kept : (key : List ℕ) (host : HostState) (thread : ThreadShape) (there : Option Entry) →
     HasStack key host → HasStack key (after_own_call host thread there).state
 own_call_kept key host thread None has = kept key host _ refl refl has
 own_call_kept key host thread (Some there) has = kept key host _ refl refl has
 
-call_kept : (code : CodeShape) (key : List ℕ) (host : HostShape) (thread : ThreadShape) (entry : EntryId)
+call_kept : (code : CodeShape) (key : List ℕ) (host : HostState) (thread : ThreadShape) (entry : EntryId)
     (on : HostId) → HasStack key host → HasStack key (after_call code host thread entry on).state
 call_kept code key host thread entry on has = by (on.0 == host.me.0) refl
   where
@@ -186,7 +186,7 @@ call_kept code key host thread entry on has = by (on.0 == host.me.0) refl
     by true is = rw is (own_call_kept key host thread (entry_at code entry) has)
     by false is = rw is (go_kept key host thread thread.new_frame entry on thread.held has)
 
-return_kept : (key : List ℕ) (host : HostShape) (thread : ThreadShape) (variable : VarId) (value : List Node)
+return_kept : (key : List ℕ) (host : HostState) (thread : ThreadShape) (variable : VarId) (value : List Node)
     (held : Option Token) (passes : Bool) → HasStack key host →
     HasStack key (after_return host thread variable value held passes).state
 return_kept key host thread variable value None passes has = kept key host _ refl refl has
@@ -198,7 +198,7 @@ return_kept key host thread variable value (Some held) passes has = by (held.hos
     by false is true = rw is (kept key host _ refl refl has)
     by false is false = rw is (kept key host _ refl refl has)
 
-back_kept : (code : CodeShape) (key : List ℕ) (host : HostShape) (thread : ThreadShape) (held : Option Token)
+back_kept : (code : CodeShape) (key : List ℕ) (host : HostState) (thread : ThreadShape) (held : Option Token)
     (passes : Bool) → HasStack key host → HasStack key (after_back code host thread held passes).state
 back_kept code key host thread None passes has = kept key host _ refl refl has
 back_kept code key host thread (Some held) passes has = by (held.host.0 == host.me.0) refl passes
@@ -212,7 +212,7 @@ back_kept code key host thread (Some held) passes has = by (held.host.0 == host.
     by true is false = rw is (kept key host _ refl refl has)
     by false is may = rw is (kept key host _ refl refl has)
 
-runs_kept : (code : CodeShape) (key : List ℕ) (host : HostShape) (thread : ThreadShape) (operation : Op)
+runs_kept : (code : CodeShape) (key : List ℕ) (host : HostState) (thread : ThreadShape) (operation : Op)
     (passes : Bool) → PushesOther operation → HasStack key host →
     HasStack key (after_operation code host thread operation passes).state
 runs_kept code key host thread (op.Read field index) passes other has =
@@ -241,18 +241,18 @@ runs_kept code key host thread (op.Branch guard target) passes other has =
 
 -- ---- messages
 
-riders_kept : (key : List ℕ) (host : HostShape) (frame : FrameId) (riders : List Rider) → HasStack key host →
+riders_kept : (key : List ℕ) (host : HostState) (frame : FrameId) (riders : List Rider) → HasStack key host →
     HasStack key (with_variables_set host frame riders)
 riders_kept key host frame [] has = has
 riders_kept key host frame (rider ∷ riders) has =
     riders_kept key (with_variable_set host frame rider.0 rider.1) frame riders (kept key host _ refl refl has)
 
-answered_kept : (key : List ℕ) (host : HostShape) (place : Option ℕ) (answered : ThreadShape → ThreadShape) →
+answered_kept : (key : List ℕ) (host : HostState) (place : Option ℕ) (answered : ThreadShape → ThreadShape) →
     HasStack key host → HasStack key (after_answer host place answered)
 answered_kept key host None answered has = has
 answered_kept key host (Some place) answered has = kept key host _ refl refl has
 
-passing_kept : (code : CodeShape) (key : List ℕ) (host : HostShape) (from : HostId) (letter : Message) →
+passing_kept : (code : CodeShape) (key : List ℕ) (host : HostState) (from : HostId) (letter : Message) →
     SyncsOther letter → HasStack key host → HasStack key (after_passing code host from letter).state
 passing_kept code key host from (message.Get request field index) other has = has
 passing_kept code key host from (message.Set request field index value) other has = kept key host _ refl refl has
@@ -285,25 +285,25 @@ ThreadPushes code me None = ⊤
 ThreadPushes code me (Some thread) = FoundPushes (instruction_at code me thread.at)
 
 -- the step pushes no entry that ends the program
-abbrev pub StepPushes : CodeShape → HostShape → Step → Bool → Type 0
+abbrev pub StepPushes : CodeShape → HostState → Step → Bool → Type 0
 StepPushes code host turns passes = ThreadPushes code host.me host.running
 StepPushes code host (takes from letter) passes = passes ≡ true → SyncsOther letter
 
-running_kept : (code : CodeShape) (key : List ℕ) (host : HostShape) (thread : ThreadShape) (found : Option Instr)
+running_kept : (code : CodeShape) (key : List ℕ) (host : HostState) (thread : ThreadShape) (found : Option Instr)
     (passes : Bool) → FoundPushes found → HasStack key host →
     HasStack key (after_running code host thread found passes).state
 running_kept code key host thread None passes other has = kept key host _ refl refl has
 running_kept code key host thread (Some instruction) passes other has =
     runs_kept code key host thread instruction.op passes other has
 
-turn_kept : (code : CodeShape) (key : List ℕ) (host : HostShape) (running : Option ThreadShape) (passes : Bool) →
+turn_kept : (code : CodeShape) (key : List ℕ) (host : HostState) (running : Option ThreadShape) (passes : Bool) →
     ThreadPushes code host.me running → HasStack key host → HasStack key (after_turn code host running passes).state
 turn_kept code key host None passes other has = has
 turn_kept code key host (Some thread) passes other has =
     running_kept code key (with_running host None) thread (instruction_at code host.me thread.at) passes other
     (kept key host _ refl refl has)
 
-pub stack_kept : (code : CodeShape) (key : List ℕ) (host : HostShape) (step : Step) (passes : Bool) →
+pub stack_kept : (code : CodeShape) (key : List ℕ) (host : HostState) (step : Step) (passes : Bool) →
     StepPushes code host step passes → HasStack key host → HasStack key (told_step code host step passes).state
 stack_kept code key host turns passes other has = turn_kept code key host host.running passes other has
 stack_kept code key host (takes from letter) true other has = passing_kept code key host from letter (other refl) has

@@ -12,12 +12,12 @@ use Rattle.host_code.specs.declared.message.Message.TheVariants as message
 use Rattle.host_code.specs.Code.{CodeShape, instruction_at}
 use Rattle.host_code.specs.MessageText.{host_text, message_text}
 use Rattle.host_code.specs.Thread.{ThreadShape}
-use Rattle.host_core.specs.Host.{HostShape, Outcome, with_running}
+use Rattle.host_core.specs.Host.{HostState, Outcome, with_running}
 use Rattle.host_core.specs.Told.{told_key, with_wrong_tags}
 use Rattle.host_core.specs.Turn.{IsRunning, IsTurnOf}
 use Rattle.event_text.specs.Lines.{words}
 use Rattle.journal_laws.specs.Plays.{step_words}
-use Rattle.journal_laws.specs.Steps.{Step, turns, takes, IsStep, after_running, after_turn, bare_step, told_step}
+use Rattle.journal_laws.specs.Steps.{Step, turns, takes, IsStepOfHost, after_running, after_turn, bare_step, told_step}
 use Rattle.journal_laws.proofs.BareTakings.{printed_bare}
 use Rattle.journal_laws.proofs.CountedNames.{Rests, count, hits, letter_hits}
 use Rattle.journal_laws.proofs.CountedNames.{step_counts, step_hits}
@@ -42,8 +42,8 @@ none_some one is = cc
 
 -- ---- a step by its truth value
 
-pub step_is : (code : CodeShape) (host : HostShape) (step : Step) (outcome : Outcome) →
-    IsStepBy code host step outcome → IsStep code host step outcome
+pub step_is : (code : CodeShape) (host : HostState) (step : Step) (outcome : Outcome) →
+    IsStepBy code host step outcome → IsStepOfHost code host step outcome
 step_is code host (takes from letter) outcome (passes, is, check) = (passes, check, is)
 step_is code host turns outcome (passes, is, check) = by host.running is check
   where
@@ -112,7 +112,7 @@ made_syncs (message.Ack request) other = tt
 made_syncs (message.Token request token) other = tt
 
 -- how often names stand on the third host
-pub record Names (next : ℕ) (host : HostShape) : Type 0 where
+pub record Names (next : ℕ) (host : HostState) : Type 0 where
   pub single : (name : ℕ) → count name host ≤ 1
   pub zero_none : count 0 host ≡ 0
   pub fresh : (name : ℕ) → next ≤ name → count name host ≡ 0
@@ -172,7 +172,7 @@ pub step_named : (name next : ℕ) (step : Step) →
 step_named name next turns = inl refl
 step_named name next (takes from letter) = letter_named name next letter
 
-pub names_on : (code : CodeShape) (next : ℕ) (host : HostShape) (step : Step) (passes : Bool) → Names next host →
+pub names_on : (code : CodeShape) (next : ℕ) (host : HostState) (step : Step) (passes : Bool) → Names next host →
     Rests host (move_of next step) → host.key ≡ told_key → StepPushes code host (move_of next step) passes →
     Names (suc next) (told_step code host (move_of next step) passes).state
 names_on code next host step passes names rest key other = record {

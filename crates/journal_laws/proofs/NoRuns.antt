@@ -13,13 +13,13 @@ use Rattle.host_code.specs.Code.{CodeShape, entry_at, halt}
 use Rattle.host_code.specs.Sound.{IsHost, IsOther, IsSoundCode}
 use Rattle.host_code.specs.Thread.{ThreadShape}
 use Rattle.host_core.specs.Fits.{StateFits}
-use Rattle.host_core.specs.Host.{HostShape, Outcome, after_entering, after_push, new_token, thread_at}
+use Rattle.host_core.specs.Host.{HostState, Outcome, after_entering, after_push, new_token, thread_at}
 use Rattle.host_core.specs.Start.{host_at_start, idle_host, last_token, main_frame}
 use Rattle.host_core.specs.Told.{told_key}
 use Rattle.event_text.specs.Words.{Word}
 use Rattle.journal_laws.specs.Bare.{bare_thread}
 use Rattle.event_text.specs.JournalText.{IsSendLine, sent_words}
-use Rattle.journal_laws.specs.Plays.{AreNotedOf, HaveOwnNames, IsJournalOf, MayStep, Plays, step_words}
+use Rattle.journal_laws.specs.Plays.{AreNotedOf, HaveOwnNames, IsJournalOf, MayMakeStep, Plays, step_words}
 use Rattle.journal_laws.specs.Steps.{Step, turns, takes}
 use Rattle.journal_laws.specs.ToldPlays.{ByNext, HasNoStep, IsBarred, IsChosenStep, IsPlayedBefore, IsToldStep}
 use Rattle.journal_laws.specs.ToldPlays.{PlaysLast, ToldPlays}
@@ -35,7 +35,7 @@ use Rattle.journal_laws.proofs.WithoutHalt.{without_halt}
 use Rattle.journal_laws.proofs.FollowedSteps as followed
 
 module _ (code : CodeShape) (sound : IsSoundCode code) (own : HaveOwnNames code) where
-  abbrev Follows : List ℕ → HostShape → HostShape → Type 0
+  abbrev Follows : List ℕ → HostState → HostState → Type 0
   Follows key host real = followed.Follows code sound own key host real
 
   abbrev Parted : (Bool → Type 0) → Outcome → Outcome → Type 0
@@ -43,13 +43,13 @@ module _ (code : CodeShape) (sound : IsSoundCode code) (own : HaveOwnNames code)
 
   -- ---- the start
 
-  abbrev rooted : List (List ℤ) → List ℕ → HostId → Option Entry → HostShape
+  abbrev rooted : List (List ℤ) → List ℕ → HostId → Option Entry → HostState
   rooted values key me found =
       after_entering (after_push (idle_host code values key me) halt main_frame (last_token me)) found main_frame
       (new_token (idle_host code values key me) halt main_frame)
 
   -- the third host, where the token that is kept with the entry that ends the program is marked
-  abbrev both_rooted : List (List ℤ) → HostId → Option Entry → HostShape
+  abbrev both_rooted : List (List ℤ) → HostId → Option Entry → HostState
   both_rooted values me found =
       after_entering
       (after_push (idle_host code values told_key me) halt main_frame (tagged marked (last_token me))) found main_frame
@@ -86,7 +86,7 @@ module _ (code : CodeShape) (sound : IsSoundCode code) (own : HaveOwnNames code)
       made_told : token ≡ tagged told_tag token
       made_told = ap (λ tag. record token { tag = tag }) (sym (told_has me main_frame halt serial))
 
-      goes : Option Entry → Token → Token → HostShape
+      goes : Option Entry → Token → Token → HostState
       goes found one kept =
           let idle = idle_host code values key me in
           after_entering (record idle {
@@ -148,7 +148,7 @@ module _ (code : CodeShape) (sound : IsSoundCode code) (own : HaveOwnNames code)
 
   -- ---- whole plays
 
-  told_chosen : (host : HostShape) (step : Step) (outcome : Outcome) → IsToldStep code host step outcome →
+  told_chosen : (host : HostState) (step : Step) (outcome : Outcome) → IsToldStep code host step outcome →
       IsChosenStep (λ passes. ⊤) code host step outcome
   told_chosen host turns outcome (inl (passes, unsure, is)) = inl (passes, tt, unsure, is)
   told_chosen host turns outcome (inr closed) = inr closed
@@ -185,13 +185,13 @@ module _ (code : CodeShape) (sound : IsSoundCode code) (own : HaveOwnNames code)
       (ap (λ (front : List (List Word)). front ++ after) same ∙ is ∙ append_assoc sent later rest)
 
   -- the state of the real host behind the same lines, and what is left of its run
-  record GoesOn (key : List ℕ) (last : HostShape) (end : HostShape) (left : List (List Word)) : Type 0 where
-    real : HostShape
+  record GoesOn (key : List ℕ) (last : HostState) (end : HostState) (left : List (List Word)) : Type 0 where
+    real : HostState
     others : List Step
     plays : Plays code real others end left
     stands : Follows key last real ⊎ ArePart last real
 
-  parted_stops : (host real : HostShape) (step : Step) (steps others : List Step) (last end : HostShape)
+  parted_stops : (host real : HostState) (step : Step) (steps others : List Step) (last end : HostState)
       (lines more rest : List (List Word)) → ArePart host real → ToldPlays code host (step ∷ steps) last lines →
       Plays code real others end more → more ≡ lines ++ rest → ⊥
   parted_stops host real step steps [] last end lines more rest part (outcome, later, may, is, play, whole) go left =
@@ -202,7 +202,7 @@ module _ (code : CodeShape) (sound : IsSoundCode code) (own : HaveOwnNames code)
       (sym (ap (first_or []) (sym all ∙ left ∙ ap (λ (front : List (List Word)). front ++ rest) whole)))
 
   -- hosts that part make no step more
-  apart : (key : List ℕ) (steps others : List Step) (host real last end : HostShape)
+  apart : (key : List ℕ) (steps others : List Step) (host real last end : HostState)
       (lines more rest : List (List Word)) → ArePart host real → ToldPlays code host steps last lines →
       Plays code real others end more → more ≡ lines ++ rest → GoesOn key last end rest
   apart key [] others host real last end lines more rest part plays go left = record {
@@ -214,7 +214,7 @@ module _ (code : CodeShape) (sound : IsSoundCode code) (own : HaveOwnNames code)
   apart key (step ∷ steps) others host real last end lines more rest part plays go left =
       absurd (parted_stops host real step steps others last end lines more rest part plays go left)
 
-  along : (key : List ℕ) (steps others : List Step) (host real last end : HostShape)
+  along : (key : List ℕ) (steps others : List Step) (host real last end : HostState)
       (lines more rest : List (List Word)) → Follows key host real → ToldPlays code host steps last lines →
       Plays code real others end more → more ≡ lines ++ rest → GoesOn key last end rest
   along key [] others host real last end lines more rest follows plays go left =
@@ -249,15 +249,15 @@ module _ (code : CodeShape) (sound : IsSoundCode code) (own : HaveOwnNames code)
   -- ---- no run
 
   -- where no thread of the one runs, none of the other does
-  rest_told : (host real : HostShape) → told_of host ≡ told_of real → real.running ≡ None → host.running ≡ None
+  rest_told : (host real : HostState) → told_of host ≡ told_of real → real.running ≡ None → host.running ≡ None
   rest_told host real same none =
-      by host.running (ap (λ (h : HostShape). h.running) same ∙ ap (option_map bare_thread) none)
+      by host.running (ap (λ (h : HostState). h.running) same ∙ ap (option_map bare_thread) none)
     where
       by : (running : Option ThreadShape) → option_map bare_thread running ≡ None → running ≡ None
       by None is = refl
       by (Some thread) is = absurd cc
 
-  runs_told : (host real : HostShape) → told_of host ≡ told_of real → IsSome real.running → IsSome host.running
+  runs_told : (host real : HostState) → told_of host ≡ told_of real → IsSome real.running → IsSome host.running
   runs_told host real same runs = by host.running refl
     where
       by : (running : Option ThreadShape) → host.running ≡ running → IsSome running
@@ -265,21 +265,21 @@ module _ (code : CodeShape) (sound : IsSoundCode code) (own : HaveOwnNames code)
       by None is = absurd (fields.none_runs code sound own real runs (rest_told real host (sym same) is))
 
   -- the played host may make the step that the real one makes
-  may_too : (key : List ℕ) (host real : HostShape) (step : Step) → Follows key host real → MayStep code real step →
-      MayStep code host step
+  may_too : (key : List ℕ) (host real : HostState) (step : Step) → Follows key host real → MayMakeStep code real step →
+      MayMakeStep code host step
   may_too key host real turns follows may =
       runs_told host real (followed.same_told_of code sound own key host real follows) may
   may_too key host real (takes from letter) follows may =
       let same = followed.same_told_of code sound own key host real follows in
       record {
         rest = rest_told host real same may.rest;
-        other = subst (λ me. IsOther code me from) (sym (ap (λ (h : HostShape). h.me) same)) may.other;
+        other = subst (λ me. IsOther code me from) (sym (ap (λ (h : HostState). h.me) same)) may.other;
         fits = may.fits;
         real = may.real;
       }
 
   -- a host that makes no step of the line stands for a real one which goes on as it did
-  no_step : (key : List ℕ) (host real : HostShape) (others : List Step) (end : HostShape) (line : List Word)
+  no_step : (key : List ℕ) (host real : HostState) (others : List Step) (end : HostState) (line : List Word)
       (more behind : List (List Word)) → Follows key host real → HasNoStep code host line →
       Plays code real others end more → more ≡ line ∷ behind → ⊥
   no_step key host real [] end line more behind follows none go is = none_left line behind more go.1 is
@@ -288,14 +288,14 @@ module _ (code : CodeShape) (sound : IsSoundCode code) (own : HaveOwnNames code)
       none another (may_too key host real another follows also) (ap (first_or []) (sym is ∙ all))
 
   -- nor does one go on from which it parted as the line told
-  no_parting : (outcome beside : Outcome) (others : List Step) (end : HostShape) (line : List Word)
+  no_parting : (outcome beside : Outcome) (others : List Step) (end : HostState) (line : List Word)
       (more behind : List (List Word)) → Parted (ByNext (line ∷ [])) outcome beside →
       Plays code beside.state others end more → more ≡ line ∷ behind → ⊥
   no_parting outcome beside [] end line more behind parted go is = none_left line behind more go.1 is
   no_parting outcome beside (another ∷ others) end line more behind parted (third, after, also, made, go, all) is =
       by another also (ap (first_or []) (sym is ∙ all)) parted.part
     where
-      by : (step : Step) → MayStep code beside.state step → line ≡ step_words code step →
+      by : (step : Step) → MayMakeStep code beside.state step → line ≡ step_words code step →
           (((parted.passes ≡ true) × IsSome outcome.state.running × (beside.state.running ≡ None))
           ⊎ ((parted.passes ≡ false) × (outcome.state.running ≡ None) × IsSome beside.state.running)) → ⊥
       by turns may words (inl (passes, runs, rests)) = fields.none_runs code sound own beside.state may rests
@@ -305,7 +305,7 @@ module _ (code : CodeShape) (sound : IsSoundCode code) (own : HaveOwnNames code)
       by (takes from letter) may words (inr (passes, rests, runs)) =
           fields.none_runs code sound own beside.state runs may.rest
 
-  last_makes : (key : List ℕ) (start real last end : HostShape) (others : List Step) (front : List (List Word))
+  last_makes : (key : List ℕ) (start real last end : HostState) (others : List Step) (front : List (List Word))
       (line : List Word) (more behind : List (List Word)) → (played : PlaysLast code start front (line ∷ []) last) →
       Follows key played.before real ⊎ ArePart played.before real → HasNoStep code last line →
       Plays code real others end more →
@@ -338,7 +338,7 @@ module _ (code : CodeShape) (sound : IsSoundCode code) (own : HaveOwnNames code)
             (ap (sent_words code) (parted.silent ∙ sym parted.silent_too)) ∙ tails))
       ]
 
-  no_line_more : (key : List ℕ) (start real last end : HostShape) (others : List Step) (front : List (List Word))
+  no_line_more : (key : List ℕ) (start real last end : HostState) (others : List Step) (front : List (List Word))
       (line : List Word) (more behind : List (List Word)) → Follows key start real →
       IsPlayedBefore code start front (line ∷ []) last → HasNoStep code last line →
       Plays code real others end more → more ≡ front ++ line ∷ behind → ⊥
@@ -375,7 +375,7 @@ module _ (code : CodeShape) (sound : IsSoundCode code) (own : HaveOwnNames code)
   other_sent (Some sent) told (first ∷ front) later after behind said line other same is also =
       (front, ap rest_of is, ap rest_of (ap (λ (words : List (List Word)). words ++ after) same ∙ also))
 
-  unsaid_apart : (steps others : List Step) (host real last end : HostShape)
+  unsaid_apart : (steps others : List Step) (host real last end : HostState)
       (lines more front behind : List (List Word)) (said line : List Word) → ArePart host real →
       ToldPlays code host steps last lines → lines ≡ front ++ said ∷ [] → IsSendLine said →
       Plays code real others end more → more ≡ front ++ line ∷ behind → ⊥
@@ -391,7 +391,7 @@ module _ (code : CodeShape) (sound : IsSoundCode code) (own : HaveOwnNames code)
       fields.no_line code sound own host real step another part may too
       (ap (first_or []) (sym whole ∙ is) ∙ sym (ap (first_or []) (sym all ∙ also)))
 
-  unsaid : (key : List ℕ) (steps others : List Step) (host real last end : HostShape)
+  unsaid : (key : List ℕ) (steps others : List Step) (host real last end : HostState)
       (lines more front behind : List (List Word)) (said line : List Word) → Follows key host real →
       ToldPlays code host steps last lines → lines ≡ front ++ said ∷ [] → IsSendLine said → line ≢ said →
       Plays code real others end more → more ≡ front ++ line ∷ behind → ⊥
@@ -436,7 +436,7 @@ module _ (code : CodeShape) (sound : IsSoundCode code) (own : HaveOwnNames code)
       (sent ∷ [], whole ∙ append_assoc front (line ∷ []) (sent ∷ []))
 
   pub barred : (values : List (List ℤ)) (me : HostId) (key : List ℕ) (front : List (List Word)) (line : List Word)
-      (steps : List Step) (last : HostShape) → IsHost code me →
+      (steps : List Step) (last : HostState) → IsHost code me →
       IsBarred code (host_at_start code values told_key me) front line →
       IsJournalOf code (host_at_start code values key me) (front ++ line ∷ []) steps last → ⊥
   barred values me key front line steps last there (inl (shown, played, none)) (all, plays, noted) =

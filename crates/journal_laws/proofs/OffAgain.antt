@@ -20,13 +20,13 @@ use Rattle.host_code.specs.Code.{CodeShape, entry_at, halt, instruction_at}
 use Rattle.host_code.specs.Sound.{IsHost, IsSoundCode, OperationFits}
 use Rattle.host_code.specs.Thread.{ThreadShape}
 use Rattle.host_core.specs.Fits.{IsEntryOf}
-use Rattle.host_core.specs.Host.{HostShape, Outcome, after_pop, with_running, without_message}
-use Rattle.host_core.specs.Taking.{Passes, after_taking}
+use Rattle.host_core.specs.Host.{HostState, Outcome, after_pop, with_running, without_message}
+use Rattle.host_core.specs.Taking.{PassesCheck, after_taking}
 use Rattle.host_core.specs.Told.{IsOpenInstruction, IsOpenOperation, IsOpenTaking, IsOpenTurnOf, IsUnsure}
 use Rattle.host_core.specs.Told.{after_told_back, settled}
 use Rattle.host_core.specs.Turn.{IsRunning, IsTurnOf, PassesWith, after_back, after_operation}
 use Rattle.journal_laws.specs.Bare.{bare_thread, bare_token}
-use Rattle.journal_laws.specs.Steps.{Step, turns, takes, IsStep, after_running, after_turn, told_step, bare_step}
+use Rattle.journal_laws.specs.Steps.{Step, turns, takes, IsStepOfHost, after_running, after_turn, told_step, bare_step}
 use Rattle.journal_laws.proofs.KeptStacks.{AreLow, FoundPushes, PushesOther, SyncsOther, ThreadPushes}
 use Rattle.journal_laws.proofs.Retagged.{cast, tagged, tagged_message, tagged_step, tagged_thread}
 use Rattle.journal_laws.proofs.SameChecks.{CheckOf, CheckOfInstruction, CheckOfThread, is_back, is_lgoto}
@@ -38,11 +38,12 @@ use Rattle.journal_laws.proofs.WithoutHalt.{without_halt}
 
 -- ---- a step by one truth value, and when it is true
 
-abbrev pub IsStepBy : CodeShape → HostShape → Step → Outcome → Type 0
+abbrev pub IsStepBy : CodeShape → HostState → Step → Outcome → Type 0
 IsStepBy code host step outcome =
     (passes : Bool) × (told_step code host step passes ≡ outcome) × (IsTrue passes ↔ CheckOf code host step)
 
-pub step_by : (code : CodeShape) (host : HostShape) (step : Step) (outcome : Outcome) → IsStep code host step outcome →
+pub step_by : (code : CodeShape) (host : HostState) (step : Step) (outcome : Outcome) →
+    IsStepOfHost code host step outcome →
     IsStepBy code host step outcome
 step_by code host (takes from letter) outcome (passes, check, is) = (passes, is, check)
 step_by code host turns outcome turn = by host.running turn
@@ -61,7 +62,7 @@ step_by code host turns outcome turn = by host.running turn
     by (Some thread) is = runs thread (instruction_at code host.me thread.at) is
 
 -- the check of a step that takes nothing off is told
-pub check_told : (code : CodeShape) (host : HostShape) (step : Step) → takes_off code host step ≡ false →
+pub check_told : (code : CodeShape) (host : HostState) (step : Step) → takes_off code host step ≡ false →
     CheckOf code host step ↔ CheckOf code (told_of host) (bare_step step)
 check_told code host (takes from letter) other = taking_told code host from letter other
 check_told code host turns other = by host.running other
@@ -109,8 +110,8 @@ thread_pushes code me (Some thread) sound there = by (instruction_at code me thr
         operation_pushes code me _ instruction.op
         ((sound.parts me there).instructions thread.at instruction at).operation
 
-pub passing_syncs : (code : CodeShape) (host : HostShape) (from : HostId) (letter : Message) →
-    Passes code host from letter → SyncsOther letter
+pub passing_syncs : (code : CodeShape) (host : HostState) (from : HostId) (letter : Message) →
+    PassesCheck code host from letter → SyncsOther letter
 passing_syncs code host from (message.Get request field index) passes = tt
 passing_syncs code host from (message.Set request field index value) passes = tt
 passing_syncs code host from (message.Forward request frame variable value) passes = tt
@@ -152,7 +153,7 @@ StepSyncs turns passes = ⊤
 StepSyncs (takes from letter) passes = passes ≡ true → SyncsOther letter
 
 -- a step that takes nothing off does not look at the entry that ends the program
-pub step_without : (code : CodeShape) (host : HostShape) (step : Step) (passes : Bool) → IsSoundCode code →
+pub step_without : (code : CodeShape) (host : HostState) (step : Step) (passes : Bool) → IsSoundCode code →
     IsHost code host.me → takes_off code host step ≡ false → StepSyncs step passes →
     told_step code (without_halt host) step passes ≡ halt_left_out (told_step code host step passes)
 step_without code host (takes from letter) passes sound there other syncs =
@@ -176,13 +177,13 @@ step_without code host turns passes sound there other syncs = by host.running ot
 
 -- ---- a step that takes off
 
-back_off : (code : CodeShape) (host : HostShape) (thread : ThreadShape) (held : Option Token) (passes : Bool) →
+back_off : (code : CodeShape) (host : HostState) (thread : ThreadShape) (held : Option Token) (passes : Bool) →
     is_own host.me held ≡ true →
     after_back code (with_running host None) thread held passes ≡ without_message (settled code host passes)
 back_off code host thread None passes own = absurd cc
 back_off code host thread (Some held) passes own = rw own refl
 
-run_off : (code : CodeShape) (host : HostShape) (thread : ThreadShape) (operation : Op) (passes : Bool) →
+run_off : (code : CodeShape) (host : HostState) (thread : ThreadShape) (operation : Op) (passes : Bool) →
     (is_back operation && is_own host.me thread.held) ≡ true →
     after_operation code (with_running host None) thread operation passes
     ≡ without_message (settled code host passes)
@@ -203,7 +204,7 @@ run_off code host thread (op.CallWith entry on riders) passes own = absurd cc
 run_off code host thread (op.Ret variable value) passes own = absurd cc
 run_off code host thread (op.Branch guard target) passes own = absurd cc
 
-turn_off : (code : CodeShape) (host : HostShape) (running : Option ThreadShape) (passes : Bool) →
+turn_off : (code : CodeShape) (host : HostState) (running : Option ThreadShape) (passes : Bool) →
     thread_takes_off code host.me running ≡ true →
     after_turn code host running passes ≡ without_message (settled code host passes)
 turn_off code host None passes own = absurd cc
@@ -214,14 +215,14 @@ turn_off code host (Some thread) passes own = by (instruction_at code host.me th
     by None own = absurd cc
     by (Some instruction) own = run_off code host thread instruction.op passes own
 
-lgoto_off : (code : CodeShape) (host : HostShape) (from : HostId) (token : Token) (passes : Bool) →
+lgoto_off : (code : CodeShape) (host : HostState) (from : HostId) (token : Token) (passes : Bool) →
     host.running ≡ None →
     after_taking code host from (message.Lgoto token) passes ≡ without_message (settled code host passes)
 lgoto_off code host from token true rest = sym (ap without_message (at_rest code host true rest))
 lgoto_off code host from token false rest = sym (ap without_message (at_rest code host false rest))
 
 -- its check is passed over
-pub step_off : (code : CodeShape) (host : HostShape) (step : Step) (passes : Bool) →
+pub step_off : (code : CodeShape) (host : HostState) (step : Step) (passes : Bool) →
     takes_off code host step ≡ true → RestsFor host step →
     told_step code host step passes ≡ without_message (settled code host passes)
 step_off code host turns passes off rest = turn_off code host host.running passes off
@@ -240,7 +241,7 @@ second_true : (one other : Bool) → (one && other) ≡ true → other ≡ true
 second_true true other both = both
 second_true false other both = absurd cc
 
-pub told_off : (code : CodeShape) (host : HostShape) (running : Option ThreadShape) (passes : Bool) →
+pub told_off : (code : CodeShape) (host : HostState) (running : Option ThreadShape) (passes : Bool) →
     thread_takes_off code host.me running ≡ true →
     after_told_back code host running passes ≡ without_message (settled code host passes)
 told_off code host None passes own = absurd cc
@@ -264,7 +265,7 @@ abbrev pub lgoto_of : Message → Option Token
 lgoto_of (message.Lgoto token) = Some token
 lgoto_of _ = None
 
-abbrev pub presented : HostShape → Step → Option Token
+abbrev pub presented : HostState → Step → Option Token
 presented host turns = held_of host.running
 presented host (takes from letter) = lgoto_of letter
 
@@ -286,7 +287,7 @@ lgoto_tagged tags (message.Value request value) = refl
 lgoto_tagged tags (message.Ack request) = refl
 lgoto_tagged tags (message.Token request token) = refl
 
-pub presented_cast : (tags : Token → List ℕ) (key : List ℕ) (ignored : ℕ) (halted : Bool) (host : HostShape)
+pub presented_cast : (tags : Token → List ℕ) (key : List ℕ) (ignored : ℕ) (halted : Bool) (host : HostState)
     (step : Step) →
     presented (cast tags key ignored halted host) (tagged_step tags step)
     ≡ option_map (tagged tags) (presented host step)
@@ -302,13 +303,13 @@ abbrev pub TopMayBe : Option Token → Option Token → Type 0
 TopMayBe top None = ⊥
 TopMayBe top (Some token) = IsUnsure top token
 
-abbrev pub IsTop : HostShape → Option Token → Type 0
+abbrev pub IsTop : HostState → Option Token → Type 0
 IsTop host held = TopIs (top_token host.entries) held
 
-abbrev pub MayBeTop : HostShape → Option Token → Type 0
+abbrev pub MayBeTop : HostState → Option Token → Type 0
 MayBeTop host held = TopMayBe (top_token host.entries) held
 
-pub off_check : (code : CodeShape) (host : HostShape) (step : Step) → takes_off code host step ≡ true →
+pub off_check : (code : CodeShape) (host : HostState) (step : Step) → takes_off code host step ≡ true →
     CheckOf code host step ↔ IsTop host (presented host step)
 off_check code host (takes from (message.Lgoto token)) off = (λ a. a, λ a. a)
 off_check code host (takes from (message.Get request field index)) off = absurd cc
@@ -353,7 +354,7 @@ off_check code host turns off = by host.running off
     by None own = absurd cc
     by (Some thread) own = found thread (instruction_at code host.me thread.at) own
 
-pub open_turn : (code : CodeShape) (host : HostShape) (running : Option ThreadShape) →
+pub open_turn : (code : CodeShape) (host : HostState) (running : Option ThreadShape) →
     thread_takes_off code host.me running ≡ true → MayBeTop host (held_of running) → IsOpenTurnOf code host running
 open_turn code host None off unsure = absurd cc
 open_turn code host (Some thread) off unsure = by (instruction_at code host.me thread.at) off
@@ -384,7 +385,7 @@ open_turn code host (Some thread) off unsure = by (instruction_at code host.me t
     by (Some instruction) off = runs thread.held instruction.op off unsure
 
 -- and the other way round
-pub turn_open : (code : CodeShape) (host : HostShape) (running : Option ThreadShape) →
+pub turn_open : (code : CodeShape) (host : HostState) (running : Option ThreadShape) →
     IsOpenTurnOf code host running → MayBeTop host (held_of running)
 turn_open code host None unsure = absurd unsure
 turn_open code host (Some thread) unsure = by (instruction_at code host.me thread.at) unsure
@@ -412,7 +413,7 @@ turn_open code host (Some thread) unsure = by (instruction_at code host.me threa
     by None unsure = absurd unsure
     by (Some instruction) unsure = runs thread.held instruction.op unsure
 
-pub lgoto_open : (host : HostShape) (letter : Message) → IsOpenTaking host letter → MayBeTop host (lgoto_of letter)
+pub lgoto_open : (host : HostState) (letter : Message) → IsOpenTaking host letter → MayBeTop host (lgoto_of letter)
 lgoto_open host (message.Lgoto token) unsure = unsure
 lgoto_open host (message.Get request field index) unsure = absurd unsure
 lgoto_open host (message.Set request field index value) unsure = absurd unsure
@@ -424,7 +425,7 @@ lgoto_open host (message.Value request value) unsure = absurd unsure
 lgoto_open host (message.Ack request) unsure = absurd unsure
 lgoto_open host (message.Token request token) unsure = absurd unsure
 
-pub open_lgoto : (host : HostShape) (letter : Message) → MayBeTop host (lgoto_of letter) → IsOpenTaking host letter
+pub open_lgoto : (host : HostState) (letter : Message) → MayBeTop host (lgoto_of letter) → IsOpenTaking host letter
 open_lgoto host (message.Lgoto token) unsure = unsure
 open_lgoto host (message.Get request field index) unsure = absurd unsure
 open_lgoto host (message.Set request field index value) unsure = absurd unsure
@@ -473,11 +474,11 @@ first_lasting entries first others low is = by (top_or_none entries low)
         )
 
 -- no thread runs, and the entries that last are the same
-abbrev pub IsStill : HostShape → HostShape → Type 0
+abbrev pub IsStill : HostState → HostState → Type 0
 IsStill host after = (ignored : ℕ) × (halted : Bool)
     × (without_halt after ≡ record (without_halt host) { running = None; ignored = ignored; halted = halted })
 
-still_pop : (code : CodeShape) (host : HostShape) (entries : List StackEntry) → host.entries ≡ entries →
+still_pop : (code : CodeShape) (host : HostState) (entries : List StackEntry) → host.entries ≡ entries →
     filter is_lasting entries ≡ [] → IsStill host (after_pop code (with_running host None) entries)
 still_pop code host [] own none = (host.ignored, host.halted, refl)
 still_pop code host (top ∷ below) own none = by (top.entry.0 == halt.0) refl
@@ -496,15 +497,15 @@ still_pop code host (top ∷ below) own none = by (top.entry.0 == halt.0) refl
         let kept : filter is_lasting (top ∷ below) ≡ top ∷ filter is_lasting below = rw ends refl in
         absurd (let clash : ◌≡◌ {A = List StackEntry} [] (top ∷ filter is_lasting below) = sym none ∙ kept in cc)
 
-pub still : (code : CodeShape) (host : HostShape) (passes : Bool) → filter is_lasting host.entries ≡ [] →
+pub still : (code : CodeShape) (host : HostState) (passes : Bool) → filter is_lasting host.entries ≡ [] →
     IsStill host (settled code host passes)
 still code host true none = still_pop code host host.entries refl none
 still code host false none = (host.ignored + 1, host.halted, refl)
 
-pub still_ignored : (code : CodeShape) (host : HostShape) → IsStill host (settled code host false)
+pub still_ignored : (code : CodeShape) (host : HostState) → IsStill host (settled code host false)
 still_ignored code host = (host.ignored + 1, host.halted, refl)
 
-started_pop : (code : CodeShape) (host : HostShape) (top : StackEntry) (below : List StackEntry) →
+started_pop : (code : CodeShape) (host : HostState) (top : StackEntry) (below : List StackEntry) →
     host.entries ≡ top ∷ below → is_lasting top ≡ true → IsEntryOf code host.me top.entry →
     HasStarted code host (after_pop code (with_running host None) (top ∷ below))
 started_pop code host top below own lasting there = by (top.entry.0 == halt.0) (entry_at code top.entry) refl refl there
@@ -523,7 +524,7 @@ started_pop code host top below own lasting there = by (top.entry.0 == halt.0) (
           told = sym (ap (after_pop code (with_running (without_halt host) None)) kept ∙ rw ends (rw at refl));
         }))
 
-pub started : (code : CodeShape) (host : HostShape) (top : StackEntry) (below : List StackEntry) →
+pub started : (code : CodeShape) (host : HostState) (top : StackEntry) (below : List StackEntry) →
     host.entries ≡ top ∷ below → is_lasting top ≡ true → IsEntryOf code host.me top.entry →
     HasStarted code host (settled code host true)
 started code host top below own lasting there =

@@ -38,7 +38,7 @@ use Rattle.event_text.proofs.NamesAgain.{place_again}
 use Rattle.event_text.proofs.NumbersAgain.{all_digits, number_again}
 use Rattle.event_text.proofs.PrintedBytes.{all_weaker, at_place}
 use Rattle.event_text.proofs.SaidWords.{IsPlain, IsWord}
-use Rattle.wire_msg.specs.Frames.{IsRequest, IsFrameId, IsToken}
+use Rattle.wire_msg.specs.Frames.{IsWireRequest, IsFrameId, IsToken}
 use Rattle.journal_laws.specs.Bare.{bare_token}
 use Rattle.journal_laws.specs.Plays.{HaveOwnNames}
 
@@ -149,7 +149,7 @@ pair_again a b first second =
     rw (pair_parts a b (omega arith) second)
     (rw (narrow_again a first) (rw (number_again b second) refl))
 
-pub request_again : (request : RequestId) → IsRequest request → request_of (request_text request) ≡ Some request
+pub request_again : (request : RequestId) → IsWireRequest request → request_of (request_text request) ≡ Some request
 request_again request is = rw (pair_again request.at request.count is.0 is.1) refl
 
 pub frame_again : (frame : FrameId) → IsFrameId frame → frame_of (frame_text frame) ≡ Some frame
@@ -158,7 +158,7 @@ frame_again frame is = rw (pair_again frame.site.0 frame.count is.0 is.1) refl
 pub entry_again : (entry : EntryId) → entry.0 < 2 ^ 32 → entry_of (entry_text entry) ≡ Some entry
 entry_again entry small = rw (narrow_again entry.0 small) refl
 
-pub request_part : (request : RequestId) → IsRequest request → IsPart (request_text request)
+pub request_part : (request : RequestId) → IsWireRequest request → IsPart (request_text request)
 request_part request is = pointed (decimal request.at) (decimal request.count)
     (number_part request.at (omega (arith, is.0))) (number_part request.count is.1)
 

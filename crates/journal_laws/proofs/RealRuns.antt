@@ -18,14 +18,14 @@ use Rattle.host_code.specs.Code.{CodeShape, entry_at, halt}
 use Rattle.host_code.specs.Sound.{IsHost, IsOther, IsSoundCode}
 use Rattle.host_code.specs.Thread.{ThreadShape}
 use Rattle.host_core.specs.Fits.{StateFits}
-use Rattle.host_core.specs.Host.{HostShape, Outcome, after_entering, after_push, new_token, without_message}
+use Rattle.host_core.specs.Host.{HostState, Outcome, after_entering, after_push, new_token, without_message}
 use Rattle.host_core.specs.Start.{host_at_start, idle_host, last_token, main_frame}
 use Rattle.host_core.specs.Told.{IsUnsure, settled, told_key, with_wrong_tags}
 use Rattle.event_text.specs.JournalText.{sent_words}
 use Rattle.event_text.specs.Words.{Word}
 use Rattle.wire_msg.specs.Frames.{IsMessage}
 use Rattle.journal_laws.specs.Bare.{bare_host, bare_sent}
-use Rattle.journal_laws.specs.Plays.{HaveOwnNames, IsJournalOf, MayStep, Plays, step_words}
+use Rattle.journal_laws.specs.Plays.{HaveOwnNames, IsJournalOf, MayMakeStep, Plays, step_words}
 use Rattle.journal_laws.specs.Steps.{Step, turns, takes, bare_step, told_step}
 use Rattle.journal_laws.specs.ToldPlays.{IsChosenStep, IsPlayed, IsToldStep, ToldPlays}
 use Rattle.journal_laws.proofs.CountedNames.{Rests, count, entry_hits, held_hits, hits, is_right, lying}
@@ -52,17 +52,17 @@ use Rattle.journal_laws.proofs.NamedSteps.{made_syncs, not_zero, names_on}
 
 module _ (code : CodeShape) (sound : IsSoundCode code) (own : HaveOwnNames code) where
   -- the played host is the third one, where no token that was taken is right
-  record Plain (next : ℕ) (host both : HostShape) : Type 0 where
+  record Plain (next : ℕ) (host both : HostState) : Type 0 where
     told : IsCast (fate_tag none) told_key host both
     stack : HasStack told_key both
     fits : StateFits code host
     names : Names next both
 
   -- the real host, by the fates of the names
-  abbrev real : (ℕ → Bool) → ℕ → Bool → HostShape → HostShape
+  abbrev real : (ℕ → Bool) → ℕ → Bool → HostState → HostState
   real fate ignored halted both = cast (fate_tag fate) told_key ignored halted both
 
-  real_told : (next : ℕ) (host both : HostShape) (fate : ℕ → Bool) (ignored : ℕ) (halted : Bool) →
+  real_told : (next : ℕ) (host both : HostState) (fate : ℕ → Bool) (ignored : ℕ) (halted : Bool) →
       Plain next host both → told_of host ≡ told_of (real fate ignored halted both)
   real_told next host both fate ignored halted plain =
       let (count, ends, is) = plain.told in
@@ -73,7 +73,7 @@ module _ (code : CodeShape) (sound : IsSoundCode code) (own : HaveOwnNames code)
       ∙ ap bare_host (sym (cast_without (fate_tag fate) told_key ignored halted both))
 
   -- what the step leaves of the played host and of the third
-  told_cast : (next : ℕ) (host both : HostShape) (step : Step) (outcome : Outcome) (passes : Bool) →
+  told_cast : (next : ℕ) (host both : HostState) (step : Step) (outcome : Outcome) (passes : Bool) →
       Plain next host both → told_step code host (made_of step) passes ≡ outcome →
       AreCast (fate_tag none) told_key outcome (told_step code both (move_of next step) passes)
   told_cast next host both step outcome passes plain is =
@@ -86,36 +86,36 @@ module _ (code : CodeShape) (sound : IsSoundCode code) (own : HaveOwnNames code)
       (step_cast (fate_tag none) told_key code count ends both (move_of next step) passes has)
 
   -- for some fates a run of the real host has these lines and leaves these fields
-  record HasRun (both last : HostShape) (lines : List (List Word)) : Type 0 where
+  record HasRun (both last : HostState) (lines : List (List Word)) : Type 0 where
     fate : ℕ → Bool
     runs : (ignored : ℕ) (halted : Bool) →
-        (steps : List Step) × (end : HostShape) × Plays code (real fate ignored halted both) steps end lines
+        (steps : List Step) × (end : HostState) × Plays code (real fate ignored halted both) steps end lines
         × (end.rows ≡ last.rows)
 
-  may_real : (next : ℕ) (host both : HostShape) (fate : ℕ → Bool) (ignored : ℕ) (halted : Bool) (step : Step) →
-      Plain next host both → MayStep code host step →
-      MayStep code (real fate ignored halted both) (real_of fate next step)
+  may_real : (next : ℕ) (host both : HostState) (fate : ℕ → Bool) (ignored : ℕ) (halted : Bool) (step : Step) →
+      Plain next host both → MayMakeStep code host step →
+      MayMakeStep code (real fate ignored halted both) (real_of fate next step)
   may_real next host both fate ignored halted turns plain may =
       let (count, ends, is) = plain.told in
       runs_running (fate_tag fate) both.running
-      (running_runs (fate_tag none) both.running (subst (λ (h : HostShape). IsSome h.running) is may))
+      (running_runs (fate_tag none) both.running (subst (λ (h : HostState). IsSome h.running) is may))
   may_real next host both fate ignored halted (takes from letter) plain may =
       let (count, ends, is) = plain.told in
       let rest : both.running ≡ None =
-      none_before (fate_tag none) both.running (sym (ap (λ (h : HostShape). h.running) is) ∙ may.rest) in
+      none_before (fate_tag none) both.running (sym (ap (λ (h : HostState). h.running) is) ∙ may.rest) in
       let right = fate next in
       let said = letter_fated fate next letter (not_zero next plain.names.some) in
       record {
         rest = ap (option_map (tagged_thread (fate_tag fate))) rest;
-        other = subst (λ me. IsOther code me from) (ap (λ (h : HostShape). h.me) is) may.other;
+        other = subst (λ me. IsOther code me from) (ap (λ (h : HostState). h.me) is) may.other;
         fits = fits_tagged code (fate_tag fate) (tagged_message (named next) letter)
             (fits_tagged code (named next) letter may.fits);
         real = subst IsMessage (sym said) (real_picked right letter may.real);
       }
 
   -- one step more in front
-  step_more : (next : ℕ) (host both last : HostShape) (step : Step) (outcome : Outcome) (later : List (List Word))
-      (passes : Bool) (fate : ℕ → Bool) → (plain : Plain next host both) → MayStep code host step →
+  step_more : (next : ℕ) (host both last : HostState) (step : Step) (outcome : Outcome) (later : List (List Word))
+      (passes : Bool) (fate : ℕ → Bool) → (plain : Plain next host both) → MayMakeStep code host step →
       told_step code host (made_of step) passes ≡ outcome →
       (run : HasRun (told_step code both (move_of next step) passes).state last later) →
       ((ignored : ℕ) (halted : Bool) →
@@ -165,8 +165,8 @@ module _ (code : CodeShape) (sound : IsSoundCode code) (own : HaveOwnNames code)
 
   -- ---- what the step leaves of the third host
 
-  plain_on : (next : ℕ) (host both : HostShape) (step : Step) (outcome : Outcome) (passes : Bool) →
-      (plain : Plain next host both) → MayStep code host step → IsToldStep code host step outcome →
+  plain_on : (next : ℕ) (host both : HostState) (step : Step) (outcome : Outcome) (passes : Bool) →
+      (plain : Plain next host both) → MayMakeStep code host step → IsToldStep code host step outcome →
       told_step code host (made_of step) passes ≡ outcome → StepSyncs (made_of step) passes →
       Plain (suc next) outcome.state (told_step code both (move_of next step) passes).state
   plain_on next host both step outcome passes plain may told is syncs =
@@ -181,22 +181,22 @@ module _ (code : CodeShape) (sound : IsSoundCode code) (own : HaveOwnNames code)
       there : IsHost code both.me
       there =
           let (count, ends, casts) = plain.told in
-          subst (IsHost code) (ap (λ (h : HostShape). h.me) casts) plain.fits.me
+          subst (IsHost code) (ap (λ (h : HostState). h.me) casts) plain.fits.me
 
       move_syncs : (step : Step) → StepSyncs (made_of step) passes → StepSyncs (move_of next step) passes
       move_syncs turns syncs = tt
       move_syncs (takes from letter) syncs =
           λ holds. tagged_syncs (named next) letter (made_syncs letter (syncs holds))
 
-      rests : (step : Step) → MayStep code host step → Rests both (move_of next step)
+      rests : (step : Step) → MayMakeStep code host step → Rests both (move_of next step)
       rests turns may = refl
       rests (takes from letter) may =
           let (count, ends, casts) = plain.told in
-          none_before (fate_tag none) both.running (sym (ap (λ (h : HostShape). h.running) casts) ∙ may.rest)
+          none_before (fate_tag none) both.running (sym (ap (λ (h : HostState). h.running) casts) ∙ may.rest)
 
   -- ---- the step by its truth value, and why it is that one
 
-  record Made (host : HostShape) (step : Step) (outcome : Outcome) : Type 0 where
+  record Made (host : HostState) (step : Step) (outcome : Outcome) : Type 0 where
     passes : Bool
     is : told_step code host (made_of step) passes ≡ outcome
     syncs : StepSyncs (made_of step) passes
@@ -206,7 +206,7 @@ module _ (code : CodeShape) (sound : IsSoundCode code) (own : HaveOwnNames code)
         ⊎ ((¬ MayBeTop host (presented host (made_of step)))
         × (IsTrue passes ↔ IsTop host (presented host (made_of step))))))
 
-  open_chosen : (host : HostShape) (step : Step) (outcome : Outcome) → IsToldStep code host step outcome →
+  open_chosen : (host : HostState) (step : Step) (outcome : Outcome) → IsToldStep code host step outcome →
       IsChosenStep (λ passes. MayBeTop host (presented host (made_of step))) code host step outcome
   open_chosen host turns outcome (inl (passes, unsure, is)) =
       inl (passes, turn_open code host host.running unsure, unsure, is)
@@ -215,11 +215,11 @@ module _ (code : CodeShape) (sound : IsSoundCode code) (own : HaveOwnNames code)
       inl (passes, lgoto_open host (with_wrong_tags letter) unsure, unsure, is)
   open_chosen host (takes from letter) outcome (inr closed) = inr closed
 
-  rests_made : (host : HostShape) (step : Step) → MayStep code host step → RestsFor host (made_of step)
+  rests_made : (host : HostState) (step : Step) → MayMakeStep code host step → RestsFor host (made_of step)
   rests_made host turns may = tt
   rests_made host (takes from letter) may = may.rest
 
-  made_by : (host : HostShape) (step : Step) (outcome : Outcome) → StateFits code host → MayStep code host step →
+  made_by : (host : HostState) (step : Step) (outcome : Outcome) → StateFits code host → MayMakeStep code host step →
       IsToldStep code host step outcome → Made host step outcome
   made_by host step outcome fits may told = by (takes_off code host (made_of step)) refl
     where
@@ -251,14 +251,14 @@ module _ (code : CodeShape) (sound : IsSoundCode code) (own : HaveOwnNames code)
   real_bare fate next step =
       made_bare step ∙ sym (tagged_bare (fate_tag fate) (move_of next step) ∙ tagged_bare (named next) step)
 
-  real_off : (next : ℕ) (host both : HostShape) (step : Step) (fate : ℕ → Bool) (ignored : ℕ) (halted : Bool) →
+  real_off : (next : ℕ) (host both : HostState) (step : Step) (fate : ℕ → Bool) (ignored : ℕ) (halted : Bool) →
       Plain next host both →
       takes_off code host (made_of step) ≡ takes_off code (real fate ignored halted both) (real_of fate next step)
   real_off next host both step fate ignored halted plain =
       same_takes_off code host (real fate ignored halted both) (made_of step) (real_of fate next step)
       (real_told next host both fate ignored halted plain) (real_bare fate next step)
 
-  plain_check : (next : ℕ) (host both : HostShape) (step : Step) (passes : Bool) (fate : ℕ → Bool) (ignored : ℕ)
+  plain_check : (next : ℕ) (host both : HostState) (step : Step) (passes : Bool) (fate : ℕ → Bool) (ignored : ℕ)
       (halted : Bool) → Plain next host both → takes_off code host (made_of step) ≡ false →
       IsTrue passes ↔ CheckOf code host (made_of step) →
       IsTrue passes ↔ CheckOf code (real fate ignored halted both) (real_of fate next step)
@@ -273,7 +273,7 @@ module _ (code : CodeShape) (sound : IsSoundCode code) (own : HaveOwnNames code)
       both_ways told
       (turned (check_told code here move (sym (real_off next host both step fate ignored halted plain) ∙ off)))
 
-  host_presents : (next : ℕ) (host both : HostShape) (step : Step) → Plain next host both →
+  host_presents : (next : ℕ) (host both : HostState) (step : Step) → Plain next host both →
       presented host (made_of step) ≡ option_map (tagged (fate_tag none)) (presented both (move_of next step))
   host_presents next host both step plain =
       let (count, ends, casts) = plain.told in
@@ -281,12 +281,12 @@ module _ (code : CodeShape) (sound : IsSoundCode code) (own : HaveOwnNames code)
       ∙ ap (λ h. presented h (tagged_step (fate_tag none) (move_of next step))) casts
       ∙ presented_cast (fate_tag none) told_key count ends both (move_of next step)
 
-  host_top : (next : ℕ) (host both : HostShape) → Plain next host both →
+  host_top : (next : ℕ) (host both : HostState) → Plain next host both →
       top_token host.entries ≡ top_token (map (tagged_entry (fate_tag none)) both.entries)
   host_top next host both plain =
-      let (count, ends, casts) = plain.told in ap (λ (h : HostShape). top_token h.entries) casts
+      let (count, ends, casts) = plain.told in ap (λ (h : HostState). top_token h.entries) casts
 
-  off_real : (next : ℕ) (host both : HostShape) (step : Step) (passes : Bool) (fate : ℕ → Bool) (ignored : ℕ)
+  off_real : (next : ℕ) (host both : HostState) (step : Step) (passes : Bool) (fate : ℕ → Bool) (ignored : ℕ)
       (halted : Bool) → Plain next host both → takes_off code host (made_of step) ≡ true →
       IsTrue passes ↔ TopIs (top_token (map (tagged_entry (fate_tag fate)) both.entries))
       (option_map (tagged (fate_tag fate)) (presented both (move_of next step))) →
@@ -352,7 +352,7 @@ module _ (code : CodeShape) (sound : IsSoundCode code) (own : HaveOwnNames code)
       )
 
   -- where the name of the token that is presented stands then
-  abbrev IsSpent : ℕ → HostShape → Type 0
+  abbrev IsSpent : ℕ → HostState → Type 0
   IsSpent name both = ((name == 0) ≡ false) × (lying name both ≡ 0)
 
   held_one : (running : Option ThreadShape) (token : Token) → held_of running ≡ Some token →
@@ -375,7 +375,7 @@ module _ (code : CodeShape) (sound : IsSoundCode code) (own : HaveOwnNames code)
   lgoto_name next (message.Ack request) token is = absurd (none_some token is)
   lgoto_name next (message.Token request letter) token is = absurd (none_some token is)
 
-  spent : (next : ℕ) (both : HostShape) (step : Step) (token : Token) → Names next both →
+  spent : (next : ℕ) (both : HostState) (step : Step) (token : Token) → Names next both →
       presented both (move_of next step) ≡ Some token → is_right token ≡ false → IsSpent (name_of token) both
   spent next both turns token names is wrong =
       let one = held_one both.running token is wrong in
@@ -397,14 +397,14 @@ module _ (code : CodeShape) (sound : IsSoundCode code) (own : HaveOwnNames code)
 
   -- ---- one step more
 
-  rests_both : (next : ℕ) (host both : HostShape) (step : Step) → Plain next host both → MayStep code host step →
+  rests_both : (next : ℕ) (host both : HostState) (step : Step) → Plain next host both → MayMakeStep code host step →
       RestsFor both (move_of next step)
   rests_both next host both turns plain may = tt
   rests_both next host both (takes from letter) plain may =
       let (count, ends, casts) = plain.told in
-      none_before (fate_tag none) both.running (sym (ap (λ (h : HostShape). h.running) casts) ∙ may.rest)
+      none_before (fate_tag none) both.running (sym (ap (λ (h : HostState). h.running) casts) ∙ may.rest)
 
-  both_off : (next : ℕ) (host both : HostShape) (step : Step) → Plain next host both →
+  both_off : (next : ℕ) (host both : HostState) (step : Step) → Plain next host both →
       takes_off code host (made_of step) ≡ takes_off code both (move_of next step)
   both_off next host both step plain =
       let (count, ends, casts) = plain.told in
@@ -414,8 +414,8 @@ module _ (code : CodeShape) (sound : IsSoundCode code) (own : HaveOwnNames code)
       same_takes_off code host both (made_of step) (move_of next step) told
       (made_bare step ∙ sym (tagged_bare (named next) step))
 
-  run_step : (next : ℕ) (host both last : HostShape) (step : Step) (outcome : Outcome) (later : List (List Word)) →
-      (plain : Plain next host both) → MayStep code host step → (made : Made host step outcome) →
+  run_step : (next : ℕ) (host both last : HostState) (step : Step) (outcome : Outcome) (later : List (List Word)) →
+      (plain : Plain next host both) → MayMakeStep code host step → (made : Made host step outcome) →
       AreMade told_key (told_step code both (move_of next step) made.passes).state.entries →
       HasRun (told_step code both (move_of next step) made.passes).state last later →
       HasRun both last (step_words code step ∷ (sent_words code outcome.sent ++ later))
@@ -494,7 +494,7 @@ module _ (code : CodeShape) (sound : IsSoundCode code) (own : HaveOwnNames code)
       by (inr (off, inl unsure)) = opened off (may_open unsure)
       by (inr (off, inr (sure, check))) = closed off sure check
 
-  played_run : (steps : List Step) (next : ℕ) (host both last : HostShape) (lines : List (List Word)) →
+  played_run : (steps : List Step) (next : ℕ) (host both last : HostState) (lines : List (List Word)) →
       Plain next host both → ToldPlays code host steps last lines → HasRun both last lines
   played_run [] next host both last lines plain play =
       let (count, ends, casts) = plain.told in
@@ -504,7 +504,7 @@ module _ (code : CodeShape) (sound : IsSoundCode code) (own : HaveOwnNames code)
           [],
           real none ignored halted both,
           (refl, play.1),
-          sym (ap (λ (h : HostShape). h.rows) casts) ∙ ap (λ (h : HostShape). h.rows) play.0,
+          sym (ap (λ (h : HostState). h.rows) casts) ∙ ap (λ (h : HostState). h.rows) play.0,
         );
       }
   played_run (step ∷ steps) next host both last lines plain (outcome, later, may, told, play, whole) =
@@ -536,7 +536,7 @@ module _ (code : CodeShape) (sound : IsSoundCode code) (own : HaveOwnNames code)
           absurd (let e : 0 ≡ name = grind (arith, nat_tests) in
           false≢true (sym some ∙ ap (λ n. n == 0) (sym e)))
 
-  abbrev rooted : List (List ℤ) → HostId → Option Entry → HostShape
+  abbrev rooted : List (List ℤ) → HostId → Option Entry → HostState
   rooted values me found =
       after_entering (after_push (idle_host code values told_key me) halt main_frame (last_token me)) found main_frame
       (new_token (idle_host code values told_key me) halt main_frame)
@@ -563,7 +563,7 @@ module _ (code : CodeShape) (sound : IsSoundCode code) (own : HaveOwnNames code)
       made : tagged (fate_tag fate) token ≡ token
       made = right_stays fate token (right_is token refl)
 
-      goes : Option Entry → Token → Token → HostShape
+      goes : Option Entry → Token → Token → HostState
       goes found one kept =
           let idle = idle_host code values told_key me in
           after_entering (record idle {
@@ -643,9 +643,9 @@ module _ (code : CodeShape) (sound : IsSoundCode code) (own : HaveOwnNames code)
           })
 
   -- some run of a real host has the lines that were played, and leaves the fields
-  pub real_run : (values : List (List ℤ)) (me : HostId) (lines : List (List Word)) (shown : HostShape) →
+  pub real_run : (values : List (List ℤ)) (me : HostId) (lines : List (List Word)) (shown : HostState) →
       IsHost code me → IsPlayed code (host_at_start code values told_key me) lines shown →
-      (steps : List Step) × (last : HostShape)
+      (steps : List Step) × (last : HostState)
       × IsJournalOf code (host_at_start code values told_key me) lines steps last × (last.rows ≡ shown.rows)
   real_run values me lines shown there (steps, all, play, noted) =
       let start = host_at_start code values told_key me in

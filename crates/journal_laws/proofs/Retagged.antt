@@ -29,7 +29,7 @@ use Rattle.host_code.specs.Thread.{ThreadShape, WaitingShape, Awaited}
 use Rattle.host_code.specs.Thread.Awaited.{value_of_field, acknowledgement, token_of_entry}
 use Rattle.host_code.specs.Code.{CodeShape, CodeFieldShape, entry_at, field_at, halt, instruction_at}
 use Rattle.host_core.specs.Awaiting.{awaits}
-use Rattle.host_core.specs.Host.{HostShape, Outcome, after_asking, after_entering, after_pop, next_request, new_token}
+use Rattle.host_core.specs.Host.{HostState, Outcome, after_asking, after_entering, after_pop, next_request, new_token}
 use Rattle.host_core.specs.Host.{with_running, with_variable_set, with_variables_set, with_temporary, with_token}
 use Rattle.host_core.specs.Host.{value_in_thread, after_step}
 use Rattle.host_core.specs.Taking.{after_taking, after_passing, after_answer, place_of_awaiting}
@@ -77,7 +77,7 @@ tagged_step tags turns = turns
 tagged_step tags (takes from letter) = takes from (tagged_message tags letter)
 
 -- the host with these tags and this key, where so many messages were ignored, and halted or not
-abbrev pub cast : (Token → List ℕ) → List ℕ → ℕ → Bool → HostShape → HostShape
+abbrev pub cast : (Token → List ℕ) → List ℕ → ℕ → Bool → HostState → HostState
 cast tags key ignored halted host = record host {
   key = key;
   running = option_map (tagged_thread tags) host.running;
@@ -99,7 +99,7 @@ HasTags tags own key = (host : HostId) (frame : FrameId) (entry : EntryId) (seri
     }) ≡ tag_of key host frame entry serial
 
 -- the state is the other one with these tags
-abbrev pub IsCast : (Token → List ℕ) → List ℕ → HostShape → HostShape → Type 0
+abbrev pub IsCast : (Token → List ℕ) → List ℕ → HostState → HostState → Type 0
 IsCast tags key after host = (ignored : ℕ) × (halted : Bool) × (after ≡ cast tags key ignored halted host)
 
 abbrev pub AreCast : (Token → List ℕ) → List ℕ → Outcome → Outcome → Type 0
@@ -133,7 +133,7 @@ entries_bare : (tags : Token → List ℕ) (entries : List StackEntry) →
 entries_bare tags [] = refl
 entries_bare tags (top ∷ below) = ap (λ rest. bare_entry top ∷ rest) (entries_bare tags below)
 
-pub cast_bare : (tags : Token → List ℕ) (key : List ℕ) (ignored : ℕ) (halted : Bool) (host : HostShape) →
+pub cast_bare : (tags : Token → List ℕ) (key : List ℕ) (ignored : ℕ) (halted : Bool) (host : HostState) →
     bare_host (cast tags key ignored halted host) ≡ bare_host host
 cast_bare tags key ignored halted host =
     rw (running_bare tags host.running)
@@ -175,7 +175,7 @@ entries_without tags [] = refl
 entries_without tags (top ∷ below) =
     one_without tags top below (is_lasting top) refl (entries_without tags below)
 
-pub cast_without : (tags : Token → List ℕ) (key : List ℕ) (ignored : ℕ) (halted : Bool) (host : HostShape) →
+pub cast_without : (tags : Token → List ℕ) (key : List ℕ) (ignored : ℕ) (halted : Bool) (host : HostState) →
     without_halt (cast tags key ignored halted host) ≡ cast tags key ignored halted (without_halt host)
 cast_without tags key ignored halted host =
     ap (λ entries. record (cast tags key ignored halted host) { entries = entries }) (entries_without tags host.entries)
@@ -184,22 +184,22 @@ cast_without tags key ignored halted host =
 
 module _ (tags : Token → List ℕ) (key : List ℕ) where
   -- what is left of the host as it was, with a change of what has no token
-  abbrev Left : HostShape → HostShape → Type 0
+  abbrev Left : HostState → HostState → Type 0
   Left after host = IsCast tags key after host
 
-  entered : (ignored : ℕ) (halted : Bool) (host : HostShape) (found : Option Entry) (frame : FrameId) (token : Token) →
+  entered : (ignored : ℕ) (halted : Bool) (host : HostState) (found : Option Entry) (frame : FrameId) (token : Token) →
       Left (after_entering (cast tags key ignored halted host) found frame (tagged tags token))
       (after_entering host found frame token)
   entered ignored halted host None frame token = (ignored, halted, refl)
   entered ignored halted host (Some entry) frame token = (ignored, halted, refl)
 
-  pub popped : (code : CodeShape) (ignored : ℕ) (halted : Bool) (host : HostShape) (entries : List StackEntry) →
+  pub popped : (code : CodeShape) (ignored : ℕ) (halted : Bool) (host : HostState) (entries : List StackEntry) →
       Left (after_pop code (cast tags key ignored halted host) (map (tagged_entry tags) entries))
       (after_pop code host entries)
   popped code ignored halted host [] = (ignored, halted, refl)
   popped code ignored halted host (top ∷ below) = by (top.entry.0 == halt.0) refl
     where
-      left : HostShape
+      left : HostState
       left = record host { entries = below }
 
       by : (ends : Bool) → (top.entry.0 == halt.0) ≡ ends →
@@ -214,12 +214,12 @@ module _ (tags : Token → List ℕ) (key : List ℕ) where
   appended [] one = refl
   appended (first ∷ waiting) one = ap (λ rest. tagged_waiting tags first ∷ rest) (appended waiting one)
 
-  asked : (ignored : ℕ) (halted : Bool) (host : HostShape) (at : ℕ) (thread : ThreadShape) (awaited : Awaited)
+  asked : (ignored : ℕ) (halted : Bool) (host : HostState) (at : ℕ) (thread : ThreadShape) (awaited : Awaited)
       (on : HostId) →
       after_asking (cast tags key ignored halted host) at (tagged_thread tags thread) awaited on
       ≡ cast tags key ignored halted (after_asking host at thread awaited on)
   asked ignored halted host at thread awaited on =
-      let asks : List WaitingShape → HostShape = λ waiting. record (cast tags key ignored halted host) {
+      let asks : List WaitingShape → HostState = λ waiting. record (cast tags key ignored halted host) {
         running = None;
         waiting = waiting;
         requests = slice_set host.requests at (slice_index host.requests at + 1);
@@ -227,7 +227,7 @@ module _ (tags : Token → List ℕ) (key : List ℕ) where
       ap asks (appended host.waiting
       (record { thread = thread; awaited = awaited; request = next_request host at; asked = on }))
 
-  read_cast : (ignored : ℕ) (halted : Bool) (host : HostShape) (thread : ThreadShape) (field : FieldId)
+  read_cast : (ignored : ℕ) (halted : Bool) (host : HostState) (thread : ThreadShape) (field : FieldId)
       (index : List Node) (there : Option CodeFieldShape) →
       AreCast tags key
       (after_read (cast tags key ignored halted host) (tagged_thread tags thread) field index there)
@@ -250,7 +250,7 @@ module _ (tags : Token → List ℕ) (key : List ℕ) where
         refl,
       )
 
-  put_cast : (ignored : ℕ) (halted : Bool) (host : HostShape) (thread : ThreadShape) (field : FieldId)
+  put_cast : (ignored : ℕ) (halted : Bool) (host : HostState) (thread : ThreadShape) (field : FieldId)
       (index value : List Node) (there : Option CodeFieldShape) →
       AreCast tags key
       (after_put (cast tags key ignored halted host) (tagged_thread tags thread) field index value there)
@@ -273,7 +273,7 @@ module _ (tags : Token → List ℕ) (key : List ℕ) where
         refl,
       )
 
-  branch_cast : (ignored : ℕ) (halted : Bool) (host : HostShape) (thread : ThreadShape) (guard : List Node)
+  branch_cast : (ignored : ℕ) (halted : Bool) (host : HostState) (thread : ThreadShape) (guard : List Node)
       (target : ℕ) →
       AreCast tags key (after_branch (cast tags key ignored halted host) (tagged_thread tags thread) guard target)
       (after_branch host thread guard target)
@@ -285,7 +285,7 @@ module _ (tags : Token → List ℕ) (key : List ℕ) where
       by true is = rw is ((ignored, halted, refl), refl)
       by false is = rw is ((ignored, halted, refl), refl)
 
-  ask_cast : (ignored : ℕ) (halted : Bool) (host : HostShape) (thread : ThreadShape) (entry : EntryId) (on : HostId)
+  ask_cast : (ignored : ℕ) (halted : Bool) (host : HostState) (thread : ThreadShape) (entry : EntryId) (on : HostId)
       (held : Option Token) →
       AreCast tags key
       (after_ask (cast tags key ignored halted host) (tagged_thread tags thread) entry on
@@ -297,7 +297,7 @@ module _ (tags : Token → List ℕ) (key : List ℕ) where
     refl,
   )
 
-  go_cast : (ignored : ℕ) (halted : Bool) (host : HostShape) (thread : ThreadShape) (frame : FrameId)
+  go_cast : (ignored : ℕ) (halted : Bool) (host : HostState) (thread : ThreadShape) (frame : FrameId)
       (entry : EntryId) (on : HostId) (held : Option Token) →
       AreCast tags key
       (after_go (cast tags key ignored halted host) (tagged_thread tags thread) frame entry on
@@ -305,7 +305,7 @@ module _ (tags : Token → List ℕ) (key : List ℕ) where
   go_cast ignored halted host thread frame entry on None = ((ignored, halted, refl), refl)
   go_cast ignored halted host thread frame entry on (Some held) = ((ignored, halted, refl), refl)
 
-  go_with_cast : (ignored : ℕ) (halted : Bool) (host : HostShape) (thread : ThreadShape) (frame : FrameId)
+  go_with_cast : (ignored : ℕ) (halted : Bool) (host : HostState) (thread : ThreadShape) (frame : FrameId)
       (entry : EntryId) (on : HostId) (variables : List VarId) (held : Option Token) →
       AreCast tags key
       (after_go_with (cast tags key ignored halted host) (tagged_thread tags thread) frame entry on variables
@@ -313,13 +313,13 @@ module _ (tags : Token → List ℕ) (key : List ℕ) where
   go_with_cast ignored halted host thread frame entry on variables None = ((ignored, halted, refl), refl)
   go_with_cast ignored halted host thread frame entry on variables (Some held) = ((ignored, halted, refl), refl)
 
-  own_call_cast : (ignored : ℕ) (halted : Bool) (host : HostShape) (thread : ThreadShape) (there : Option Entry) →
+  own_call_cast : (ignored : ℕ) (halted : Bool) (host : HostState) (thread : ThreadShape) (there : Option Entry) →
       AreCast tags key (after_own_call (cast tags key ignored halted host) (tagged_thread tags thread) there)
       (after_own_call host thread there)
   own_call_cast ignored halted host thread None = ((ignored, halted, refl), refl)
   own_call_cast ignored halted host thread (Some there) = ((ignored, halted, refl), refl)
 
-  call_cast : (code : CodeShape) (ignored : ℕ) (halted : Bool) (host : HostShape) (thread : ThreadShape)
+  call_cast : (code : CodeShape) (ignored : ℕ) (halted : Bool) (host : HostState) (thread : ThreadShape)
       (entry : EntryId) (on : HostId) →
       AreCast tags key (after_call code (cast tags key ignored halted host) (tagged_thread tags thread) entry on)
       (after_call code host thread entry on)
@@ -331,7 +331,7 @@ module _ (tags : Token → List ℕ) (key : List ℕ) where
       by true is = rw is (own_call_cast ignored halted host thread (entry_at code entry))
       by false is = rw is (go_cast ignored halted host thread thread.new_frame entry on thread.held)
 
-  return_cast : (ignored : ℕ) (halted : Bool) (host : HostShape) (thread : ThreadShape) (variable : VarId)
+  return_cast : (ignored : ℕ) (halted : Bool) (host : HostState) (thread : ThreadShape) (variable : VarId)
       (value : List Node) (held : Option Token) (passes : Bool) →
       AreCast tags key
       (after_return (cast tags key ignored halted host) (tagged_thread tags thread) variable value
@@ -355,7 +355,7 @@ module _ (tags : Token → List ℕ) (key : List ℕ) where
       )
       by false is false = rw is ((ignored, halted, refl), refl)
 
-  back_cast : (code : CodeShape) (ignored : ℕ) (halted : Bool) (host : HostShape) (thread : ThreadShape)
+  back_cast : (code : CodeShape) (ignored : ℕ) (halted : Bool) (host : HostState) (thread : ThreadShape)
       (held : Option Token) (passes : Bool) →
       AreCast tags key
       (after_back code (cast tags key ignored halted host) (tagged_thread tags thread) (option_map (tagged tags) held)
@@ -371,14 +371,14 @@ module _ (tags : Token → List ℕ) (key : List ℕ) where
       by true is false = rw is ((ignored + 1, halted, refl), refl)
       by false is may = rw is ((ignored, halted, refl), refl)
 
-  token_made : (ignored : ℕ) (halted : Bool) (host : HostShape) (entry : EntryId) (frame : FrameId) →
+  token_made : (ignored : ℕ) (halted : Bool) (host : HostState) (entry : EntryId) (frame : FrameId) →
       HasTags tags host.key key →
       new_token (cast tags key ignored halted host) entry frame ≡ tagged tags (new_token host entry frame)
   token_made ignored halted host entry frame made =
       ap (λ tag. record (new_token host entry frame) { tag = tag })
       (sym (made host.me frame entry (slice_index host.serials entry.0)))
 
-  push_cast : (ignored : ℕ) (halted : Bool) (host : HostShape) (thread : ThreadShape) (entry : EntryId)
+  push_cast : (ignored : ℕ) (halted : Bool) (host : HostState) (thread : ThreadShape) (entry : EntryId)
       (held : Option Token) → HasTags tags host.key key →
       AreCast tags key
       (after_own_push (cast tags key ignored halted host) (tagged_thread tags thread) entry
@@ -386,7 +386,7 @@ module _ (tags : Token → List ℕ) (key : List ℕ) where
       (after_own_push host thread entry held)
   push_cast ignored halted host thread entry None made = ((ignored, halted, refl), refl)
   push_cast ignored halted host thread entry (Some held) made =
-      let pushed : Token → HostShape = λ token. record (cast tags key ignored halted host) {
+      let pushed : Token → HostState = λ token. record (cast tags key ignored halted host) {
         running = Some (with_token (Some token) (after_step thread));
         entries = record { token = token; entry = entry; frame = thread.frame; kept = tagged tags held }
             ∷ map (tagged_entry tags) host.entries;
@@ -394,7 +394,7 @@ module _ (tags : Token → List ℕ) (key : List ℕ) where
       } in
       ((ignored, halted, ap pushed (token_made ignored halted host entry thread.frame made)), refl)
 
-  pub runs_cast : (code : CodeShape) (ignored : ℕ) (halted : Bool) (host : HostShape) (thread : ThreadShape)
+  pub runs_cast : (code : CodeShape) (ignored : ℕ) (halted : Bool) (host : HostState) (thread : ThreadShape)
       (operation : Op) (passes : Bool) → HasTags tags host.key key →
       AreCast tags key
       (after_operation code (cast tags key ignored halted host) (tagged_thread tags thread) operation passes)
@@ -431,7 +431,7 @@ module _ (tags : Token → List ℕ) (key : List ℕ) where
 
   -- ---- messages
 
-  riders_cast : (ignored : ℕ) (halted : Bool) (host : HostShape) (frame : FrameId) (riders : List Rider) →
+  riders_cast : (ignored : ℕ) (halted : Bool) (host : HostState) (frame : FrameId) (riders : List Rider) →
       with_variables_set (cast tags key ignored halted host) frame riders
       ≡ cast tags key ignored halted (with_variables_set host frame riders)
   riders_cast ignored halted host frame [] = refl
@@ -460,7 +460,7 @@ module _ (tags : Token → List ℕ) (key : List ℕ) where
   woken answered other same None = refl
   woken answered other same (Some waiting) = ap Some (same waiting.thread)
 
-  answer_cast : (ignored : ℕ) (halted : Bool) (host : HostShape) (place : Option ℕ)
+  answer_cast : (ignored : ℕ) (halted : Bool) (host : HostState) (place : Option ℕ)
       (answered other : ThreadShape → ThreadShape) →
       ((thread : ThreadShape) → other (tagged_thread tags thread) ≡ tagged_thread tags (answered thread)) →
       after_answer (cast tags key ignored halted host) place other
@@ -473,7 +473,7 @@ module _ (tags : Token → List ℕ) (key : List ℕ) where
         running = running;
       }) (woken answered other same (slice_get host.waiting place))))
 
-  answered_cast : (ignored : ℕ) (halted : Bool) (host : HostShape) (awaited : Awaited) (request : RequestId)
+  answered_cast : (ignored : ℕ) (halted : Bool) (host : HostState) (awaited : Awaited) (request : RequestId)
       (from : HostId) (answered other : ThreadShape → ThreadShape) →
       ((thread : ThreadShape) → other (tagged_thread tags thread) ≡ tagged_thread tags (answered thread)) →
       after_answer (cast tags key ignored halted host)
@@ -483,14 +483,14 @@ module _ (tags : Token → List ℕ) (key : List ℕ) where
       rw (position_cast awaited request from host.waiting)
       (answer_cast ignored halted host (place_of_awaiting host awaited request from) answered other same)
 
-  sync_cast : (code : CodeShape) (ignored : ℕ) (halted : Bool) (host : HostShape) (from : HostId)
+  sync_cast : (code : CodeShape) (ignored : ℕ) (halted : Bool) (host : HostState) (from : HostId)
       (request : RequestId) (frame : FrameId) (entry : EntryId) (token : Token) → HasTags tags host.key key →
       AreCast tags key
       (after_passing code (cast tags key ignored halted host) from
       (message.Sync request frame entry (tagged tags token)))
       (after_passing code host from (message.Sync request frame entry token))
   sync_cast code ignored halted host from request frame entry token made =
-      let pushed : Token → HostShape = λ one. record (cast tags key ignored halted host) {
+      let pushed : Token → HostState = λ one. record (cast tags key ignored halted host) {
         entries = record { token = one; entry = entry; frame = frame; kept = tagged tags token }
             ∷ map (tagged_entry tags) host.entries;
         serials = slice_set host.serials entry.0 (slice_index host.serials entry.0 + 1);
@@ -499,7 +499,7 @@ module _ (tags : Token → List ℕ) (key : List ℕ) where
       let same = token_made ignored halted host entry frame made in
       ((ignored, halted, ap pushed same), ap said same)
 
-  passing_cast : (code : CodeShape) (ignored : ℕ) (halted : Bool) (host : HostShape) (from : HostId)
+  passing_cast : (code : CodeShape) (ignored : ℕ) (halted : Bool) (host : HostState) (from : HostId)
       (letter : Message) → HasTags tags host.key key →
       AreCast tags key (after_passing code (cast tags key ignored halted host) from (tagged_message tags letter))
       (after_passing code host from letter)
@@ -549,7 +549,7 @@ module _ (tags : Token → List ℕ) (key : List ℕ) where
 
   -- ---- steps
 
-  running_cast : (code : CodeShape) (ignored : ℕ) (halted : Bool) (host : HostShape) (thread : ThreadShape)
+  running_cast : (code : CodeShape) (ignored : ℕ) (halted : Bool) (host : HostState) (thread : ThreadShape)
       (found : Option Instr) (passes : Bool) → HasTags tags host.key key →
       AreCast tags key
       (after_running code (cast tags key ignored halted host) (tagged_thread tags thread) found passes)
@@ -558,7 +558,7 @@ module _ (tags : Token → List ℕ) (key : List ℕ) where
   running_cast code ignored halted host thread (Some instruction) passes made =
       runs_cast code ignored halted host thread instruction.op passes made
 
-  turn_cast : (code : CodeShape) (ignored : ℕ) (halted : Bool) (host : HostShape) (running : Option ThreadShape)
+  turn_cast : (code : CodeShape) (ignored : ℕ) (halted : Bool) (host : HostState) (running : Option ThreadShape)
       (passes : Bool) → HasTags tags host.key key →
       AreCast tags key
       (after_turn code (cast tags key ignored halted host) (option_map (tagged_thread tags) running) passes)
@@ -568,7 +568,7 @@ module _ (tags : Token → List ℕ) (key : List ℕ) where
       running_cast code ignored halted (with_running host None) thread (instruction_at code host.me thread.at) passes
       made
 
-  taking_cast : (code : CodeShape) (ignored : ℕ) (halted : Bool) (host : HostShape) (from : HostId)
+  taking_cast : (code : CodeShape) (ignored : ℕ) (halted : Bool) (host : HostState) (from : HostId)
       (letter : Message) (passes : Bool) → HasTags tags host.key key →
       AreCast tags key
       (after_taking code (cast tags key ignored halted host) from (tagged_message tags letter) passes)
@@ -577,7 +577,7 @@ module _ (tags : Token → List ℕ) (key : List ℕ) where
       passing_cast code ignored halted host from letter made
   taking_cast code ignored halted host from letter false made = ((ignored + 1, halted, refl), refl)
 
-  pub step_cast : (code : CodeShape) (ignored : ℕ) (halted : Bool) (host : HostShape) (step : Step) (passes : Bool) →
+  pub step_cast : (code : CodeShape) (ignored : ℕ) (halted : Bool) (host : HostState) (step : Step) (passes : Bool) →
       HasTags tags host.key key →
       AreCast tags key (told_step code (cast tags key ignored halted host) (tagged_step tags step) passes)
       (told_step code host step passes)

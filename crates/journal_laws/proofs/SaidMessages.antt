@@ -31,7 +31,7 @@ use Rattle.event_text.proofs.PrintedWords.{set_word}
 use Rattle.event_text.proofs.SaidAgain.{spaced_two, spaced_three, spaced_four}
 use Rattle.event_text.proofs.SaidRiders.{spaced, joined_spaced}
 use Rattle.event_text.proofs.SaidWords.{IsWord, joined, joined_words}
-use Rattle.wire_msg.specs.Frames.{IsMessage, IsRequest, IsRider}
+use Rattle.wire_msg.specs.Frames.{IsMessage, IsWireRequest, IsRider}
 use Rattle.journal_laws.specs.Bare.{bare_message, bare_token}
 use Rattle.journal_laws.specs.Plays.{HaveOwnNames}
 use Rattle.journal_laws.proofs.PartsAgain.{part_word, signed_part, request_part, frame_part, entry_part}
@@ -102,7 +102,7 @@ same_read one other same =
     made_of none (Some made) = message_read some_token made
 
 module _ (code : CodeShape) (sound : IsSoundCode code) (own : HaveOwnNames code) where
-  request_word : (request : RequestId) → IsRequest request →
+  request_word : (request : RequestId) → IsWireRequest request →
       IsWord (request_text request)
   request_word request is = part_word (request_text request) (request_part request is)
 

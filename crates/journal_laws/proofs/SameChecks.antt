@@ -17,17 +17,17 @@ use Rattle.host_code.specs.Thread.Awaited.{value_of_field, acknowledgement, toke
 use Rattle.host_code.specs.Code.{CodeShape, instruction_at}
 use Rattle.host_code.specs.Sound.{IsSoundCode, IsHost, OperationFits}
 use Rattle.host_core.specs.Fits.{StateFits}
-use Rattle.host_core.specs.Host.{HostShape, Outcome, with_running}
-use Rattle.host_core.specs.Taking.{IsTaking, Passes, place_of_awaiting}
+use Rattle.host_core.specs.Host.{HostState, Outcome, with_running}
+use Rattle.host_core.specs.Taking.{IsTaking, PassesCheck, place_of_awaiting}
 use Rattle.host_core.specs.Turn.{IsTurnOf, IsRunning, PassesWith}
 use Rattle.journal_laws.specs.Bare.{bare_host, bare_message, bare_thread, bare_token}
-use Rattle.journal_laws.specs.Steps.{Step, turns, takes, IsStep, bare_step, told_step, after_turn, after_running}
+use Rattle.journal_laws.specs.Steps.{Step, turns, takes, IsStepOfHost, bare_step, told_step, after_turn, after_running}
 use Rattle.journal_laws.proofs.BareTakings.{position_bare}
 use Rattle.journal_laws.proofs.WithoutHalt.{without_halt, halt_left_out, runs_without, takes_without, LeavesHalt}
 use Rattle.journal_laws.proofs.WithoutHalt.{AsksOther}
 
 -- what a journal tells of a host
-abbrev pub told_of : HostShape → HostShape
+abbrev pub told_of : HostState → HostState
 told_of host = bare_host (without_halt host)
 
 -- ---- the steps that take an entry off the stack
@@ -53,7 +53,7 @@ is_lgoto (message.Lgoto token) = true
 is_lgoto _ = false
 
 -- an lgoto, or a token that is given back on its own host
-abbrev pub takes_off : CodeShape → HostShape → Step → Bool
+abbrev pub takes_off : CodeShape → HostState → Step → Bool
 takes_off code host turns = thread_takes_off code host.me host.running
 takes_off code host (takes from letter) = is_lgoto letter
 
@@ -83,13 +83,13 @@ lgoto_told (message.Value request value) = refl
 lgoto_told (message.Ack request) = refl
 lgoto_told (message.Token request token) = refl
 
-takes_off_told : (code : CodeShape) (host : HostShape) (step : Step) →
+takes_off_told : (code : CodeShape) (host : HostState) (step : Step) →
     takes_off code (told_of host) (bare_step step) ≡ takes_off code host step
 takes_off_told code host turns = thread_told code host.me host.running
 takes_off_told code host (takes from letter) = lgoto_told letter
 
 -- hosts of which the same is told take an entry off by the same steps
-pub same_takes_off : (code : CodeShape) (one other : HostShape) (step another : Step) →
+pub same_takes_off : (code : CodeShape) (one other : HostState) (step another : Step) →
     told_of one ≡ told_of other → bare_step step ≡ bare_step another →
     takes_off code one step ≡ takes_off code other another
 same_takes_off code one other step another hosts steps =
@@ -100,28 +100,28 @@ same_takes_off code one other step another hosts steps =
 
 -- ---- the checks
 
-abbrev pub CheckOfInstruction : CodeShape → HostShape → Option Token → Option Instr → Type 0
+abbrev pub CheckOfInstruction : CodeShape → HostState → Option Token → Option Instr → Type 0
 CheckOfInstruction code host held None = ⊤
 CheckOfInstruction code host held (Some instruction) = PassesWith code (with_running host None) instruction.op held
 
-abbrev pub CheckOfThread : CodeShape → HostShape → Option ThreadShape → Type 0
+abbrev pub CheckOfThread : CodeShape → HostState → Option ThreadShape → Type 0
 CheckOfThread code host None = ⊤
 CheckOfThread code host (Some thread) =
     CheckOfInstruction code host thread.held (instruction_at code host.me thread.at)
 
-abbrev pub CheckOf : CodeShape → HostShape → Step → Type 0
+abbrev pub CheckOf : CodeShape → HostState → Step → Type 0
 CheckOf code host turns = CheckOfThread code host host.running
-CheckOf code host (takes from letter) = Passes code host from letter
+CheckOf code host (takes from letter) = PassesCheck code host from letter
 
-awaited_told : (host : HostShape) (awaited : Awaited) (request : RequestId) (from : HostId) →
+awaited_told : (host : HostState) (awaited : Awaited) (request : RequestId) (from : HostId) →
     IsSome (place_of_awaiting host awaited request from)
     ↔ IsSome (place_of_awaiting (told_of host) awaited request from)
 awaited_told host awaited request from =
     let place = position_bare awaited request from host.waiting in
     (subst IsSome (sym place), subst IsSome place)
 
-pub taking_told : (code : CodeShape) (host : HostShape) (from : HostId) (letter : Message) → is_lgoto letter ≡ false →
-    Passes code host from letter ↔ Passes code (told_of host) from (bare_message letter)
+pub taking_told : (code : CodeShape) (host : HostState) (from : HostId) (letter : Message) → is_lgoto letter ≡ false →
+    PassesCheck code host from letter ↔ PassesCheck code (told_of host) from (bare_message letter)
 taking_told code host from (message.Get request field index) other = (λ a. a, λ a. a)
 taking_told code host from (message.Set request field index value) other = (λ a. a, λ a. a)
 taking_told code host from (message.Forward request frame variable value) other = (λ a. a, λ a. a)
@@ -133,7 +133,7 @@ taking_told code host from (message.Value request value) other = awaited_told ho
 taking_told code host from (message.Ack request) other = awaited_told host acknowledgement request from
 taking_told code host from (message.Token request token) other = awaited_told host token_of_entry request from
 
-pub returning_told : (code : CodeShape) (host : HostShape) (operation : Op) (held : Option Token) →
+pub returning_told : (code : CodeShape) (host : HostState) (operation : Op) (held : Option Token) →
     (is_back operation && is_own host.me held) ≡ false →
     PassesWith code (with_running host None) operation held
     ↔ PassesWith code (with_running (told_of host) None) operation (option_map bare_token held)
@@ -161,7 +161,7 @@ returning_told code host (op.Branch guard target) held other = (λ a. a, λ a. a
 -- ---- a step that takes nothing off
 
 -- it is what one truth value makes of the host without the entry that ends the program, and the value is told
-pub record IsPlain (code : CodeShape) (host : HostShape) (step : Step) (outcome : Outcome) : Type 0 where
+pub record IsPlain (code : CodeShape) (host : HostState) (step : Step) (outcome : Outcome) : Type 0 where
   pub passes : Bool
   pub check : IsTrue passes ↔ CheckOf code (told_of host) (bare_step step)
   pub leaves : told_step code (without_halt host) step passes ≡ halt_left_out outcome
@@ -169,8 +169,8 @@ pub record IsPlain (code : CodeShape) (host : HostShape) (step : Step) (outcome 
 both : {A B C : Type 0} → A ↔ B → B ↔ C → A ↔ C
 both one two = (λ a. two.0 (one.0 a), λ c. one.1 (two.1 c))
 
-pub asks_other : (code : CodeShape) (host : HostShape) (from : HostId) (letter : Message) → is_lgoto letter ≡ false →
-    Passes code host from letter → AsksOther letter
+pub asks_other : (code : CodeShape) (host : HostState) (from : HostId) (letter : Message) → is_lgoto letter ≡ false →
+    PassesCheck code host from letter → AsksOther letter
 asks_other code host from (message.Get request field index) other passes = tt
 asks_other code host from (message.Set request field index value) other passes = tt
 asks_other code host from (message.Forward request frame variable value) other passes = tt
@@ -182,7 +182,7 @@ asks_other code host from (message.Value request value) other passes = tt
 asks_other code host from (message.Ack request) other passes = tt
 asks_other code host from (message.Token request token) other passes = tt
 
-taking_plain : (code : CodeShape) (host : HostShape) (from : HostId) (letter : Message) (outcome : Outcome) →
+taking_plain : (code : CodeShape) (host : HostState) (from : HostId) (letter : Message) (outcome : Outcome) →
     is_lgoto letter ≡ false → IsTaking code host from letter outcome → IsPlain code host (takes from letter) outcome
 taking_plain code host from letter outcome other (passes, check, is) = record {
   passes = passes;
@@ -192,7 +192,7 @@ taking_plain code host from letter outcome other (passes, check, is) = record {
       ∙ ap halt_left_out is;
 }
 
-pub leaves_halt : (code : CodeShape) (host : HostShape) (count : ℕ) (operation : Op) (held : Option Token) →
+pub leaves_halt : (code : CodeShape) (host : HostState) (count : ℕ) (operation : Op) (held : Option Token) →
     OperationFits code host.me count operation → (is_back operation && is_own host.me held) ≡ false →
     LeavesHalt host held operation
 leaves_halt code host count (op.Read field index) held fits other = tt
@@ -214,18 +214,18 @@ leaves_halt code host count op.Back (Some held) fits other = other
 leaves_halt code host count (op.Branch guard target) held fits other = tt
 
 -- a turn by what runs, and what it runs
-abbrev PlainRun : CodeShape → HostShape → Option ThreadShape → Outcome → Type 0
+abbrev PlainRun : CodeShape → HostState → Option ThreadShape → Outcome → Type 0
 PlainRun code host running outcome =
     (passes : Bool) × (IsTrue passes ↔ CheckOfThread code (told_of host) (option_map bare_thread running))
     × (after_turn code (without_halt host) running passes ≡ halt_left_out outcome)
 
-abbrev PlainInstruction : CodeShape → HostShape → ThreadShape → Option Instr → Outcome → Type 0
+abbrev PlainInstruction : CodeShape → HostState → ThreadShape → Option Instr → Outcome → Type 0
 PlainInstruction code host thread found outcome =
     (passes : Bool)
     × (IsTrue passes ↔ CheckOfInstruction code (told_of host) (option_map bare_token thread.held) found)
     × (after_running code (with_running (without_halt host) None) thread found passes ≡ halt_left_out outcome)
 
-turning_plain : (code : CodeShape) (host : HostShape) (running : Option ThreadShape) (outcome : Outcome) →
+turning_plain : (code : CodeShape) (host : HostState) (running : Option ThreadShape) (outcome : Outcome) →
     IsSoundCode code → IsHost code host.me → thread_takes_off code host.me running ≡ false →
     IsTurnOf code host running outcome → PlainRun code host running outcome
 turning_plain code host None outcome sound there other is = (true, (λ a. tt, λ a. refl), ap halt_left_out is)
@@ -245,8 +245,8 @@ turning_plain code host (Some thread) outcome sound there other is =
               (leaves_halt code host _ instruction.op thread.held fits other) ∙ ap halt_left_out is,
         )
 
-pub plain_step : (code : CodeShape) (host : HostShape) (step : Step) (outcome : Outcome) → IsSoundCode code →
-    StateFits code host → takes_off code host step ≡ false → IsStep code host step outcome →
+pub plain_step : (code : CodeShape) (host : HostState) (step : Step) (outcome : Outcome) → IsSoundCode code →
+    StateFits code host → takes_off code host step ≡ false → IsStepOfHost code host step outcome →
     IsPlain code host step outcome
 plain_step code host (takes from letter) outcome sound fits other is =
     taking_plain code host from letter outcome other is
@@ -262,7 +262,7 @@ same_value false false first second = refl
 same_value true false first second = absurd (false≢true (second.1 (first.0 refl)))
 same_value false true first second = absurd (false≢true (first.1 (second.0 refl)))
 
-pub same_passes : (code : CodeShape) (one other : HostShape) (step another : Step) (first second : Outcome) →
+pub same_passes : (code : CodeShape) (one other : HostState) (step another : Step) (first second : Outcome) →
     told_of one ≡ told_of other → bare_step step ≡ bare_step another →
     (plain : IsPlain code one step first) → (beside : IsPlain code other another second) →
     plain.passes ≡ beside.passes

@@ -14,7 +14,7 @@ use Rattle.host_code.specs.MessageText.{host_text}
 use Rattle.host_code.specs.Messages.{MessageFits}
 use Rattle.host_code.specs.Sound.{IsHost, IsSoundCode}
 use Rattle.host_core.specs.Fits.{StateFits, TokensFit}
-use Rattle.host_core.specs.Host.{HostShape, Outcome, after_entering, after_push, new_token}
+use Rattle.host_core.specs.Host.{HostState, Outcome, after_entering, after_push, new_token}
 use Rattle.host_core.specs.Host.{with_running}
 use Rattle.host_core.specs.Start.{host_at_start, idle_host, last_token, main_frame}
 use Rattle.host_core.specs.Told.{settled, with_wrong_tags}
@@ -26,8 +26,8 @@ use Rattle.event_text.specs.JournalText.{IsSendLine, sent_words}
 use Rattle.event_text.specs.Lines.{words}
 use Rattle.event_text.specs.Words.{Word}
 use Rattle.journal_laws.specs.Bare.{bare_message, bare_sent}
-use Rattle.journal_laws.specs.Plays.{HaveOwnNames, IsJournalOf, MayStep, Plays, step_words}
-use Rattle.journal_laws.specs.Steps.{Step, turns, takes, IsStep, bare_step}
+use Rattle.journal_laws.specs.Plays.{HaveOwnNames, IsJournalOf, MayMakeStep, Plays, step_words}
+use Rattle.journal_laws.specs.Steps.{Step, turns, takes, IsStepOfHost, bare_step}
 use Rattle.journal_laws.specs.ToldPlays.{IsPlayed, IsToldStep, ToldPlays}
 use Rattle.journal_laws.proofs.AlikeSteps.{ArePart, HaveSameFields, IsLineStep, Meet, fields_back}
 use Rattle.journal_laws.proofs.AlikeSteps.{fields_of_same, fields_through, fields_told, made_step, open_taken}
@@ -69,7 +69,8 @@ rest_of [] = []
 rest_of (word ∷ words) = words
 
 module _ (code : CodeShape) (sound : IsSoundCode code) (own : HaveOwnNames code) where
-  pub same_steps : (one other : HostShape) (step another : Step) → MayStep code one step → MayStep code other another →
+  pub same_steps : (one other : HostState) (step another : Step) → MayMakeStep code one step →
+      MayMakeStep code other another →
       step_words code step ≡ step_words code another → bare_step step ≡ bare_step another
   same_steps one other turns turns may also same = refl
   same_steps one other turns (takes from letter) may also same = absurd (turn_line code from letter same)
@@ -96,8 +97,8 @@ module _ (code : CodeShape) (sound : IsSoundCode code) (own : HaveOwnNames code)
   tokens_fit (message.Ack request) fits = tt
   tokens_fit (message.Token request token) fits = fits
 
-  pub step_fits : (host : HostShape) (step : Step) (outcome : Outcome) → StateFits code host →
-      MayStep code host step → IsStep code host step outcome → StateFits code outcome.state
+  pub step_fits : (host : HostState) (step : Step) (outcome : Outcome) → StateFits code host →
+      MayMakeStep code host step → IsStepOfHost code host step outcome → StateFits code outcome.state
   step_fits host turns outcome fits may is = (turn_kept code host outcome sound fits is).0
   step_fits host (takes from letter) outcome fits may is =
       (taking_kept code host from letter outcome sound fits may.other (tokens_fit letter may.fits) is).0
@@ -114,7 +115,7 @@ module _ (code : CodeShape) (sound : IsSoundCode code) (own : HaveOwnNames code)
   wrong_fit (message.Ack request) fits = tt
   wrong_fit (message.Token request token) fits = fits
 
-  settled_fits : (host : HostShape) (outcome : Outcome) → StateFits code host → IsSettled code host outcome →
+  settled_fits : (host : HostState) (outcome : Outcome) → StateFits code host → IsSettled code host outcome →
       StateFits code outcome.state
   settled_fits host outcome fits is =
       subst (StateFits code) (ap (λ (left : Outcome). left.state) is.leaves) (by is.passes)
@@ -137,10 +138,10 @@ module _ (code : CodeShape) (sound : IsSoundCode code) (own : HaveOwnNames code)
       told_of (host_at_start code values key me) ≡ told_of (host_at_start code values other me)
   start_told values key other me = by (me.0 == code.root.0) (entry_at code code.main)
     where
-      idle : List ℕ → HostShape
+      idle : List ℕ → HostState
       idle key = idle_host code values key me
 
-      rooted : List ℕ → Option Entry → HostShape
+      rooted : List ℕ → Option Entry → HostState
       rooted key found =
           after_entering (after_push (idle key) halt main_frame (last_token me)) found main_frame
           (new_token (idle key) halt main_frame)
@@ -165,12 +166,12 @@ module _ (code : CodeShape) (sound : IsSoundCode code) (own : HaveOwnNames code)
 
   -- ---- where one has a thread and the other has none
 
-  pub none_runs : (host : HostShape) → IsSome host.running → host.running ≡ None → ⊥
+  pub none_runs : (host : HostState) → IsSome host.running → host.running ≡ None → ⊥
   none_runs host some rest = false≢true (subst IsSome rest some)
 
   -- then neither has a next line that could be the other's
-  pub no_line : (one other : HostShape) (step another : Step) → ArePart one other → MayStep code one step →
-      MayStep code other another → step_words code step ≢ step_words code another
+  pub no_line : (one other : HostState) (step another : Step) → ArePart one other → MayMakeStep code one step →
+      MayMakeStep code other another → step_words code step ≢ step_words code another
   no_line one other turns turns (inl part) may also same = none_runs one may part.0
   no_line one other turns turns (inr part) may also same = none_runs other also part.1
   no_line one other turns (takes from letter) part may also same = turn_line code from letter same
@@ -183,14 +184,15 @@ module _ (code : CodeShape) (sound : IsSoundCode code) (own : HaveOwnNames code)
   -- ---- whole plays
 
   -- steps by their lines lead from one state to another, and leave these lines
-  abbrev pub LinePlays : HostShape → List Step → HostShape → List (List Word) → Type 0
+  abbrev pub LinePlays : HostState → List Step → HostState → List (List Word) → Type 0
   LinePlays start [] last lines = (start ≡ last) × (lines ≡ [])
   LinePlays start (step ∷ steps) last lines =
-      (outcome : Outcome) × (later : List (List Word)) × MayStep code start step × IsLineStep code start step outcome
+      (outcome : Outcome) × (later : List (List Word)) × MayMakeStep code start step
+      × IsLineStep code start step outcome
       × StateFits code outcome.state × LinePlays outcome.state steps last later
       × (lines ≡ step_words code step ∷ (sent_words code outcome.sent ++ later))
 
-  pub made_plays : (start : HostShape) (steps : List Step) (last : HostShape) (lines : List (List Word)) →
+  pub made_plays : (start : HostState) (steps : List Step) (last : HostState) (lines : List (List Word)) →
       StateFits code start → Plays code start steps last lines → LinePlays start steps last lines
   made_plays start [] last lines fits plays = plays
   made_plays start (step ∷ steps) last lines fits (outcome, later, may, is, plays, whole) =
@@ -220,7 +222,7 @@ module _ (code : CodeShape) (sound : IsSoundCode code) (own : HaveOwnNames code)
       (subst (λ l. AreClose l (step_words code another ∷ beyond)) whole (subst (AreClose lines) all close))
 
   -- hosts that part make no step more
-  both_stop : (one other : HostShape) (steps others : List Step) (last end : HostShape)
+  both_stop : (one other : HostState) (steps others : List Step) (last end : HostState)
       (lines more : List (List Word)) → ArePart one other → LinePlays one steps last lines →
       LinePlays other others end more → AreClose lines more → (one ≡ last) × (other ≡ end)
   both_stop one other [] [] last end lines more part plays play close = (plays.0, play.0)
@@ -241,7 +243,7 @@ module _ (code : CodeShape) (sound : IsSoundCode code) (own : HaveOwnNames code)
       (sym (said_alike outcome.sent beside.sent same)) close)
 
   -- how plays end behind a step of both, where they go on from what is told alike
-  meet_then : (outcome beside : Outcome) (steps others : List Step) (last end : HostShape)
+  meet_then : (outcome beside : Outcome) (steps others : List Step) (last end : HostState)
       (later after : List (List Word)) → Meet outcome beside → LinePlays outcome.state steps last later →
       LinePlays beside.state others end after →
       AreClose (sent_words code outcome.sent ++ later) (sent_words code beside.sent ++ after) →
@@ -255,7 +257,7 @@ module _ (code : CodeShape) (sound : IsSoundCode code) (own : HaveOwnNames code)
       fields_through last outcome.state end (fields_back outcome.state last (fields_of_same outcome.state last stop.0))
       (fields_through outcome.state beside.state end parts.fields (fields_of_same beside.state end stop.1))
 
-  pub fields_same : (steps others : List Step) (one other last end : HostShape) (lines more : List (List Word)) →
+  pub fields_same : (steps others : List Step) (one other last end : HostState) (lines more : List (List Word)) →
       StateFits code one → StateFits code other → told_of one ≡ told_of other → LinePlays one steps last lines →
       LinePlays other others end more → AreClose lines more → HaveSameFields last end
   fields_same [] [] one other last end lines more fits fit told plays play close =
@@ -277,7 +279,7 @@ module _ (code : CodeShape) (sound : IsSoundCode code) (own : HaveOwnNames code)
       near)
 
   pub determined : (values : List (List ℤ)) (me : HostId) (key other : List ℕ) (lines : List (List Word))
-      (steps others : List Step) (last end : HostShape) → IsHost code me →
+      (steps others : List Step) (last end : HostState) → IsHost code me →
       IsJournalOf code (host_at_start code values key me) lines steps last →
       IsJournalOf code (host_at_start code values other me) lines others end → HaveSameFields last end
   determined values me key other lines steps others last end there (all, plays, noted) (more, play, also) =
@@ -291,7 +293,8 @@ module _ (code : CodeShape) (sound : IsSoundCode code) (own : HaveOwnNames code)
 
   -- ---- played hosts
 
-  pub told_fits : (host : HostShape) (step : Step) (outcome : Outcome) → StateFits code host → MayStep code host step →
+  pub told_fits : (host : HostState) (step : Step) (outcome : Outcome) → StateFits code host →
+      MayMakeStep code host step →
       IsToldStep code host step outcome → StateFits code outcome.state
   told_fits host turns outcome fits may (inr (closed, is)) = (turn_kept code host outcome sound fits is).0
   told_fits host (takes from letter) outcome fits may (inr (closed, is)) =
@@ -303,7 +306,7 @@ module _ (code : CodeShape) (sound : IsSoundCode code) (own : HaveOwnNames code)
       settled_fits host outcome fits
       (open_taken code host from (with_wrong_tags letter) passes outcome may.rest unsure is).1
 
-  told_plays : (start : HostShape) (steps : List Step) (last : HostShape) (lines : List (List Word)) →
+  told_plays : (start : HostState) (steps : List Step) (last : HostState) (lines : List (List Word)) →
       StateFits code start → ToldPlays code start steps last lines → LinePlays start steps last lines
   told_plays start [] last lines fits plays = plays
   told_plays start (step ∷ steps) last lines fits (outcome, later, may, is, plays, whole) =
@@ -319,7 +322,7 @@ module _ (code : CodeShape) (sound : IsSoundCode code) (own : HaveOwnNames code)
 
   -- a host that is played has the fields of each host with the journal
   pub played_fields : (values : List (List ℤ)) (me : HostId) (key other : List ℕ) (lines : List (List Word))
-      (shown : HostShape) (steps : List Step) (last : HostShape) → IsHost code me →
+      (shown : HostState) (steps : List Step) (last : HostState) → IsHost code me →
       IsPlayed code (host_at_start code values other me) lines shown →
       IsJournalOf code (host_at_start code values key me) lines steps last → HaveSameFields last shown
   played_fields values me key other lines shown steps last there (others, more, play, also) (all, plays, noted) =

@@ -21,7 +21,7 @@ use Rattle.host_code.specs.Riders.{Rider}
 use Rattle.host_code.specs.Thread.{ThreadShape}
 use Rattle.host_code.specs.Thread.Awaited.{value_of_field, acknowledgement, token_of_entry}
 use Rattle.host_code.specs.Code.{CodeShape, CodeFieldShape, halt, entry_at, field_at}
-use Rattle.host_core.specs.Host.{HostShape, Outcome, after_push, after_entering, value_in_thread, with_variables_set}
+use Rattle.host_core.specs.Host.{HostState, Outcome, after_push, after_entering, value_in_thread, with_variables_set}
 use Rattle.host_core.specs.Host.{with_variable_set, with_temporary, with_token}
 use Rattle.host_core.specs.Taking.{after_taking, after_passing, after_answer, place_of_awaiting}
 use Rattle.host_core.specs.Turn.{after_operation, after_read, after_put, after_branch, after_own_push, after_ask}
@@ -31,7 +31,7 @@ use Rattle.host_core.specs.Turn.{after_go, after_go_with, after_own_call, after_
 abbrev pub is_lasting : StackEntry → Bool
 is_lasting on_stack = not (on_stack.entry.0 == halt.0)
 
-abbrev pub without_halt : HostShape → HostShape
+abbrev pub without_halt : HostState → HostState
 without_halt host = record host { entries = filter is_lasting host.entries }
 
 abbrev pub halt_left_out : Outcome → Outcome
@@ -40,7 +40,7 @@ halt_left_out outcome = record { state = without_halt outcome.state; sent = outc
 -- ---- pushes and entries
 
 -- a push of another entry stays
-pub pushed : (host : HostShape) (entry : EntryId) (frame : FrameId) (kept : Token) → entry ≢ halt →
+pub pushed : (host : HostState) (entry : EntryId) (frame : FrameId) (kept : Token) → entry ≢ halt →
     after_push (without_halt host) entry frame kept ≡ without_halt (after_push host entry frame kept)
 pushed host entry frame kept other =
     let lasts : (entry.0 == halt.0) ≡ false = by (entry.0 == halt.0) refl in
@@ -53,14 +53,14 @@ pushed host entry frame kept other =
     by false is = refl
     by true is = absurd (other (same (grind (arith, nat_tests))))
 
-entered : (host : HostShape) (found : Option Entry) (frame : FrameId) (token : Token) →
+entered : (host : HostState) (found : Option Entry) (frame : FrameId) (token : Token) →
     after_entering (without_halt host) found frame token ≡ without_halt (after_entering host found frame token)
 entered host None frame token = refl
 entered host (Some entry) frame token = refl
 
 -- ---- instructions
 
-read_without : (host : HostShape) (thread : ThreadShape) (field : FieldId) (index : List Node)
+read_without : (host : HostState) (thread : ThreadShape) (field : FieldId) (index : List Node)
     (there : Option CodeFieldShape) →
     after_read (without_halt host) thread field index there ≡ halt_left_out (after_read host thread field index there)
 read_without host thread field index None = refl
@@ -72,7 +72,7 @@ read_without host thread field index (Some there) = by (there.host.0 == host.me.
     by true is = rw is refl
     by false is = rw is refl
 
-put_without : (host : HostShape) (thread : ThreadShape) (field : FieldId) (index value : List Node)
+put_without : (host : HostState) (thread : ThreadShape) (field : FieldId) (index value : List Node)
     (there : Option CodeFieldShape) →
     after_put (without_halt host) thread field index value there
     ≡ halt_left_out (after_put host thread field index value there)
@@ -85,7 +85,7 @@ put_without host thread field index value (Some there) = by (there.host.0 == hos
     by true is = rw is refl
     by false is = rw is refl
 
-branch_without : (host : HostShape) (thread : ThreadShape) (guard : List Node) (target : ℕ) →
+branch_without : (host : HostState) (thread : ThreadShape) (guard : List Node) (target : ℕ) →
     after_branch (without_halt host) thread guard target ≡ halt_left_out (after_branch host thread guard target)
 branch_without host thread guard target = by (int_eq (value_in_thread host thread guard) (pos 0)) refl
   where
@@ -94,42 +94,42 @@ branch_without host thread guard target = by (int_eq (value_in_thread host threa
     by true is = rw is refl
     by false is = rw is refl
 
-push_without : (host : HostShape) (thread : ThreadShape) (entry : EntryId) (held : Option Token) → entry ≢ halt →
+push_without : (host : HostState) (thread : ThreadShape) (entry : EntryId) (held : Option Token) → entry ≢ halt →
     after_own_push (without_halt host) thread entry held ≡ halt_left_out (after_own_push host thread entry held)
 push_without host thread entry None other = refl
 push_without host thread entry (Some held) other =
-    let runs : HostShape → Outcome =
+    let runs : HostState → Outcome =
     λ after. after_own_push (record after { entries = [] }) thread entry (Some held) in
-    let leaves : HostShape → Outcome = λ after. record {
+    let leaves : HostState → Outcome = λ after. record {
       state = record (runs host).state { entries = after.entries };
       sent = None;
     } in
     ap leaves (pushed host entry thread.frame held other)
 
-ask_without : (host : HostShape) (thread : ThreadShape) (entry : EntryId) (on : HostId) (held : Option Token) →
+ask_without : (host : HostState) (thread : ThreadShape) (entry : EntryId) (on : HostId) (held : Option Token) →
     after_ask (without_halt host) thread entry on held ≡ halt_left_out (after_ask host thread entry on held)
 ask_without host thread entry on None = refl
 ask_without host thread entry on (Some held) = refl
 
-go_without : (host : HostShape) (thread : ThreadShape) (frame : FrameId) (entry : EntryId) (on : HostId)
+go_without : (host : HostState) (thread : ThreadShape) (frame : FrameId) (entry : EntryId) (on : HostId)
     (held : Option Token) →
     after_go (without_halt host) thread frame entry on held ≡ halt_left_out (after_go host thread frame entry on held)
 go_without host thread frame entry on None = refl
 go_without host thread frame entry on (Some held) = refl
 
-go_with_without : (host : HostShape) (thread : ThreadShape) (frame : FrameId) (entry : EntryId) (on : HostId)
+go_with_without : (host : HostState) (thread : ThreadShape) (frame : FrameId) (entry : EntryId) (on : HostId)
     (variables : List VarId) (held : Option Token) →
     after_go_with (without_halt host) thread frame entry on variables held
     ≡ halt_left_out (after_go_with host thread frame entry on variables held)
 go_with_without host thread frame entry on variables None = refl
 go_with_without host thread frame entry on variables (Some held) = refl
 
-own_call_without : (host : HostShape) (thread : ThreadShape) (there : Option Entry) →
+own_call_without : (host : HostState) (thread : ThreadShape) (there : Option Entry) →
     after_own_call (without_halt host) thread there ≡ halt_left_out (after_own_call host thread there)
 own_call_without host thread None = refl
 own_call_without host thread (Some there) = refl
 
-call_without : (code : CodeShape) (host : HostShape) (thread : ThreadShape) (entry : EntryId) (on : HostId) →
+call_without : (code : CodeShape) (host : HostState) (thread : ThreadShape) (entry : EntryId) (on : HostId) →
     after_call code (without_halt host) thread entry on ≡ halt_left_out (after_call code host thread entry on)
 call_without code host thread entry on = by (on.0 == host.me.0) refl
   where
@@ -138,7 +138,7 @@ call_without code host thread entry on = by (on.0 == host.me.0) refl
     by true is = rw is (own_call_without host thread (entry_at code entry))
     by false is = rw is (go_without host thread thread.new_frame entry on thread.held)
 
-return_without : (host : HostShape) (thread : ThreadShape) (variable : VarId) (value : List Node)
+return_without : (host : HostState) (thread : ThreadShape) (variable : VarId) (value : List Node)
     (held : Option Token) (passes : Bool) →
     after_return (without_halt host) thread variable value held passes
     ≡ halt_left_out (after_return host thread variable value held passes)
@@ -153,24 +153,24 @@ return_without host thread variable value (Some held) passes = by (held.host.0 =
     by false is false = rw is refl
 
 -- the token is another host's
-abbrev pub GoesAway : HostShape → Option Token → Type 0
+abbrev pub GoesAway : HostState → Option Token → Type 0
 GoesAway host None = ⊤
 GoesAway host (Some held) = (held.host.0 == host.me.0) ≡ false
 
 -- what gives back a token that is not the host's own
-back_without : (code : CodeShape) (host : HostShape) (thread : ThreadShape) (held : Option Token) (passes : Bool) →
+back_without : (code : CodeShape) (host : HostState) (thread : ThreadShape) (held : Option Token) (passes : Bool) →
     GoesAway host held →
     after_back code (without_halt host) thread held passes ≡ halt_left_out (after_back code host thread held passes)
 back_without code host thread None passes away = refl
 back_without code host thread (Some held) passes away = rw away refl
 
 -- The instruction pushes no entry that ends the program, and takes none off.
-abbrev pub LeavesHalt : HostShape → Option Token → Op → Type 0
+abbrev pub LeavesHalt : HostState → Option Token → Op → Type 0
 LeavesHalt host held (op.Push entry) = entry ≢ halt
 LeavesHalt host held op.Back = GoesAway host held
 LeavesHalt host held _ = ⊤
 
-pub runs_without : (code : CodeShape) (host : HostShape) (thread : ThreadShape) (operation : Op) (passes : Bool) →
+pub runs_without : (code : CodeShape) (host : HostState) (thread : ThreadShape) (operation : Op) (passes : Bool) →
     LeavesHalt host thread.held operation →
     after_operation code (without_halt host) thread operation passes
     ≡ halt_left_out (after_operation code host thread operation passes)
@@ -199,13 +199,13 @@ runs_without code host thread (op.Branch guard target) passes leaves = branch_wi
 
 -- ---- messages
 
-riders_without : (host : HostShape) (frame : FrameId) (riders : List Rider) →
+riders_without : (host : HostState) (frame : FrameId) (riders : List Rider) →
     with_variables_set (without_halt host) frame riders ≡ without_halt (with_variables_set host frame riders)
 riders_without host frame [] = refl
 riders_without host frame (rider ∷ riders) =
     riders_without (with_variable_set host frame rider.0 rider.1) frame riders
 
-answered_without : (host : HostShape) (place : Option ℕ) (answered : ThreadShape → ThreadShape) →
+answered_without : (host : HostState) (place : Option ℕ) (answered : ThreadShape → ThreadShape) →
     after_answer (without_halt host) place answered ≡ without_halt (after_answer host place answered)
 answered_without host None answered = refl
 answered_without host (Some place) answered = refl
@@ -216,16 +216,16 @@ AsksOther (message.Lgoto token) = ⊥
 AsksOther (message.Sync request frame entry token) = entry ≢ halt
 AsksOther _ = ⊤
 
-abbrev silent : HostShape → Outcome
+abbrev silent : HostState → Outcome
 silent state = record { state = state; sent = None }
 
-takes_passing : (code : CodeShape) (host : HostShape) (from : HostId) (letter : Message) → AsksOther letter →
+takes_passing : (code : CodeShape) (host : HostState) (from : HostId) (letter : Message) → AsksOther letter →
     after_passing code (without_halt host) from letter ≡ halt_left_out (after_passing code host from letter)
 takes_passing code host from (message.Get request field index) other = refl
 takes_passing code host from (message.Set request field index value) other = refl
 takes_passing code host from (message.Forward request frame variable value) other = refl
 takes_passing code host from (message.Sync request frame entry token) other =
-    let sends : HostShape → Outcome = λ after. record {
+    let sends : HostState → Outcome = λ after. record {
       state = after;
       sent = (after_passing code host from (message.Sync request frame entry token)).sent;
     } in
@@ -243,7 +243,7 @@ takes_passing code host from (message.Ack request) other =
 takes_passing code host from (message.Token request token) other =
     ap silent (answered_without host (place_of_awaiting host token_of_entry request from) (with_token (Some token)))
 
-pub takes_without : (code : CodeShape) (host : HostShape) (from : HostId) (letter : Message) (passes : Bool) →
+pub takes_without : (code : CodeShape) (host : HostState) (from : HostId) (letter : Message) (passes : Bool) →
     (passes ≡ true → AsksOther letter) →
     after_taking code (without_halt host) from letter passes ≡ halt_left_out (after_taking code host from letter passes)
 takes_without code host from letter true other = takes_passing code host from letter (other refl)

@@ -13,7 +13,7 @@ use Rattle.ics_stack.specs.declared.stack.StackEntry.{StackEntry}
 use Rattle.host_code.specs.declared.message.Message.{Message}
 use Rattle.host_code.specs.declared.message.Message.TheVariants as message
 use Rattle.host_code.specs.Thread.{ThreadShape, WaitingShape}
-use Rattle.host_core.specs.Host.{HostShape, Outcome}
+use Rattle.host_core.specs.Host.{HostState, Outcome}
 
 abbrev pub bare_token : Token → Token
 bare_token token = record token { tag = replicate TAG_BYTES 0 }
@@ -39,7 +39,7 @@ bare_waiting waiting = record waiting { thread = bare_thread waiting.thread }
 abbrev pub bare_entry : StackEntry → StackEntry
 bare_entry entry = record entry { token = bare_token entry.token; kept = bare_token entry.kept }
 
-abbrev pub bare_host : HostShape → HostShape
+abbrev pub bare_host : HostState → HostState
 bare_host host = record host {
   key = [];
   running = option_map bare_thread host.running;

@@ -4,7 +4,7 @@ use Rattle.js_base.specs.declared.ids.FrameId.{FrameId}
 use Rattle.capability.specs.declared.tags.TheConstants.{TAG_BYTES}
 use Rattle.capability.specs.declared.token.Token.{Token}
 use Rattle.host_code.specs.Code.{halt}
-use Rattle.host_core.specs.Host.{HostShape}
+use Rattle.host_core.specs.Host.{HostState}
 
 abbrev pub frame : FrameId
 frame = record { site = record { 0 = 0 }; count = 0 }
@@ -20,7 +20,7 @@ abbrev pub wrong : Token
 wrong = token_with (replicate TAG_BYTES 8)
 
 -- host 0, on whose stack is the entry of the right token
-abbrev pub stacked : HostShape
+abbrev pub stacked : HostState
 stacked = record {
   me = record { 0 = 0 };
   key = [];
@@ -37,5 +37,5 @@ stacked = record {
 }
 
 -- the entry was taken off, which ended the program
-abbrev pub ended : HostShape
+abbrev pub ended : HostState
 ended = record stacked { entries = []; halted = true }

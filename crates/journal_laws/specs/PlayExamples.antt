@@ -11,7 +11,7 @@ use Rattle.host_code.specs.declared.message.Message.TheVariants as message
 use Rattle.host_code.specs.Code.{CodeShape, halt}
 use Rattle.host_code.specs.Thread.{ThreadShape}
 use Rattle.host_code.specs.Thread.Awaited.{value_of_field}
-use Rattle.host_core.specs.Host.{HostShape}
+use Rattle.host_core.specs.Host.{HostState}
 use Rattle.event_text.specs.Words.{Word}
 use Rattle.journal_laws.specs.BareExamples.{frame, right}
 
@@ -47,7 +47,7 @@ thread_at at temporaries =
     record { at = at; frame = frame; new_frame = frame; temporaries = temporaries; held = Some right }
 
 -- before the question
-abbrev pub asking : HostShape
+abbrev pub asking : HostState
 asking = record {
   me = host_a;
   key = [];
@@ -67,7 +67,7 @@ abbrev pub request : RequestId
 request = record { at = 0; count = 0 }
 
 -- behind it
-abbrev pub waiting_for : HostShape
+abbrev pub waiting_for : HostState
 waiting_for = record asking {
   running = None;
   waiting = record { thread = thread_at 1 []; awaited = value_of_field; request = request; asked = host_b } ∷ [];
@@ -78,7 +78,7 @@ abbrev pub answer : Message
 answer = message.Value request (pos 7)
 
 -- and behind the answer
-abbrev pub answered : HostShape
+abbrev pub answered : HostState
 answered = record asking {
   running = Some (thread_at 1 (pos 7 ∷ []));
   requests = 1 ∷ [];

@@ -12,7 +12,7 @@ use Rattle.js_base.specs.declared.ids.HostId.{HostId}
 use Rattle.host_code.specs.declared.message.Message.{Message}
 use Rattle.host_code.specs.Code.{CodeShape}
 use Rattle.host_core.specs.Fits.{StateFits}
-use Rattle.host_core.specs.Host.{HostShape, Outcome}
+use Rattle.host_core.specs.Host.{HostState, Outcome}
 use Rattle.host_core.specs.Start.{host_at_start}
 use Rattle.host_core.specs.Told.{IsOpenTaking, IsOpenTurn, IsToldTaking, IsToldTurn, told_key, with_wrong_tags}
 use Rattle.event_text.specs.declared.lines.Line.{Line}
@@ -20,7 +20,7 @@ use Rattle.event_text.specs.Lines.{words}
 use Rattle.event_text.specs.JournalText.{IsSendLine, sent_words, turn_words}
 use Rattle.event_text.specs.Words.{Word}
 use Rattle.record_merge.specs.JournalLines.{journal_of}
-use Rattle.journal_laws.specs.Plays.{AreNotedOf, HaveOwnNames, IsJournalOf, MayStep, step_words}
+use Rattle.journal_laws.specs.Plays.{AreNotedOf, HaveOwnNames, IsJournalOf, MayMakeStep, step_words}
 use Rattle.journal_laws.specs.Steps.{Step, takes, turns}
 use Rattle.journal_laws.specs.ToldPlays.{ByNext, IsBarred, IsChosenStep, IsPlayed, IsPlayedBefore, IsToldStep}
 use Rattle.journal_laws.specs.ToldPlays.{ToldPlays, TurnsNext}
@@ -28,8 +28,9 @@ use Rattle.journal_laws.proofs.AlikeSteps.{open_taken, open_turned}
 use Rattle.journal_laws.proofs.AlikeMoves.{chosen_told}
 use Rattle.journal_player.specs.declared.player.PlayError.{PlayError}
 use Rattle.journal_player.specs.declared.player.PlayError.TheVariants as error
-use Rattle.journal_player.specs.Playing.{IsBehind, Makes, MakesTake, MakesTurn, IsBadLine, IsBadNext, IsPlayError}
-use Rattle.journal_player.specs.Playing.{IsRefusal}
+use Rattle.journal_player.specs.Playing.{IsLeftBehindStep, Makes, MakesTake, MakesTurn, IsBadLine, IsBadNext}
+use Rattle.journal_player.specs.Playing.{IsPlayError}
+use Rattle.journal_player.specs.Playing.{IsPlayRefusal}
 
 -- ---- the lines of a slice
 
@@ -60,7 +61,7 @@ still_within lines place more within few =
 -- ---- one step
 
 -- what is told whether an open message passes is what is told of the step
-pub chosen_taking : (code : CodeShape) (host : HostShape) (from : HostId) (message : Message) (passes is_open : Bool)
+pub chosen_taking : (code : CodeShape) (host : HostState) (from : HostId) (message : Message) (passes is_open : Bool)
     (outcome : Outcome) (others : List (List Word)) →
     (IsTrue is_open ↔ IsOpenTaking host (with_wrong_tags message)) → (IsTrue passes ↔ TurnsNext others) →
     IsToldTaking code host from (with_wrong_tags message) passes outcome →
@@ -71,7 +72,7 @@ chosen_taking code host from message passes false outcome others says next told 
     let closed : ¬ IsOpenTaking host (with_wrong_tags message) = λ is. false≢true (says.1 is) in
     inr (closed, told.1 closed)
 
-pub chosen_turn : (code : CodeShape) (host : HostShape) (passes is_open : Bool) (outcome : Outcome)
+pub chosen_turn : (code : CodeShape) (host : HostState) (passes is_open : Bool) (outcome : Outcome)
     (others : List (List Word)) → (IsTrue is_open ↔ IsOpenTurn code host) → (IsTrue passes ↔ TurnsNext others) →
     IsToldTurn code host passes outcome → IsChosenStep (ByNext others) code host turns outcome
 chosen_turn code host passes true outcome others says next told =
@@ -80,29 +81,29 @@ chosen_turn code host passes false outcome others says next told =
     let closed : ¬ IsOpenTurn code host = λ is. false≢true (says.1 is) in
     inr (closed, told.1 closed)
 
-pub makes_turn : (code : CodeShape) (host : HostShape) (line : List Word) (sent : Option (HostId × Message))
-    (after : HostShape) (others : List (List Word)) → line ≡ turn_words → MakesTurn code host sent after others →
+pub makes_turn : (code : CodeShape) (host : HostState) (line : List Word) (sent : Option (HostId × Message))
+    (after : HostState) (others : List (List Word)) → line ≡ turn_words → MakesTurn code host sent after others →
     Makes code host line sent after others
 makes_turn code host line sent after others is made =
     record { step = turns; line_is = is; may = made.runs; told = made.told }
 
-pub makes_take : (code : CodeShape) (host : HostShape) (line : List Word) (sent : Option (HostId × Message))
-    (after : HostShape) (others : List (List Word)) → MakesTake code host line sent after others →
+pub makes_take : (code : CodeShape) (host : HostState) (line : List Word) (sent : Option (HostId × Message))
+    (after : HostState) (others : List (List Word)) → MakesTake code host line sent after others →
     Makes code host line sent after others
 makes_take code host line sent after others made =
     record { step = takes made.from made.message; line_is = made.line_is; may = made.may; told = made.told }
 
 -- An open step sends nothing, so the lines behind it are those that it was chosen by.
 none_sent : (code : CodeShape) (sent : Option (HostId × Message)) (rest left : List (List Word)) → None ≡ sent →
-    IsBehind (sent_words code sent) rest left → rest ≡ left
+    IsLeftBehindStep (sent_words code sent) rest left → rest ≡ left
 none_sent code None rest left none (inl same) = same
 none_sent code None rest left none (inr (empty, ended, (one, is, said))) =
     absurd (let clash : ◌≡◌ {A = List (List Word)} [] (one ∷ []) = said in cc)
 none_sent code (Some sent) rest left none behind = absurd cc
 
-chosen_left : (code : CodeShape) (host : HostShape) (step : Step) (sent : Option (HostId × Message))
-    (after : HostShape) (rest left : List (List Word)) → StateFits code host → MayStep code host step →
-    IsBehind (sent_words code sent) rest left →
+chosen_left : (code : CodeShape) (host : HostState) (step : Step) (sent : Option (HostId × Message))
+    (after : HostState) (rest left : List (List Word)) → StateFits code host → MayMakeStep code host step →
+    IsLeftBehindStep (sent_words code sent) rest left →
     IsChosenStep (ByNext rest) code host step (record { state = after; sent = sent }) →
     IsChosenStep (ByNext left) code host step (record { state = after; sent = sent })
 chosen_left code host turns sent after rest left fits may behind (inl (passes, next, unsure, is)) =
@@ -122,7 +123,7 @@ chosen_left code host (takes from letter) sent after rest left fits may behind (
 
 -- The lines before the place were played, and those of the steps are all of them, or these and one of what was sent
 -- that is missing at the end.
-pub record IsPlayedTo (code : CodeShape) (start : HostShape) (lines : List (List Word)) (place : ℕ) (host : HostShape) :
+pub record IsPlayedTo (code : CodeShape) (start : HostState) (lines : List (List Word)) (place : ℕ) (host : HostState) :
     Type 0 where
   pub steps : List Step
   pub all : List (List Word)
@@ -131,7 +132,7 @@ pub record IsPlayedTo (code : CodeShape) (start : HostShape) (lines : List (List
       ⊎ ((drop place lines ≡ []) × ((sent : List Word) × IsSendLine sent × (all ≡ lines ++ sent ∷ [])))
   pub chosen : IsPlayedBefore code start all (drop place lines) host
 
-pub none_played : (code : CodeShape) (start : HostShape) (lines : List (List Word)) →
+pub none_played : (code : CodeShape) (start : HostState) (lines : List (List Word)) →
     IsPlayedTo code start lines 0 start
 none_played code start lines = record {
   steps = [];
@@ -142,8 +143,8 @@ none_played code start lines = record {
 }
 
 -- one step more
-plays_more : (code : CodeShape) (steps : List Step) (start host : HostShape) (all : List (List Word))
-    (line : List Word) (sent : Option (HostId × Message)) (after : HostShape) (others : List (List Word)) →
+plays_more : (code : CodeShape) (steps : List Step) (start host : HostState) (all : List (List Word))
+    (line : List Word) (sent : Option (HostId × Message)) (after : HostState) (others : List (List Word)) →
     ToldPlays code start steps host all → (makes : Makes code host line sent after others) →
     ToldPlays code start (steps ++ makes.step ∷ []) after
     (all ++ step_words code makes.step ∷ (sent_words code sent ++ []))
@@ -151,7 +152,7 @@ plays_more code [] start host all line sent after others plays makes =
     let done : Outcome = record { state = after; sent = sent } in (
       done,
       [],
-      subst (λ one. MayStep code one makes.step) (sym plays.0) makes.may,
+      subst (λ one. MayMakeStep code one makes.step) (sym plays.0) makes.may,
       subst (λ one. IsToldStep code one makes.step done) (sym plays.0)
           (chosen_told code (ByNext others) host makes.step done makes.told),
       (refl, refl),
@@ -169,11 +170,11 @@ plays_more code (step ∷ steps) start host all line sent after others (outcome,
           (append_assoc (sent_words code outcome.sent) later behind),
     )
 
-pub played_more : (code : CodeShape) (start host after : HostShape) (lines rest : List (List Word))
+pub played_more : (code : CodeShape) (start host after : HostState) (lines rest : List (List Word))
     (place next more : ℕ) (line : List Word) (sent : Option (HostId × Message)) →
     IsPlayedTo code start lines place host → drop place lines ≡ line ∷ rest → next ≡ place + (1 + more) →
     StateFits code host → Makes code host line sent after rest →
-    IsBehind (sent_words code sent) rest (drop more rest) → IsPlayedTo code start lines next after
+    IsLeftBehindStep (sent_words code sent) rest (drop more rest) → IsPlayedTo code start lines next after
 played_more code start host after lines rest place next more line sent played here count fits makes behind =
     record {
       steps = played.steps ++ makes.step ∷ [];
@@ -203,7 +204,7 @@ played_more code start host after lines rest place next more line sent played he
     by : (lines ≡ played.all ++ drop place lines)
         ⊎ ((drop place lines ≡ [])
         × ((sent : List Word) × IsSendLine sent × (played.all ≡ lines ++ sent ∷ []))) →
-        IsBehind (sent_words code sent) rest (drop more rest) →
+        IsLeftBehindStep (sent_words code sent) rest (drop more rest) →
         (lines ≡ (played.all ++ step_words code makes.step ∷ (sent_words code sent ++ [])) ++ drop next lines)
         ⊎ ((drop next lines ≡ []) × ((other : List Word) × IsSendLine other
         × ((played.all ++ step_words code makes.step ∷ (sent_words code sent ++ [])) ≡ lines ++ other ∷ [])))
@@ -233,7 +234,7 @@ played_more code start host after lines rest place next more line sent played he
           ),
         )
 
-pub played_whole : (code : CodeShape) (start host : HostShape) (of : List Line) (place : ℕ) → length of ≤ place →
+pub played_whole : (code : CodeShape) (start host : HostState) (of : List Line) (place : ℕ) → length of ≤ place →
     IsPlayedTo code start (journal_of of) place host → IsPlayed code start (journal_of of) host
 played_whole code start host of place ended played = (played.steps, played.all, played.plays, by played.left)
   where
@@ -254,8 +255,8 @@ played_whole code start host of place ended played = (played.steps, played.all, 
 
 -- ---- a line by which the host does not go on
 
-pub bad_next : {X : Type 0} (code : CodeShape) (host : HostShape) (line : Line) (others : List Line)
-    (sent : Option (HostId × Message)) (after : HostShape) (result : Result X PlayError) →
+pub bad_next : {X : Type 0} (code : CodeShape) (host : HostState) (line : Line) (others : List Line)
+    (sent : Option (HostId × Message)) (after : HostState) (result : Result X PlayError) →
     Makes code host (words line.bytes.now) sent after (journal_of others) →
     IfErr result (IsBadNext (sent_words code sent) others) →
     IfErr result (IsBadLine code host line others)
@@ -264,7 +265,7 @@ bad_next code host line others sent after (Err error.OutOfMemory) makes bad = ba
 bad_next code host line others sent after (Err (error.NoRun number)) makes bad = inr (sent, after, makes, bad)
 
 -- where lines are left, those of the steps are the lines before the place
-all_before : (code : CodeShape) (start host : HostShape) (lines : List Line) (place : ℕ) (other : Line) →
+all_before : (code : CodeShape) (start host : HostState) (lines : List Line) (place : ℕ) (other : Line) →
     place < length lines → (played : IsPlayedTo code start (journal_of lines) place host) →
     played.all ≡ journal_of (take place lines)
 all_before code start host lines place other within played = by played.left
@@ -280,8 +281,8 @@ all_before code start host lines place other within played = by played.left
     by (inr (none, missing)) = absurd (let clash = sym none ∙ line_here lines place other within in cc)
 
 -- the first of the lines behind is enough
-first_counts : (code : CodeShape) (start : HostShape) (lines : List (List Word)) (line : List Word)
-    (rest : List (List Word)) (last : HostShape) → IsPlayedBefore code start lines (line ∷ rest) last →
+first_counts : (code : CodeShape) (start : HostState) (lines : List (List Word)) (line : List Word)
+    (rest : List (List Word)) (last : HostState) → IsPlayedBefore code start lines (line ∷ rest) last →
     IsPlayedBefore code start lines (line ∷ []) last
 first_counts code start lines line rest last (inl none) = inl none
 first_counts code start lines line rest last (inr played) = inr (record {
@@ -305,10 +306,10 @@ said_send code (Some sent) said is = subst IsSendLine (ap (first_or said) is) re
     first_or none [] = none
     first_or none (line ∷ lines) = line
 
-pub refused_by : (code : CodeShape) (start host : HostShape) (lines : List Line) (place : ℕ) (other : Line)
+pub refused_by : (code : CodeShape) (start host : HostState) (lines : List Line) (place : ℕ) (other : Line)
     (why : PlayError) → place < length lines → IsPlayedTo code start (journal_of lines) place host →
     IsBadLine code host (get_or lines place other) (take (length lines - (place + 1)) (drop (place + 1) lines)) why →
-    IsRefusal code start lines why
+    IsPlayRefusal code start lines why
 refused_by code start host lines place other error.OutOfMemory within played bad = bad
 refused_by code start host lines place other (error.NoRun number) within played (inl (number_is, none)) =
     let before = all_before code start host lines place other within played in
@@ -377,13 +378,13 @@ refused_by code start host lines place other (error.NoRun number) within played 
 -- by the laws: no host has the lines in front and the one that bars the way, and some host has what was played
 pub play_error : (code : CodeShape) (values : List (List ℤ)) (me : HostId) (lines : List Line) (why : PlayError) →
     (HaveOwnNames code → (key : List ℕ) (front : List (List Word)) (line : List Word) (steps : List Step)
-    (last : HostShape) → IsBarred code (host_at_start code values told_key me) front line →
+    (last : HostState) → IsBarred code (host_at_start code values told_key me) front line →
     ¬ IsJournalOf code (host_at_start code values key me) (front ++ line ∷ []) steps last) →
-    (HaveOwnNames code → (front : List (List Word)) (shown : HostShape) →
+    (HaveOwnNames code → (front : List (List Word)) (shown : HostState) →
     IsPlayed code (host_at_start code values told_key me) front shown →
-    (key : List ℕ) × (steps : List Step) × (last : HostShape)
+    (key : List ℕ) × (steps : List Step) × (last : HostState)
     × IsJournalOf code (host_at_start code values key me) front steps last × (last.rows ≡ shown.rows)) →
-    IsRefusal code (host_at_start code values told_key me) lines why → IsPlayError code values me lines why
+    IsPlayRefusal code (host_at_start code values told_key me) lines why → IsPlayError code values me lines why
 play_error code values me lines error.OutOfMemory barred real refused = tt
 play_error code values me lines (error.NoRun number) barred real refused = λ own. record {
   front = refused.front;

@@ -9,7 +9,7 @@ use Rattle.host_code.specs.Code.{CodeShape}
 use Rattle.host_code.specs.Messages.{MessageFits}
 use Rattle.host_code.specs.MessageText.{host_text, message_text}
 use Rattle.host_code.specs.Sound.{IsSoundCode, IsHost}
-use Rattle.host_core.specs.Host.{HostShape}
+use Rattle.host_core.specs.Host.{HostState}
 use Rattle.event_text.specs.declared.event.BadMessage.{BadMessage}
 use Rattle.event_text.specs.Acts.{printed_message}
 use Rattle.event_text.specs.JournalText.{take_words, turn_words}
@@ -65,7 +65,7 @@ taken_again code from letter sound own there fits real =
     ∙ ap (λ said. pair (Some from) said) (message_again code sound own letter fits real)
     ∙ ap (λ (said : Option Message). of_two couple (Some from) said) (letter_back letter)
 
-pub untaken : (code : CodeShape) (host : HostShape) (line : List Word) → IsSoundCode code → line ≢ turn_words →
+pub untaken : (code : CodeShape) (host : HostState) (line : List Word) → IsSoundCode code → line ≢ turn_words →
     taken_of code line ≡ None → LacksStep code host line
 untaken code host line sound turn none own turns may is = turn is
 untaken code host line sound turn none own (takes from letter) may is =
@@ -89,7 +89,7 @@ second_of_two {X = X} {Y = Y} one other two second same = ap (read two) same
     read none None = none
     read none (Some pair) = pair.1
 
-pub barred : (code : CodeShape) (host : HostShape) (line : List Word) (from : HostId) (letter : Message) →
+pub barred : (code : CodeShape) (host : HostState) (line : List Word) (from : HostId) (letter : Message) →
     IsSoundCode code → line ≢ turn_words → taken_of code line ≡ Some (from, letter) → ¬ CanTake code host from letter →
     LacksStep code host line
 barred code host line from letter sound turn read cannot own turns may is = turn is
@@ -105,7 +105,7 @@ barred code host line from letter sound turn read cannot own (takes other second
     cannot (subst (λ one. CanTake code host one letter) (first_of_two _ _ _ _ same)
     (subst (λ one. CanTake code host other one) (second_of_two _ _ _ _ same) can))
 
-pub unlike : (code : CodeShape) (host : HostShape) (line : List Word) (from : HostId) (letter : Message) →
+pub unlike : (code : CodeShape) (host : HostState) (line : List Word) (from : HostId) (letter : Message) →
     IsSoundCode code → line ≢ turn_words → taken_of code line ≡ Some (from, letter) →
     line ≢ take_words code from letter → LacksStep code host line
 unlike code host line from letter sound turn read cannot own turns may is = turn is

@@ -8,7 +8,7 @@ ghost use Rattle.host_code.specs.Messages.{MessageFits};
 ghost use Rattle.host_code.specs.Sound.{IsHost, IsSoundCode};
 ghost use Rattle.host_core.specs.declared.host.TheConstants.{MOST_CALLS};
 ghost use Rattle.host_core.specs.Fits.{HostFits, SentFits};
-ghost use Rattle.host_core.specs.Host.{HostShape, state_of};
+ghost use Rattle.host_core.specs.Host.{HostState, state_of};
 ghost use Rattle.host_core.specs.Start.{host_at_start};
 ghost use Rattle.host_core.specs.Told.{told_key};
 ghost use Rattle.event_text.specs.JournalText.{sent_words, take_words, turn_words};
@@ -17,8 +17,8 @@ ghost use Rattle.record_merge.specs.JournalLines.{journal_of};
 ghost use Rattle.journal_laws.specs.Plays.{HaveOwnNames, IsJournalOf, MayTake};
 ghost use Rattle.journal_laws.specs.Steps.{Step};
 ghost use Rattle.journal_laws.specs.ToldPlays.{IsPlayed, TurnsNext};
-ghost use Rattle.journal_player.specs.Playing.{AnswersOn, IsBehind, Makes, MakesTurn, MakesTake};
-ghost use Rattle.journal_player.specs.Playing.{CanTake, IsBadLine, IsBadNext, IsBadStep, IsPlayError, IsRefusal};
+ghost use Rattle.journal_player.specs.Playing.{AnswersOn, IsLeftBehindStep, Makes, MakesTurn, MakesTake};
+ghost use Rattle.journal_player.specs.Playing.{CanTake, IsBadLine, IsBadNext, IsBadStep, IsPlayError, IsPlayRefusal};
 ghost use Rattle.journal_player.specs.Playing.{LacksStep};
 
 use crate::letters::taken;
@@ -67,12 +67,12 @@ pub fn play(
     requires few { length lines.now < MOST_CALLS }
     ensures played { IfOk result (λ host. IsPlayed code.now (host_at_start code.now store.now told_key me)
         (journal_of lines.now) (state_of host)) }
-    ensures fields { IfOk result (λ host. (key : List ℕ) (steps : List Step) (last : HostShape) →
+    ensures fields { IfOk result (λ host. (key : List ℕ) (steps : List Step) (last : HostState) →
         HaveOwnNames code.now →
         IsJournalOf code.now (host_at_start code.now store.now key me) (journal_of lines.now) steps last →
         last.rows ≡ host.stores.rows) }
     ensures real { IfOk result (λ host. HaveOwnNames code.now →
-        (key : List ℕ) × (steps : List Step) × (last : HostShape)
+        (key : List ℕ) × (steps : List Step) × (last : HostState)
         × IsJournalOf code.now (host_at_start code.now store.now key me) (journal_of lines.now) steps last
         × (last.rows ≡ host.stores.rows)) }
     ensures refused { IfErr result (IsPlayError code.now store.now me lines.now) }
@@ -101,7 +101,7 @@ fn play_all(
     requires few { length lines.now < MOST_CALLS }
     ensures played { IfOk result (λ host. IsPlayed code.now (host_at_start code.now store.now told_key me)
         (journal_of lines.now) (state_of host)) }
-    ensures refused { IfErr result (IsRefusal code.now (host_at_start code.now store.now told_key me) lines.now) }
+    ensures refused { IfErr result (IsPlayRefusal code.now (host_at_start code.now store.now told_key me) lines.now) }
 {
     let mut host = ToldHost::start(alloc, code, me, store)?;
     let mut place = 0;
@@ -130,7 +130,7 @@ fn play_line(
     ensures made { IfOk result (λ more. (sent : Option (HostId × Message))
         × Makes code.now (state_of host.old) (words line.entry.bytes.now) sent (state_of host.new)
         (journal_of others.now)
-        × IsBehind (sent_words code.now sent) (journal_of others.now) (drop more (journal_of others.now))) }
+        × IsLeftBehindStep (sent_words code.now sent) (journal_of others.now) (drop more (journal_of others.now))) }
     ensures few { IfOk result (λ more. more ≤ length others.now) }
     ensures refused { IfErr result (IsBadLine code.now (state_of host.old) line.entry others.now) }
     ensures fits { HostFits code.now host.new }
@@ -267,7 +267,7 @@ fn behind_step(
 ) -> Result<usize, PlayError>
     requires { IfSome sent (λ letter. MessageFits code.now letter.1) }
     ensures behind { IfOk result (λ more.
-        IsBehind (sent_words code.now sent) (journal_of others.now) (drop more (journal_of others.now))) }
+        IsLeftBehindStep (sent_words code.now sent) (journal_of others.now) (drop more (journal_of others.now))) }
     ensures few { IfOk result (λ more. more ≤ length others.now) }
     ensures refused { IfErr result (IsBadNext (sent_words code.now sent) others.now) }
 {

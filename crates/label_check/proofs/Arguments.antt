@@ -16,7 +16,7 @@ use Rattle.jif_tree.specs.LabelRules.{Constraint, MethodSetting, VariableLabels,
 use Rattle.jif_tree.specs.LabelRules.{argument_flows, expr_constraints, call_constraints, may_begin, begin_label}
 use Rattle.jif_tree.specs.LabelRules.{params_of, result_of, result_flows}
 use Rattle.label_check.specs.declared.check_error.CheckError.{CheckError}
-use Rattle.label_check.specs.Parts.{asked, AreMet, Refuses, flows_to_params}
+use Rattle.label_check.specs.Parts.{asked, AreMet, RefusesFor, flows_to_params}
 use Rattle.label_check.proofs.Asked.{none_met, asked_met, asked_before, asked_behind, both_met, refused_before}
 use Rattle.label_check.proofs.Asked.{refused_behind}
 use Rattle.label_check.proofs.Exits.{then_met, then_refused, then_all_met, then_all_refused}
@@ -39,16 +39,16 @@ split_at args place d within =
 pub arg_refused : {principals : Declared} (statement : StmtId) (asks : ExprTree → List Constraint) (args : List Expr)
     (place : ℕ) (arg : Expr) {why : CheckError} → place < length args → arg ≡ get_or args place arg →
     AreMet principals (asked statement (asked_for_all asks (take place args))) →
-    Refuses principals (asked statement (asks (expr_tree arg))) why →
-    Refuses principals (asked statement (asked_for_all asks args)) why
+    RefusesFor principals (asked statement (asks (expr_tree arg))) why →
+    RefusesFor principals (asked statement (asked_for_all asks args)) why
 arg_refused {principals} statement asks args place d {why} within is so_far next =
-    let Q : List Constraint → Type 0 = λ all. Refuses principals (asked statement all) why in
+    let Q : List Constraint → Type 0 = λ all. RefusesFor principals (asked statement all) why in
     subst Q (sym (ap (asked_for_all asks) (split_at args place d within)
     ∙ asked_for_both asks (take place args) (get_or args place d ∷ drop (suc place) args)))
     (asked_behind statement (asked_for_all asks (take place args))
     (asked_for_all asks (get_or args place d ∷ drop (suc place) args)) so_far
     (asked_before statement (asks (expr_tree (get_or args place d))) (asked_for_all asks (drop (suc place) args))
-    (subst (λ (arg : Expr). Refuses principals (asked statement (asks (expr_tree arg))) why) is next)))
+    (subst (λ (arg : Expr). RefusesFor principals (asked statement (asks (expr_tree arg))) why) is next)))
 
 -- ---- flows to parameters
 
@@ -56,8 +56,8 @@ arg_refused {principals} statement asks args place d {why} within is so_far next
 pub record FlowsFrom (statement : StmtId) (all left : List Constraint) : Type 0 where
   pub met : (principals : Declared) → AreMet principals (asked statement left) →
       AreMet principals (asked statement all)
-  pub refused : (principals : Declared) (why : CheckError) → Refuses principals (asked statement left) why →
-      Refuses principals (asked statement all) why
+  pub refused : (principals : Declared) (why : CheckError) → RefusesFor principals (asked statement left) why →
+      RefusesFor principals (asked statement all) why
 
 pub all_left : (statement : StmtId) (all : List Constraint) → FlowsFrom statement all all
 all_left statement all = record { met = λ principals met. met; refused = λ principals why refused. refused }
@@ -74,8 +74,8 @@ one_less {statement} {all} {left} one from met = record {
 -- the next is refused
 pub next_refused : {statement : StmtId} {all left : List Constraint} (one : Constraint) {why : CheckError} →
     FlowsFrom statement all (one ∷ left) →
-    ((principals : Declared) → Refuses principals (asked statement (one ∷ [])) why) →
-    (principals : Declared) → Refuses principals (asked statement all) why
+    ((principals : Declared) → RefusesFor principals (asked statement (one ∷ [])) why) →
+    (principals : Declared) → RefusesFor principals (asked statement all) why
 next_refused {statement} {all} {left} one {why} from refused principals =
     from.refused principals why (refused_before (asked statement left) (refused principals))
 
@@ -108,9 +108,9 @@ flows_less statement pc labels all given params d e one also from met =
 pub flows_refused : (statement : StmtId) (pc : Label) (labels : VariableLabels) (all : List Constraint)
     (given : List Label) (params : List VarId) (d : Label) (e : VarId) {why : CheckError} → 1 ≤ length given →
     1 ≤ length params → FlowsFrom statement all (flows_to_params pc labels given params) →
-    ((principals : Declared) → Refuses principals
+    ((principals : Declared) → RefusesFor principals
     (asked statement (flow_of pc (get_or given 0 d) (variable_label labels (get_or params 0 e)) ∷ [])) why) →
-    (principals : Declared) → Refuses principals (asked statement all) why
+    (principals : Declared) → RefusesFor principals (asked statement all) why
 flows_refused statement pc labels all given params d e one also from refused =
     next_refused (flow_of pc (get_or given 0 d) (variable_label labels (get_or params 0 e)))
     (subst (FlowsFrom statement all) (next_flow pc labels given params d e one also) from) refused
@@ -161,8 +161,8 @@ pub begin_refused : {principals : Declared} (statement : StmtId) (setting : Meth
     (labels : VariableLabels) (called : Option MethodTree) (trees : List ExprTree) (into : Option VarId)
     {why : CheckError} →
     AreMet principals (asked statement (flat_map (expr_constraints setting pc labels) trees)) →
-    Refuses principals (asked statement (may_begin pc (begin_label called) ∷ [])) why →
-    Refuses principals (asked statement (call_asks setting pc labels called trees into)) why
+    RefusesFor principals (asked statement (may_begin pc (begin_label called) ∷ [])) why →
+    RefusesFor principals (asked statement (call_asks setting pc labels called trees into)) why
 begin_refused statement setting pc labels called trees into met refused =
     let flows = argument_flows setting pc labels trees (params_of called) in
     asked_behind statement (flat_map (expr_constraints setting pc labels) trees)
@@ -176,9 +176,9 @@ pub argument_refused : {principals : Declared} (statement : StmtId) (setting : M
     {why : CheckError} →
     AreMet principals (asked statement (flat_map (expr_constraints setting pc labels) trees)) →
     AreMet principals (asked statement (may_begin pc (begin_label called) ∷ [])) →
-    Refuses principals (asked statement
+    RefusesFor principals (asked statement
     (flows_to_params pc labels (map (expr_label setting pc labels) trees) (params_of called))) why →
-    Refuses principals (asked statement (call_asks setting pc labels called trees into)) why
+    RefusesFor principals (asked statement (call_asks setting pc labels called trees into)) why
 argument_refused {principals} statement setting pc labels called trees into {why} met begins refused =
     let flows = argument_flows setting pc labels trees (params_of called) in
     asked_behind statement (flat_map (expr_constraints setting pc labels) trees)
@@ -186,7 +186,7 @@ argument_refused {principals} statement setting pc labels called trees into {why
     (asked_before statement (may_begin pc (begin_label called) ∷ flows)
     (result_flows pc labels (result_of called) into)
     (asked_behind statement (may_begin pc (begin_label called) ∷ []) flows begins
-    (subst (λ (all : List Constraint). Refuses principals (asked statement all) why)
+    (subst (λ (all : List Constraint). RefusesFor principals (asked statement all) why)
     (sym (flows_by_labels setting pc labels trees (params_of called))) refused)))
 
 -- the begin label and the flows of the arguments are in order
@@ -229,8 +229,8 @@ pub call_refused : {T : Type 0} {principals : Declared} (statement : StmtId) (se
     ((others : Declared) → AreMet others (asked statement
     (flows_to_params pc labels (map (expr_label setting pc labels) trees) (params_of called)))) →
     IfErr result (λ why. (others : Declared) →
-    Refuses others (asked statement (result_flows pc labels (result_of called) into)) why) →
-    IfErr result (Refuses principals (asked statement (call_asks setting pc labels called trees into)))
+    RefusesFor others (asked statement (result_flows pc labels (result_of called) into)) why) →
+    IfErr result (RefusesFor principals (asked statement (call_asks setting pc labels called trees into)))
 call_refused statement setting pc labels called trees into result met begins flow last =
     then_refused statement (flat_map (expr_constraints setting pc labels) trees)
     (call_constraints setting pc labels called trees into) result met

@@ -12,7 +12,7 @@ use Rattle.jif_tree.specs.LabelRules.{may_release, trusted, may_endorse, may_beg
 use Rattle.label_check.specs.declared.check_error.CheckError.{CheckError}
 use Rattle.label_check.specs.declared.check_error.CheckError.TheVariants as error
 use Rattle.label_check.specs.Checking.{IsRefusedAmong}
-use Rattle.label_check.specs.Parts.{asked, AreMet, Refuses}
+use Rattle.label_check.specs.Parts.{asked, AreMet, RefusesFor}
 
 pub none_met : (principals : Declared) → AreMet principals []
 none_met principals = record { each = All-nil (Meets principals) }
@@ -58,12 +58,12 @@ handed same (error.NoAuthority statement) refused = (refused.0, same refused.0 r
 handed same (error.WeakProgramLabel statement) refused = (refused.0, same refused.0 refused.1, refused.2)
 
 pub refused_before : {principals : Declared} {first : List Obligation} (second : List Obligation) {why : CheckError} →
-    Refuses principals first why → Refuses principals (first ++ second) why
+    RefusesFor principals first why → RefusesFor principals (first ++ second) why
 refused_before second {why} refused =
     record { among = handed (λ failed failure. fails_before second failure) why refused.among }
 
 pub refused_behind : {principals : Declared} {first second : List Obligation} {why : CheckError} →
-    AreMet principals first → Refuses principals second why → Refuses principals (first ++ second) why
+    AreMet principals first → RefusesFor principals second why → RefusesFor principals (first ++ second) why
 refused_behind {why = why} met refused =
     record { among = handed (λ failed failure. fails_behind met failure) why refused.among }
 
@@ -78,7 +78,7 @@ first_fails principals failed behind fails = record {
   fails = fails;
 }
 
-pub no_memory : (principals : Declared) (all : List Obligation) → Refuses principals all error.OutOfMemory
+pub no_memory : (principals : Declared) (all : List Obligation) → RefusesFor principals all error.OutOfMemory
 no_memory principals all = record { among = tt }
 
 -- ---- the same of what one statement asks for
@@ -97,43 +97,43 @@ asked_met {principals} statement first second met also =
     subst Q (sym (asked_append statement first second)) (both_met met also)
 
 pub asked_before : {principals : Declared} (statement : StmtId) (first : List Constraint)
-    (second : List Constraint) {why : CheckError} → Refuses principals (asked statement first) why →
-    Refuses principals (asked statement (first ++ second)) why
+    (second : List Constraint) {why : CheckError} → RefusesFor principals (asked statement first) why →
+    RefusesFor principals (asked statement (first ++ second)) why
 asked_before {principals} statement first second {why} refused =
-    let Q : List Obligation → Type 0 = λ all. Refuses principals all why in
+    let Q : List Obligation → Type 0 = λ all. RefusesFor principals all why in
     subst Q (sym (asked_append statement first second)) (refused_before (asked statement second) refused)
 
 pub asked_behind : {principals : Declared} (statement : StmtId) (first second : List Constraint) {why : CheckError} →
-    AreMet principals (asked statement first) → Refuses principals (asked statement second) why →
-    Refuses principals (asked statement (first ++ second)) why
+    AreMet principals (asked statement first) → RefusesFor principals (asked statement second) why →
+    RefusesFor principals (asked statement (first ++ second)) why
 asked_behind {principals} statement first second {why} met refused =
-    let Q : List Obligation → Type 0 = λ all. Refuses principals all why in
+    let Q : List Obligation → Type 0 = λ all. RefusesFor principals all why in
     subst Q (sym (asked_append statement first second)) (refused_behind met refused)
 
 -- ---- one refusal for each kind of constraint
 
 pub no_flow : (principals : Declared) (statement : StmtId) (from to : Label) → ¬ Flows from to →
-    Refuses principals (asked statement (may_flow from to ∷ [])) (error.BadFlow statement from to)
+    RefusesFor principals (asked statement (may_flow from to ∷ [])) (error.BadFlow statement from to)
 no_flow principals statement from to fails = record { among = (_, first_fails principals _ [] fails, refl) }
 
 pub no_begin : (principals : Declared) (statement : StmtId) (pc begin : Label) → ¬ Flows pc begin →
-    Refuses principals (asked statement (may_begin pc begin ∷ [])) (error.BadBegin statement pc begin)
+    RefusesFor principals (asked statement (may_begin pc begin ∷ [])) (error.BadBegin statement pc begin)
 no_begin principals statement pc begin fails = record { among = (_, first_fails principals _ [] fails, refl) }
 
 pub no_endorsement : (principals : Declared) (statement : StmtId) (authority : List PrincipalId) (from to : Label) →
     ¬ Holds principals (may_endorse authority from to) →
-    Refuses principals (asked statement (may_endorse authority from to ∷ [])) (error.NoAuthority statement)
+    RefusesFor principals (asked statement (may_endorse authority from to ∷ [])) (error.NoAuthority statement)
 no_endorsement principals statement authority from to fails =
     record { among = (_, first_fails principals _ [] fails, (refl, inr (authority, from, to, refl))) }
 
 pub no_release : (principals : Declared) (statement : StmtId) (authority : List PrincipalId) (from to : Label)
     (behind : List Constraint) → ¬ Holds principals (may_release authority from to) →
-    Refuses principals (asked statement (may_release authority from to ∷ behind)) (error.NoAuthority statement)
+    RefusesFor principals (asked statement (may_release authority from to ∷ behind)) (error.NoAuthority statement)
 no_release principals statement authority from to behind fails =
     record { among = (_, first_fails principals _ _ fails, (refl, inl (authority, from, to, refl))) }
 
 pub no_trust : (principals : Declared) (statement : StmtId) (authority : List PrincipalId) (pc : Label) →
     ¬ Holds principals (trusted authority pc) →
-    Refuses principals (asked statement (trusted authority pc ∷ [])) (error.WeakProgramLabel statement)
+    RefusesFor principals (asked statement (trusted authority pc ∷ [])) (error.WeakProgramLabel statement)
 no_trust principals statement authority pc fails =
     record { among = (_, first_fails principals _ [] fails, (refl, (authority, pc, refl))) }

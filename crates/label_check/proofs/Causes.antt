@@ -5,7 +5,7 @@ use Rattle.principals.specs.ActsFor.{Declared}
 use Rattle.jif_tree.specs.Trees.{ProgramTree}
 use Rattle.jif_tree.specs.LabelRules.{Constraint, may_release, trusted, may_endorse, may_begin, may_flow, Obligation}
 use Rattle.jif_tree.specs.LabelRules.{IsFirstFailure, IsWellLabelled, obligations}
-use Rattle.label_check.specs.Checking.{Tells, IsRefusedAmong, IsRefusedFor}
+use Rattle.label_check.specs.Checking.{Tells, IsRefusedAmong, IsLabelRefusedFor}
 use Rattle.label_check.specs.declared.check_error.CheckError.{CheckError}
 use Rattle.label_check.specs.declared.check_error.CheckError.TheVariants as error
 use Rattle.label_check.proofs.Failures.{one_failure, none_fails}
@@ -45,7 +45,8 @@ told principals all (error.NoAuthority statement) other refused = refused
 told principals all (error.WeakProgramLabel statement) other refused = refused
 
 pub one_refusal : (principals : Declared) (program : ProgramTree) (first second : CheckError) →
-    IsRefusedFor principals program first → IsRefusedFor principals program second → first ≢ error.OutOfMemory →
+    IsLabelRefusedFor principals program first → IsLabelRefusedFor principals program second → first
+    ≢ error.OutOfMemory →
     second ≢ error.OutOfMemory → first ≡ second
 one_refusal principals program first second one two is other =
     let all : List Obligation = obligations principals program in
@@ -55,7 +56,7 @@ one_refusal principals program first second one two is other =
     ∙ sym (tells_cause second there.0 there.2)
 
 pub never_both : (principals : Declared) (program : ProgramTree) (why : CheckError) →
-    IsWellLabelled principals program → IsRefusedFor principals program why → why ≡ error.OutOfMemory
+    IsWellLabelled principals program → IsLabelRefusedFor principals program why → why ≡ error.OutOfMemory
 never_both principals program error.OutOfMemory well refused = refl
 never_both principals program (error.BadFlow statement from to) well (failed, first, tells) =
     absurd (none_fails principals (obligations principals program) failed well first)

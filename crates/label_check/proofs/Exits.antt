@@ -7,20 +7,20 @@ use Rattle.principals.specs.ActsFor.{Declared}
 use Rattle.jif_tree.specs.LabelRules.{Constraint, Obligation}
 use Rattle.label_check.specs.declared.check_error.CheckError.{CheckError}
 use Rattle.label_check.specs.declared.check_error.CheckError.TheVariants as error
-use Rattle.label_check.specs.Parts.{asked, AreMet, Refuses}
+use Rattle.label_check.specs.Parts.{asked, AreMet, RefusesFor}
 use Rattle.label_check.proofs.Asked.{asked_met, asked_behind, no_memory}
 
 -- the error is handed on as it is
 pub handed_on : {T : Type 0} {principals : Declared} {all : List Obligation} {why : CheckError}
     (result : Result T CheckError) → IsErr result × IsErrAnd result (λ other. other ≡ why) →
-    Refuses principals all why → IfErr result (Refuses principals all)
+    RefusesFor principals all why → IfErr result (RefusesFor principals all)
 handed_on (Ok value) is refused = absurd is.1
 handed_on {principals = principals} {all = all} (Err other) is refused =
-    subst (Refuses principals all) (sym is.1) refused
+    subst (RefusesFor principals all) (sym is.1) refused
 
 -- memory ran out
 pub none_left : {T : Type 0} (principals : Declared) (all : List Obligation) (result : Result T CheckError) →
-    IsErr result × IsErrAnd result (λ other. other ≡ error.OutOfMemory) → IfErr result (Refuses principals all)
+    IsErr result × IsErrAnd result (λ other. other ≡ error.OutOfMemory) → IfErr result (RefusesFor principals all)
 none_left principals all result is = handed_on result is (no_memory principals all)
 
 -- the result of a call that asks for the last, where the first is met
@@ -34,8 +34,8 @@ then_met statement first second (Err why) met last = tt
 
 pub then_refused : {T : Type 0} {principals : Declared} (statement : StmtId) (first second : List Constraint)
     (result : Result T CheckError) → AreMet principals (asked statement first) →
-    IfErr result (λ why. (others : Declared) → Refuses others (asked statement second) why) →
-    IfErr result (Refuses principals (asked statement (first ++ second)))
+    IfErr result (λ why. (others : Declared) → RefusesFor others (asked statement second) why) →
+    IfErr result (RefusesFor principals (asked statement (first ++ second)))
 then_refused statement first second (Ok value) met last = tt
 then_refused {principals = principals} statement first second (Err why) met last =
     asked_behind statement first second met (last principals)
@@ -43,11 +43,11 @@ then_refused {principals = principals} statement first second (Err why) met last
 -- ---- the same where it holds over whatever principals
 
 pub handed_on_all : {T : Type 0} {all : List Obligation} {why : CheckError} (result : Result T CheckError) →
-    IsErr result × IsErrAnd result (λ other. other ≡ why) → ((principals : Declared) → Refuses principals all why) →
-    IfErr result (λ other. (principals : Declared) → Refuses principals all other)
+    IsErr result × IsErrAnd result (λ other. other ≡ why) → ((principals : Declared) → RefusesFor principals all why) →
+    IfErr result (λ other. (principals : Declared) → RefusesFor principals all other)
 handed_on_all (Ok value) is refused = absurd is.1
 handed_on_all {all = all} (Err other) is refused =
-    let Q : CheckError → Type 0 = λ error. (principals : Declared) → Refuses principals all error in
+    let Q : CheckError → Type 0 = λ error. (principals : Declared) → RefusesFor principals all error in
     subst Q (sym is.1) refused
 
 pub then_all_met : {T : Type 0} (statement : StmtId) (first second : List Constraint)
@@ -60,8 +60,8 @@ then_all_met statement first second (Err why) met last = tt
 
 pub then_all_refused : {T : Type 0} (statement : StmtId) (first second : List Constraint)
     (result : Result T CheckError) → ((others : Declared) → AreMet others (asked statement first)) →
-    IfErr result (λ why. (others : Declared) → Refuses others (asked statement second) why) →
-    IfErr result (λ why. (others : Declared) → Refuses others (asked statement (first ++ second)) why)
+    IfErr result (λ why. (others : Declared) → RefusesFor others (asked statement second) why) →
+    IfErr result (λ why. (others : Declared) → RefusesFor others (asked statement (first ++ second)) why)
 then_all_refused statement first second (Ok value) met last = tt
 then_all_refused statement first second (Err why) met last =
     λ others. asked_behind statement first second (met others) (last others)

@@ -11,25 +11,25 @@ use Rattle.jif_tree.specs.LabelRules.{MethodSetting, VariableLabels, StatementLa
 use Rattle.jif_tree.specs.LabelRules.{labels_after, block_labels, obligations_of, guarded, expr_constraints}
 use Rattle.jif_tree.specs.LabelRules.{part_labels, setting_of, method_labels, methods_labels}
 use Rattle.label_check.specs.declared.check_error.CheckError.{CheckError}
-use Rattle.label_check.specs.Parts.{asked, AreMet, Refuses, Passes, pcs_of}
+use Rattle.label_check.specs.Parts.{asked, AreMet, RefusesFor, PassesStatements, pcs_of}
 use Rattle.label_check.proofs.Asked.{none_met, both_met, refused_before, refused_behind}
 
 -- the error is handed on, whatever follows
 pub handed_on_rest : {T X : Type 0} {principals : Declared} (all : X → List Obligation) {why : CheckError}
     (result : Result T CheckError) → IsErr result × IsErrAnd result (λ other. other ≡ why) →
-    ((rest : X) → Refuses principals (all rest) why) →
-    IfErr result (λ other. (rest : X) → Refuses principals (all rest) other)
+    ((rest : X) → RefusesFor principals (all rest) why) →
+    IfErr result (λ other. (rest : X) → RefusesFor principals (all rest) other)
 handed_on_rest all (Ok value) is refused = absurd is.1
 handed_on_rest {X = X} {principals = principals} all (Err other) is refused =
-    let Q : CheckError → Type 0 = λ error. (rest : X) → Refuses principals (all rest) error in
+    let Q : CheckError → Type 0 = λ error. (rest : X) → RefusesFor principals (all rest) error in
     subst Q (sym is.1) refused
 
 -- a refusal of a part is one of the whole, whatever follows
 pub refused_for_rest : {T X : Type 0} {principals : Declared} {part : List Obligation}
     (all : X → List Obligation) (result : Result T CheckError) →
-    ((why : CheckError) → Refuses principals part why → (rest : X) → Refuses principals (all rest) why) →
-    IfErr result (Refuses principals part) →
-    IfErr result (λ why. (rest : X) → Refuses principals (all rest) why)
+    ((why : CheckError) → RefusesFor principals part why → (rest : X) → RefusesFor principals (all rest) why) →
+    IfErr result (RefusesFor principals part) →
+    IfErr result (λ why. (rest : X) → RefusesFor principals (all rest) why)
 refused_for_rest all (Ok value) larger refused = tt
 refused_for_rest all (Err why) larger refused = larger why refused
 
@@ -45,7 +45,7 @@ pcs_of_both first second = map-append (λ one. one.pc) first second
 
 -- statements up to their end ask for nothing that is not met
 pub all_met : {principals : Declared} {pcs pcs_behind : List Label} {labels labels_behind : VariableLabels}
-    {all : List StatementLabels} → Passes principals pcs labels all pcs_behind labels_behind [] →
+    {all : List StatementLabels} → PassesStatements principals pcs labels all pcs_behind labels_behind [] →
     AreMet principals (obligations_of all)
 all_met {principals} passes =
     subst (AreMet principals) (sym (passes.place ∙ append-nil passes.asks)) passes.met
@@ -53,13 +53,13 @@ all_met {principals} passes =
 -- ---- passing on
 
 pub passes_none : (principals : Declared) (pcs : List Label) (labels : VariableLabels) (all : List StatementLabels) →
-    Passes principals pcs labels all pcs labels all
+    PassesStatements principals pcs labels all pcs labels all
 passes_none principals pcs labels all =
     record { same_pcs = refl; same_labels = refl; asks = []; place = refl; met = none_met principals }
 
 pub passes_one : {principals : Declared} (pcs : List Label) (labels : VariableLabels) (one : StatementLabels)
     (rest : List StatementLabels) → AreMet principals (asked one.statement one.constraints) →
-    Passes principals pcs labels (one ∷ rest) (pcs ++ one.pc ∷ []) labels rest
+    PassesStatements principals pcs labels (one ∷ rest) (pcs ++ one.pc ∷ []) labels rest
 passes_one pcs labels one rest met = record {
   same_pcs = sym (append_assoc pcs (one.pc ∷ []) (pcs_of rest));
   same_labels = refl;
@@ -70,9 +70,9 @@ passes_one pcs labels one rest met = record {
 
 pub passes_on : {principals : Declared} {pcs pcs_between pcs_behind : List Label}
     {labels labels_between labels_behind : VariableLabels} {all between left : List StatementLabels} →
-    Passes principals pcs labels all pcs_between labels_between between →
-    Passes principals pcs_between labels_between between pcs_behind labels_behind left →
-    Passes principals pcs labels all pcs_behind labels_behind left
+    PassesStatements principals pcs labels all pcs_between labels_between between →
+    PassesStatements principals pcs_between labels_between between pcs_behind labels_behind left →
+    PassesStatements principals pcs labels all pcs_behind labels_behind left
 passes_on {left = left} first second = record {
   same_pcs = first.same_pcs ∙ second.same_pcs;
   same_labels = first.same_labels ∙ second.same_labels;
@@ -85,8 +85,8 @@ passes_on {left = left} first second = record {
 -- statements up to their end, before others
 pub passes_before : {principals : Declared} {pcs pcs_behind : List Label} {labels labels_behind : VariableLabels}
     {all : List StatementLabels} (end : VariableLabels) (others : List StatementLabels) →
-    Passes principals pcs labels all pcs_behind labels_behind [] →
-    Passes principals pcs end (all ++ others) pcs_behind end others
+    PassesStatements principals pcs labels all pcs_behind labels_behind [] →
+    PassesStatements principals pcs end (all ++ others) pcs_behind end others
 passes_before {pcs = pcs} {pcs_behind = pcs_behind} {all = all} end others passes = record {
   same_pcs = ap (λ labels. pcs ++ labels) (pcs_of_both all others) ∙ sym (append_assoc pcs (pcs_of all) (pcs_of others))
       ∙ ap (λ labels. labels ++ pcs_of others) (passes.same_pcs ∙ append-nil pcs_behind);
@@ -100,33 +100,35 @@ passes_before {pcs = pcs} {pcs_behind = pcs_behind} {all = all} end others passe
 pub passes_block : {principals : Declared} {pcs pcs_behind : List Label} {labels labels_behind : VariableLabels}
     (one : StatementLabels) (block others : List StatementLabels) (end : VariableLabels) →
     AreMet principals (asked one.statement one.constraints) →
-    Passes principals (pcs ++ one.pc ∷ []) labels block pcs_behind labels_behind [] →
-    Passes principals pcs end (one ∷ block ++ others) pcs_behind end others
+    PassesStatements principals (pcs ++ one.pc ∷ []) labels block pcs_behind labels_behind [] →
+    PassesStatements principals pcs end (one ∷ block ++ others) pcs_behind end others
 passes_block {pcs = pcs} one block others end met passes =
     passes_on (passes_one pcs end one (block ++ others) met) (passes_before end others passes)
 
 -- ---- refusals among statements
 
 pub refused_in_first : {principals : Declared} (first second : List StatementLabels) {why : CheckError} →
-    Refuses principals (obligations_of first) why → Refuses principals (obligations_of (first ++ second)) why
+    RefusesFor principals (obligations_of first) why → RefusesFor principals (obligations_of (first ++ second)) why
 refused_in_first {principals} first second {why} refused =
-    subst (λ (all : List Obligation). Refuses principals all why) (sym (obligations_of_both first second))
+    subst (λ (all : List Obligation). RefusesFor principals all why) (sym (obligations_of_both first second))
     (refused_before (obligations_of second) refused)
 
 pub refused_in_second : {principals : Declared} (first second : List StatementLabels) {why : CheckError} →
-    AreMet principals (obligations_of first) → Refuses principals (obligations_of second) why →
-    Refuses principals (obligations_of (first ++ second)) why
+    AreMet principals (obligations_of first) → RefusesFor principals (obligations_of second) why →
+    RefusesFor principals (obligations_of (first ++ second)) why
 refused_in_second {principals} first second {why} met refused =
-    subst (λ (all : List Obligation). Refuses principals all why) (sym (obligations_of_both first second))
+    subst (λ (all : List Obligation). RefusesFor principals all why) (sym (obligations_of_both first second))
     (refused_behind met refused)
 
 -- what is left is refused
 pub refused_left : {principals : Declared} {pcs pcs_behind : List Label} {labels labels_behind : VariableLabels}
     {all left : List StatementLabels} {why : CheckError} →
-    Passes principals pcs labels all pcs_behind labels_behind left → Refuses principals (obligations_of left) why →
-    Refuses principals (obligations_of all) why
+    PassesStatements principals pcs labels all pcs_behind labels_behind left →
+    RefusesFor principals (obligations_of left) why →
+    RefusesFor principals (obligations_of all) why
 refused_left {principals} {why = why} passes refused =
-    subst (λ (all : List Obligation). Refuses principals all why) (sym passes.place) (refused_behind passes.met refused)
+    subst (λ (all : List Obligation). RefusesFor principals all why) (sym passes.place)
+    (refused_behind passes.met refused)
 
 -- ---- loops
 
@@ -137,19 +139,19 @@ pub loop_passes : {principals : Declared} (setting : MethodSetting) (pc : Label)
     let inside = guarded setting pc labels guard in
     AreMet principals (asked heading.id
     (expr_constraints setting pc labels guard ++ expr_constraints setting inside labels guard)) →
-    Passes principals (pcs ++ inside ∷ []) (labels_after setting inside labels body)
+    PassesStatements principals (pcs ++ inside ∷ []) (labels_after setting inside labels body)
     (block_labels setting inside labels body) pcs_behind labels_behind [] →
-    Passes principals pcs (labels_after setting pc labels tree) (block_labels setting pc labels tree)
+    PassesStatements principals pcs (labels_after setting pc labels tree) (block_labels setting pc labels tree)
     pcs_behind (labels_after setting pc labels_behind rest) (block_labels setting pc labels_behind rest)
 loop_passes {principals} setting pc labels heading guard body rest tree {pcs} {pcs_behind} {labels_behind} is met
     passes =
     let inside = guarded setting pc labels guard in
     let after = labels_after setting inside labels body in
     let all : BlockTree → Type 0 = λ t.
-    Passes principals pcs (labels_after setting pc labels t) (block_labels setting pc labels t)
+    PassesStatements principals pcs (labels_after setting pc labels t) (block_labels setting pc labels t)
     pcs_behind (labels_after setting pc labels_behind rest) (block_labels setting pc labels_behind rest) in
     let left : VariableLabels → Type 0 = λ l.
-    Passes principals pcs (labels_after setting pc after rest)
+    PassesStatements principals pcs (labels_after setting pc after rest)
     (block_labels setting pc labels (loop heading guard body rest))
     pcs_behind (labels_after setting pc l rest) (block_labels setting pc l rest) in
     subst all (sym is) (subst left passes.same_labels
@@ -168,12 +170,12 @@ pub loop_refused : {principals : Declared} (setting : MethodSetting) (pc : Label
     let inside = guarded setting pc labels guard in
     AreMet principals (asked heading.id
     (expr_constraints setting pc labels guard ++ expr_constraints setting inside labels guard)) →
-    Refuses principals (obligations_of (block_labels setting inside labels body)) why →
-    Refuses principals (obligations_of (block_labels setting pc labels tree)) why
+    RefusesFor principals (obligations_of (block_labels setting inside labels body)) why →
+    RefusesFor principals (obligations_of (block_labels setting pc labels tree)) why
 loop_refused {principals} setting pc labels heading guard body rest tree {why} is met refused =
     let inside = guarded setting pc labels guard in
     let after = labels_after setting inside labels body in
-    let all : BlockTree → Type 0 = λ t. Refuses principals (obligations_of (block_labels setting pc labels t)) why in
+    let all : BlockTree → Type 0 = λ t. RefusesFor principals (obligations_of (block_labels setting pc labels t)) why in
     subst all (sym is)
     (refused_behind met (refused_in_first (block_labels setting inside labels body) (block_labels setting pc after rest)
     refused))
@@ -186,11 +188,11 @@ pub branch_passes : {principals : Declared} (setting : MethodSetting) (pc : Labe
     tree ≡ branch heading guard first second rest →
     let inside = guarded setting pc labels guard in
     AreMet principals (asked heading.id (expr_constraints setting pc labels guard)) →
-    Passes principals (pcs ++ pc ∷ []) (labels_after setting inside labels first)
+    PassesStatements principals (pcs ++ pc ∷ []) (labels_after setting inside labels first)
     (block_labels setting inside labels first) pcs_between between [] →
-    Passes principals pcs_between (labels_after setting inside between second)
+    PassesStatements principals pcs_between (labels_after setting inside between second)
     (block_labels setting inside between second) pcs_behind labels_behind [] →
-    Passes principals pcs (labels_after setting pc labels tree) (block_labels setting pc labels tree)
+    PassesStatements principals pcs (labels_after setting pc labels tree) (block_labels setting pc labels tree)
     pcs_behind (labels_after setting pc labels_behind rest) (block_labels setting pc labels_behind rest)
 branch_passes {principals} setting pc labels between heading guard first second rest tree {pcs} {pcs_between}
     {pcs_behind} {labels_behind} is met passes also =
@@ -200,15 +202,16 @@ branch_passes {principals} setting pc labels between heading guard first second 
     let others = block_labels setting pc after rest in
     let end = labels_after setting pc after rest in
     let all : BlockTree → Type 0 = λ t.
-    Passes principals pcs (labels_after setting pc labels t) (block_labels setting pc labels t)
+    PassesStatements principals pcs (labels_after setting pc labels t) (block_labels setting pc labels t)
     pcs_behind (labels_after setting pc labels_behind rest) (block_labels setting pc labels_behind rest) in
     let left : VariableLabels → Type 0 = λ l.
-    Passes principals pcs end (block_labels setting pc labels (branch heading guard first second rest))
+    PassesStatements principals pcs end (block_labels setting pc labels (branch heading guard first second rest))
     pcs_behind (labels_after setting pc l rest) (block_labels setting pc l rest) in
     let started : VariableLabels → Type 0 = λ l.
-    Passes principals pcs_between (labels_after setting inside l second)
+    PassesStatements principals pcs_between (labels_after setting inside l second)
     (block_labels setting inside l second) pcs_behind labels_behind [] in
-    let then : Passes principals pcs_between after (block_labels setting inside middle second) pcs_behind labels_behind
+    let then : PassesStatements principals pcs_between after (block_labels setting inside middle second) pcs_behind
+    labels_behind
     []
     = subst started (sym passes.same_labels) also in
     let one : StatementLabels = record {
@@ -217,7 +220,8 @@ branch_passes {principals} setting pc labels between heading guard first second 
       parts = part_labels setting pc labels guard;
       constraints = expr_constraints setting pc labels guard;
     } in
-    let row : List StatementLabels → Type 0 = λ list. Passes principals pcs end (one ∷ list) pcs_behind end others in
+    let row : List StatementLabels →
+    Type 0 = λ list. PassesStatements principals pcs end (one ∷ list) pcs_behind end others in
     subst all (sym is) (subst left then.same_labels
     (subst row (sym (append_assoc (block_labels setting inside labels first) (block_labels setting inside middle second)
     others))
@@ -231,13 +235,13 @@ pub first_refused : {principals : Declared} (setting : MethodSetting) (pc : Labe
     (heading : Heading) (guard : ExprTree) (first second rest tree : BlockTree) {why : CheckError} →
     tree ≡ branch heading guard first second rest →
     AreMet principals (asked heading.id (expr_constraints setting pc labels guard)) →
-    Refuses principals (obligations_of (block_labels setting (guarded setting pc labels guard) labels first)) why →
-    Refuses principals (obligations_of (block_labels setting pc labels tree)) why
+    RefusesFor principals (obligations_of (block_labels setting (guarded setting pc labels guard) labels first)) why →
+    RefusesFor principals (obligations_of (block_labels setting pc labels tree)) why
 first_refused {principals} setting pc labels heading guard first second rest tree {why} is met refused =
     let inside = guarded setting pc labels guard in
     let middle = labels_after setting inside labels first in
     let after = labels_after setting inside middle second in
-    let all : BlockTree → Type 0 = λ t. Refuses principals (obligations_of (block_labels setting pc labels t)) why in
+    let all : BlockTree → Type 0 = λ t. RefusesFor principals (obligations_of (block_labels setting pc labels t)) why in
     subst all (sym is)
     (refused_behind met
     (refused_in_first (block_labels setting inside labels first ++ block_labels setting inside middle second)
@@ -250,17 +254,17 @@ pub second_refused : {principals : Declared} (setting : MethodSetting) (pc : Lab
     tree ≡ branch heading guard first second rest →
     let inside = guarded setting pc labels guard in
     AreMet principals (asked heading.id (expr_constraints setting pc labels guard)) →
-    Passes principals pcs (labels_after setting inside labels first)
+    PassesStatements principals pcs (labels_after setting inside labels first)
     (block_labels setting inside labels first) pcs_between between [] →
-    Refuses principals (obligations_of (block_labels setting inside between second)) why →
-    Refuses principals (obligations_of (block_labels setting pc labels tree)) why
+    RefusesFor principals (obligations_of (block_labels setting inside between second)) why →
+    RefusesFor principals (obligations_of (block_labels setting pc labels tree)) why
 second_refused {principals} setting pc labels between heading guard first second rest tree {pcs} {pcs_between} {why} is
     met passes refused =
     let inside = guarded setting pc labels guard in
     let middle = labels_after setting inside labels first in
     let after = labels_after setting inside middle second in
-    let all : BlockTree → Type 0 = λ t. Refuses principals (obligations_of (block_labels setting pc labels t)) why in
-    let started : VariableLabels → Type 0 = λ l. Refuses principals
+    let all : BlockTree → Type 0 = λ t. RefusesFor principals (obligations_of (block_labels setting pc labels t)) why in
+    let started : VariableLabels → Type 0 = λ l. RefusesFor principals
     (obligations_of (block_labels setting inside l second)) why in
     subst all (sym is)
     (refused_behind met
@@ -273,9 +277,9 @@ second_refused {principals} setting pc labels between heading guard first second
 
 pub method_refused : {principals : Declared} (program : ProgramTree) (labels : VariableLabels) (method : MethodTree)
     (rest : List MethodTree) {why : CheckError} →
-    Refuses principals (obligations_of
+    RefusesFor principals (obligations_of
     (block_labels (setting_of principals program method) method.begin labels method.body)) why →
-    Refuses principals (obligations_of (methods_labels principals program labels (method ∷ rest))) why
+    RefusesFor principals (obligations_of (methods_labels principals program labels (method ∷ rest))) why
 method_refused {principals} program labels method rest refused =
     let setting = setting_of principals program method in
     refused_in_first (method_labels setting labels method)

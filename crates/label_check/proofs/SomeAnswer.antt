@@ -10,7 +10,7 @@ use Rattle.label_lattice.proofs.Decisions.{all_pairs, forbids, trusts, flows, po
 use Rattle.jif_tree.specs.Trees.{ProgramTree}
 use Rattle.jif_tree.specs.LabelRules.{Constraint, may_release, trusted, may_endorse, may_begin, may_flow, Holds}
 use Rattle.jif_tree.specs.LabelRules.{Obligation, Meets, IsFirstFailure, IsWellLabelled, obligations}
-use Rattle.label_check.specs.Checking.{IsRefusedAmong, IsRefusedFor}
+use Rattle.label_check.specs.Checking.{IsRefusedAmong, IsLabelRefusedFor}
 use Rattle.label_check.specs.declared.check_error.CheckError.{CheckError}
 use Rattle.label_check.specs.declared.check_error.CheckError.TheVariants as error
 
@@ -88,7 +88,7 @@ refused principals all statement (may_flow from to) first =
     (error.BadFlow statement from to, (λ same. cc), (_, first, refl))
 
 pub accepted_or_refused : (principals : Declared) (program : ProgramTree) → IsWellLabelled principals program
-    ⊎ ((why : CheckError) × (why ≢ error.OutOfMemory) × IsRefusedFor principals program why)
+    ⊎ ((why : CheckError) × (why ≢ error.OutOfMemory) × IsLabelRefusedFor principals program why)
 accepted_or_refused principals program = elim (met_or_fails principals (obligations principals program)) [
   | inl met ↦ inl met
   | inr (failed, first) ↦

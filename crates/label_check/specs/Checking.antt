@@ -49,5 +49,5 @@ IsRefusedAmong principals all why =
     (failed : Obligation) × IsFirstFailure principals all failed × Tells why failed
 
 -- of the obligations of a program
-abbrev pub IsRefusedFor : Declared → ProgramTree → CheckError → Type 0
-IsRefusedFor principals program why = IsRefusedAmong principals (obligations principals program) why
+abbrev pub IsLabelRefusedFor : Declared → ProgramTree → CheckError → Type 0
+IsLabelRefusedFor principals program why = IsRefusedAmong principals (obligations principals program) why

@@ -18,7 +18,7 @@ pub record AreMet (principals : Declared) (all : List Obligation) : Type 0 where
   pub each : All (Meets principals) all
 
 -- the refusal is for these
-pub record Refuses (principals : Declared) (all : List Obligation) (why : CheckError) : Type 0 where
+pub record RefusesFor (principals : Declared) (all : List Obligation) (why : CheckError) : Type 0 where
   pub among : IsRefusedAmong principals all why
 
 abbrev pub pcs_of : List StatementLabels → List Label
@@ -26,7 +26,7 @@ pcs_of statements = map (λ statement. statement.pc) statements
 
 -- From statements to those that are left of them: with the program labels so far, what is left makes the same program
 -- labels and leaves the same labels of the variables. What was asked for on the way was met.
-pub record Passes (principals : Declared)
+pub record PassesStatements (principals : Declared)
     (pcs : List Label) (labels : VariableLabels) (all : List StatementLabels)
     (pcs_behind : List Label) (labels_behind : VariableLabels) (left : List StatementLabels) : Type 0 where
   pub same_pcs : pcs ++ pcs_of all ≡ pcs_behind ++ pcs_of left

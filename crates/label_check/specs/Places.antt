@@ -8,7 +8,7 @@ use Rattle.jif_tree.specs.Trees.{ProgramTree}
 use Rattle.label_lattice.specs.declared.label.Label.{Label}
 use Rattle.label_check.specs.declared.place.Place.{Place}
 use Rattle.label_check.specs.declared.place.Found.{Found}
-use Rattle.label_check.specs.Parts.{Passes}
+use Rattle.label_check.specs.Parts.{PassesStatements}
 
 -- what every place of its method has in common
 abbrev pub setting_at : Place → MethodSetting
@@ -21,7 +21,7 @@ asks_of place pc found block = obligations_of (block_labels (setting_at place) p
 -- from a block to one that is left of it, with what was found before the one and before the other
 abbrev pub PassesTo : Place → Label → Found → BlockTree → Found → BlockTree → Type 0
 PassesTo place pc old block new left =
-    Passes place.principals.now
+    PassesStatements place.principals.now
     old.pcs.items (labels_after (setting_at place) pc old.labels.items block)
     (block_labels (setting_at place) pc old.labels.items block)
     new.pcs.items (labels_after (setting_at place) pc new.labels.items left)
@@ -35,7 +35,7 @@ asks_of_methods principals program found methods =
 abbrev pub PassesMethods : Declared → ProgramTree → Found → List MethodTree → Found → List MethodTree →
     Type 0
 PassesMethods principals program old methods new left =
-    Passes principals
+    PassesStatements principals
     old.pcs.items (labels_after_methods principals program old.labels.items methods)
     (methods_labels principals program old.labels.items methods)
     new.pcs.items (labels_after_methods principals program new.labels.items left)

@@ -6,7 +6,7 @@ ghost use Rattle.jif_tree.specs.Trees.{expr_tree, program_tree};
 ghost use Rattle.jif_tree.specs.LabelRules.{expr_constraints, expr_label, flow_of, variable_label, field_label};
 ghost use Rattle.jif_tree.specs.LabelRules.{labels_after_assignment, return_flows};
 ghost use Rattle.label_lattice.specs.Lattice.{join_of};
-ghost use Rattle.label_check.specs.Parts.{asked, AreMet, Refuses};
+ghost use Rattle.label_check.specs.Parts.{asked, AreMet, RefusesFor};
 ghost use Rattle.label_check.specs.Places.{setting_at};
 
 use crate::CheckError;
@@ -40,7 +40,7 @@ pub fn assign_variable(
     ensures err { IfErr result (
         let from = expr_label (setting_at place.now) pc.now labels.old.items (expr_tree value.now) in
         let after = labels_after_assignment labels.old.items var (join_of from pc.now) in
-        Refuses place.now.principals.now
+        RefusesFor place.now.principals.now
         (asked statement (expr_constraints (setting_at place.now) pc.now labels.old.items (expr_tree value.now)
         ++ flow_of pc.now from (variable_label after var) ∷ []))) }
 {
@@ -63,7 +63,7 @@ pub fn assign_field(
         (asked statement (expr_constraints (setting_at place.now) pc.now labels.now (expr_tree value.now)
         ++ flow_of pc.now (expr_label (setting_at place.now) pc.now labels.now (expr_tree value.now))
         (field_label (program_tree place.now.program.now) field) ∷ []))) }
-    ensures err { IfErr result (Refuses place.now.principals.now
+    ensures err { IfErr result (RefusesFor place.now.principals.now
         (asked statement (expr_constraints (setting_at place.now) pc.now labels.now (expr_tree value.now)
         ++ flow_of pc.now (expr_label (setting_at place.now) pc.now labels.now (expr_tree value.now))
         (field_label (program_tree place.now.program.now) field) ∷ []))) }
@@ -93,7 +93,7 @@ pub fn assign_element(
         (field_label (program_tree place.now.program.now) field) ∷ []))) }
     ensures err { IfErr result (
         let setting = setting_at place.now in
-        Refuses place.now.principals.now
+        RefusesFor place.now.principals.now
         (asked statement (expr_constraints setting pc.now labels.now (expr_tree index.now)
         ++ expr_constraints setting pc.now labels.now (expr_tree value.now)
         ++ flow_of pc.now (join_of (expr_label setting pc.now labels.now (expr_tree index.now))
@@ -127,7 +127,7 @@ pub fn give_back(
         (expr_label setting pc.now labels.now (expr_tree value.now))))) }
     ensures err { IfErr result (
         let setting = setting_at place.now in
-        Refuses place.now.principals.now
+        RefusesFor place.now.principals.now
         (asked statement (expr_constraints setting pc.now labels.now (expr_tree value.now)
         ++ return_flows pc.now labels.now setting.result
         (expr_label setting pc.now labels.now (expr_tree value.now))))) }
@@ -147,7 +147,7 @@ fn return_flow(
     ensures ok { OnOk result ((principals : Declared) →
         AreMet principals (asked statement (return_flows pc.now labels.now result_var from.now))) }
     ensures err { IfErr result (λ why. (principals : Declared) →
-        Refuses principals (asked statement (return_flows pc.now labels.now result_var from.now)) why) }
+        RefusesFor principals (asked statement (return_flows pc.now labels.now result_var from.now)) why) }
 {
     match result_var {
         None => Ok(()),

@@ -6,7 +6,7 @@ ghost use Rattle.principals.specs.ActsFor.{Declared, AreDeclared};
 ghost use Rattle.jif_tree.specs.Trees.{expr_tree};
 ghost use Rattle.jif_tree.specs.LabelRules.{expr_constraints, expr_label, call_constraints, result_flows};
 ghost use Rattle.jif_tree.specs.LabelRules.{method_at};
-ghost use Rattle.label_check.specs.Parts.{asked, AreMet, Refuses, flows_to_params};
+ghost use Rattle.label_check.specs.Parts.{asked, AreMet, RefusesFor, flows_to_params};
 ghost use Rattle.label_check.specs.Places.{setting_at};
 
 use crate::CheckError;
@@ -34,7 +34,7 @@ fn argument_labels(
     ensures ok { OnOk result (AreMet place.now.principals.now
         (asked statement (flat_map (expr_constraints (setting_at place.now) pc.now labels.now)
         (map expr_tree args.now)))) }
-    ensures err { IfErr result (Refuses place.now.principals.now
+    ensures err { IfErr result (RefusesFor place.now.principals.now
         (asked statement (flat_map (expr_constraints (setting_at place.now) pc.now labels.now)
         (map expr_tree args.now)))) }
 {
@@ -56,7 +56,7 @@ fn argument_flows(
     ensures ok { OnOk result ((principals : Declared) →
         AreMet principals (asked statement (flows_to_params pc.now labels.now from.now params.now))) }
     ensures err { IfErr result (λ why. (principals : Declared) →
-        Refuses principals (asked statement (flows_to_params pc.now labels.now from.now params.now)) why) }
+        RefusesFor principals (asked statement (flows_to_params pc.now labels.now from.now params.now)) why) }
 {
     let mut left = params;
     let mut given = from;
@@ -82,7 +82,7 @@ fn result_flow(
     ensures ok { OnOk result ((principals : Declared) →
         AreMet principals (asked statement (result_flows pc.now labels.now returned into))) }
     ensures err { IfErr result (λ why. (principals : Declared) →
-        Refuses principals (asked statement (result_flows pc.now labels.now returned into)) why) }
+        RefusesFor principals (asked statement (result_flows pc.now labels.now returned into)) why) }
 {
     match (returned, into) {
         (Some(returned), Some(into)) => ask_flow(
@@ -116,7 +116,7 @@ pub fn check_call(
     ensures err { IfErr result (
         let setting = setting_at place.now in
         let trees = map expr_tree args.now in
-        Refuses place.now.principals.now
+        RefusesFor place.now.principals.now
         (asked statement (flat_map (expr_constraints setting pc.now labels.now) trees
         ++ call_constraints setting pc.now labels.now (method_at setting.program method) trees into))) }
 {

@@ -3,8 +3,8 @@
 ghost use Rattle.std.specs.Prelude.{◌≡◌, ◌∷◌, [], List, map, OnOk, IfOk, IfErr};
 ghost use Rattle.principals.specs.ActsFor.{AreDeclared};
 ghost use Rattle.jif_tree.specs.Trees.{MethodTree, program_tree, method_tree};
-ghost use Rattle.label_check.specs.Checking.{AreAuthorities, IsChecked, IsRefusedFor};
-ghost use Rattle.label_check.specs.Parts.{Refuses};
+ghost use Rattle.label_check.specs.Checking.{AreAuthorities, IsChecked, IsLabelRefusedFor};
+ghost use Rattle.label_check.specs.Parts.{RefusesFor};
 ghost use Rattle.label_check.specs.Places.{PassesMethods, asks_of_methods};
 
 use crate::CheckError;
@@ -28,7 +28,7 @@ pub fn check(
 ) -> Result<Checked, CheckError>
     requires { AreAuthorities principals.now (program_tree program) }
     ensures accepted { IfOk result (IsChecked principals.now program) }
-    ensures refused { IfErr result (IsRefusedFor principals.now (program_tree program)) }
+    ensures refused { IfErr result (IsLabelRefusedFor principals.now (program_tree program)) }
 {
     let labels = declared_labels(alloc, &program)?;
     let pcs = Vec::new(alloc);
@@ -52,7 +52,7 @@ fn check_methods(
     requires { AreAuthorities principals.now (program_tree program.now) }
     ensures ok { OnOk result (PassesMethods principals.now (program_tree program.now) found.old
         (map method_tree program.now.methods.items) found.new []) }
-    ensures err { IfErr result (Refuses principals.now (asks_of_methods principals.now (program_tree program.now)
+    ensures err { IfErr result (RefusesFor principals.now (asks_of_methods principals.now (program_tree program.now)
         found.old (map method_tree program.now.methods.items))) }
 {
     for method in &program.methods {
@@ -72,7 +72,7 @@ fn check_method(
     requires { AreDeclared principals.now method.now.authority.items }
     ensures ok { OnOk result ((rest : List MethodTree) → PassesMethods principals.now (program_tree program.now)
         found.old (method_tree method.now ∷ rest) found.new rest) }
-    ensures err { IfErr result (λ why. (rest : List MethodTree) → Refuses principals.now
+    ensures err { IfErr result (λ why. (rest : List MethodTree) → RefusesFor principals.now
         (asks_of_methods principals.now (program_tree program.now) found.old (method_tree method.now ∷ rest)) why) }
 {
     found.pcs.push(method.begin)?;

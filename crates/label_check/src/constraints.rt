@@ -3,7 +3,7 @@
 ghost use Rattle.std.specs.Prelude.{OnOk, IfErr, [], ◌∷◌};
 ghost use Rattle.principals.specs.ActsFor.{Declared, AreDeclared};
 ghost use Rattle.jif_tree.specs.LabelRules.{flow_of, may_begin, may_release, trusted, may_endorse};
-ghost use Rattle.label_check.specs.Parts.{asked, AreMet, Refuses};
+ghost use Rattle.label_check.specs.Parts.{asked, AreMet, RefusesFor};
 
 use crate::CheckError;
 use crate::permissions::{is_trusted, may_endorse, may_release};
@@ -16,7 +16,7 @@ pub fn ask_flow(statement: StmtId, pc: &Label, from: &Label, to: &Label) -> Resu
     ensures ok { OnOk result ((principals : Declared) →
         AreMet principals (asked statement (flow_of pc.now from.now to.now ∷ []))) }
     ensures err { IfErr result (λ why. (principals : Declared) →
-        Refuses principals (asked statement (flow_of pc.now from.now to.now ∷ [])) why) }
+        RefusesFor principals (asked statement (flow_of pc.now from.now to.now ∷ [])) why) }
 {
     let joined = from.join(*pc);
     if joined.conf_flows(to) && joined.integ_flows(to) {
@@ -31,7 +31,7 @@ pub fn ask_begin(statement: StmtId, pc: &Label, begin: &Label) -> Result<(), Che
     ensures ok { OnOk result ((principals : Declared) →
         AreMet principals (asked statement (may_begin pc.now begin.now ∷ []))) }
     ensures err { IfErr result (λ why. (principals : Declared) →
-        Refuses principals (asked statement (may_begin pc.now begin.now ∷ [])) why) }
+        RefusesFor principals (asked statement (may_begin pc.now begin.now ∷ [])) why) }
 {
     if pc.conf_flows(begin) && pc.integ_flows(begin) {
         Ok(())
@@ -52,7 +52,7 @@ pub fn ask_release(
     requires { AreDeclared principals.now authority.now }
     ensures ok { OnOk result (AreMet principals.now
         (asked statement (may_release authority.now from.now to.now ∷ trusted authority.now pc.now ∷ []))) }
-    ensures err { IfErr result (Refuses principals.now
+    ensures err { IfErr result (RefusesFor principals.now
         (asked statement (may_release authority.now from.now to.now ∷ trusted authority.now pc.now ∷ []))) }
 {
     if !may_release(principals, authority, from, to) {
@@ -75,7 +75,7 @@ pub fn ask_endorse(
     requires { AreDeclared principals.now authority.now }
     ensures ok { OnOk result (AreMet principals.now
         (asked statement (may_endorse authority.now from.now to.now ∷ []))) }
-    ensures err { IfErr result (Refuses principals.now
+    ensures err { IfErr result (RefusesFor principals.now
         (asked statement (may_endorse authority.now from.now to.now ∷ []))) }
 {
     if may_endorse(principals, authority, from, to) {

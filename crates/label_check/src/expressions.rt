@@ -5,7 +5,7 @@ ghost use Rattle.js_base.specs.declared.binary_operator.BinOp.{BinOp};
 ghost use Rattle.principals.specs.ActsFor.{AreDeclared};
 ghost use Rattle.jif_tree.specs.Trees.{expr_tree, element, binary, declassified, endorsed};
 ghost use Rattle.jif_tree.specs.LabelRules.{expr_label, expr_constraints};
-ghost use Rattle.label_check.specs.Parts.{asked, AreMet, Refuses};
+ghost use Rattle.label_check.specs.Parts.{asked, AreMet, RefusesFor};
 ghost use Rattle.label_check.specs.Places.{setting_at};
 
 use crate::CheckError;
@@ -34,7 +34,7 @@ fn element_label(
         label ≡ expr_label (setting_at place.now) pc.now labels.now (element array (expr_tree index.now))) }
     ensures ok { OnOk result (AreMet place.now.principals.now (asked statement
         (expr_constraints (setting_at place.now) pc.now labels.now (element array (expr_tree index.now))))) }
-    ensures err { IfErr result (Refuses place.now.principals.now (asked statement
+    ensures err { IfErr result (RefusesFor place.now.principals.now (asked statement
         (expr_constraints (setting_at place.now) pc.now labels.now (element array (expr_tree index.now))))) }
 {
     let index = expr_label(place, statement, pc, labels, index)?;
@@ -60,7 +60,7 @@ fn binary_label(
     ensures ok { (operator : BinOp) → OnOk result (AreMet place.now.principals.now (asked statement
         (expr_constraints (setting_at place.now) pc.now labels.now
         (binary operator (expr_tree left.now) (expr_tree right.now))))) }
-    ensures err { (operator : BinOp) → IfErr result (Refuses place.now.principals.now (asked statement
+    ensures err { (operator : BinOp) → IfErr result (RefusesFor place.now.principals.now (asked statement
         (expr_constraints (setting_at place.now) pc.now labels.now
         (binary operator (expr_tree left.now) (expr_tree right.now))))) }
 {
@@ -87,7 +87,7 @@ fn release_label(
         ≡ expr_label (setting_at place.now) pc.now labels.now (declassified (expr_tree operand.now) to.now)) }
     ensures ok { OnOk result (AreMet place.now.principals.now (asked statement
         (expr_constraints (setting_at place.now) pc.now labels.now (declassified (expr_tree operand.now) to.now)))) }
-    ensures err { IfErr result (Refuses place.now.principals.now (asked statement
+    ensures err { IfErr result (RefusesFor place.now.principals.now (asked statement
         (expr_constraints (setting_at place.now) pc.now labels.now (declassified (expr_tree operand.now) to.now)))) }
 {
     let from = expr_label(place, statement, pc, labels, operand)?;
@@ -120,7 +120,7 @@ fn endorsement_label(
         ≡ expr_label (setting_at place.now) pc.now labels.now (endorsed (expr_tree operand.now) to.now)) }
     ensures ok { OnOk result (AreMet place.now.principals.now (asked statement
         (expr_constraints (setting_at place.now) pc.now labels.now (endorsed (expr_tree operand.now) to.now)))) }
-    ensures err { IfErr result (Refuses place.now.principals.now (asked statement
+    ensures err { IfErr result (RefusesFor place.now.principals.now (asked statement
         (expr_constraints (setting_at place.now) pc.now labels.now (endorsed (expr_tree operand.now) to.now)))) }
 {
     let from = expr_label(place, statement, pc, labels, operand)?;
@@ -153,7 +153,7 @@ pub fn expr_label(
         label ≡ expr_label (setting_at place.now) pc.now labels.now (expr_tree expr.now)) }
     ensures ok { OnOk result (AreMet place.now.principals.now
         (asked statement (expr_constraints (setting_at place.now) pc.now labels.now (expr_tree expr.now)))) }
-    ensures err { IfErr result (Refuses place.now.principals.now
+    ensures err { IfErr result (RefusesFor place.now.principals.now
         (asked statement (expr_constraints (setting_at place.now) pc.now labels.now (expr_tree expr.now)))) }
 {
     match expr {

@@ -4,7 +4,7 @@ ghost use Rattle.std.specs.Prelude.{◌≡◌, ◌++◌, [], ◌∷◌, OnOk, If
 ghost use Rattle.principals.specs.ActsFor.{AreDeclared};
 ghost use Rattle.jif_tree.specs.Trees.{expr_tree};
 ghost use Rattle.jif_tree.specs.LabelRules.{expr_constraints, guarded};
-ghost use Rattle.label_check.specs.Parts.{asked, AreMet, Refuses};
+ghost use Rattle.label_check.specs.Parts.{asked, AreMet, RefusesFor};
 ghost use Rattle.label_check.specs.Places.{setting_at};
 
 use crate::CheckError;
@@ -29,7 +29,7 @@ pub fn enter_branch(
         label ≡ guarded (setting_at place.now) pc.now labels.now (expr_tree guard.now)) }
     ensures ok { OnOk result (AreMet place.now.principals.now
         (asked statement (expr_constraints (setting_at place.now) pc.now labels.now (expr_tree guard.now)))) }
-    ensures err { IfErr result (Refuses place.now.principals.now
+    ensures err { IfErr result (RefusesFor place.now.principals.now
         (asked statement (expr_constraints (setting_at place.now) pc.now labels.now (expr_tree guard.now)))) }
 {
     let from = expr_label(place, statement, pc, labels, guard)?;
@@ -62,7 +62,7 @@ pub fn enter_loop(
     ensures err { IfErr result (
         let setting = setting_at place.now in
         let tree = expr_tree guard.now in
-        Refuses place.now.principals.now
+        RefusesFor place.now.principals.now
         (asked statement (expr_constraints setting pc.now labels.now tree
         ++ expr_constraints setting (guarded setting pc.now labels.now tree) labels.now tree))) }
 {

@@ -11,7 +11,7 @@ ghost use Rattle.label_lattice.specs.Over.{IsLabelOver};
 ghost use Rattle.jif_tree.specs.Trees.{ExprTree, BlockTree, ProgramTree};
 ghost use Rattle.jif_tree.specs.LabelRules.{MethodSetting, VariableLabels, expr_label, block_labels};
 ghost use Rattle.jif_tree.specs.WrittenLabels.{written_in, written_in_block};
-ghost use Rattle.label_check.specs.Checking.{IsRefusedFor};
+ghost use Rattle.label_check.specs.Checking.{IsLabelRefusedFor};
 ghost use Rattle.label_check.specs.declared.check_error.CheckError.{CheckError};
 ghost use Rattle.label_check.specs.declared.check_error.CheckError.TheVariants as error;
 ghost use Rattle.label_check.specs.RuleLaws.{AreNamedOver, read_in};
@@ -31,12 +31,12 @@ pub fn failure_laws()
     ensures none_fails { (principals : Declared) (all : List Obligation) (failed : Obligation) →
         All (Meets principals) all → ¬ IsFirstFailure principals all failed }
     ensures one_refusal { (principals : Declared) (program : ProgramTree) (first second : CheckError) →
-        IsRefusedFor principals program first → IsRefusedFor principals program second →
+        IsLabelRefusedFor principals program first → IsLabelRefusedFor principals program second →
         first ≢ error.OutOfMemory → second ≢ error.OutOfMemory → first ≡ second }
     ensures never_both { (principals : Declared) (program : ProgramTree) (why : CheckError) →
-        IsWellLabelled principals program → IsRefusedFor principals program why → why ≡ error.OutOfMemory }
+        IsWellLabelled principals program → IsLabelRefusedFor principals program why → why ≡ error.OutOfMemory }
     ensures accepted_or_refused { (principals : Declared) (program : ProgramTree) → IsWellLabelled principals program
-        ⊎ ((why : CheckError) × (why ≢ error.OutOfMemory) × IsRefusedFor principals program why) }
+        ⊎ ((why : CheckError) × (why ≢ error.OutOfMemory) × IsLabelRefusedFor principals program why) }
 {}
 
 /// Laws of the rules, where all labels are labels over the declared principals.

@@ -4,7 +4,7 @@ ghost use Rattle.std.specs.Prelude.{◌≡◌, ◌++◌, [], ◌∷◌, OnOk, If
 ghost use Rattle.principals.specs.ActsFor.{AreDeclared};
 ghost use Rattle.jif_tree.specs.Trees.{BlockTree, done, block_tree, tree_before};
 ghost use Rattle.label_check.specs.declared.check_error.CheckError.TheVariants as error;
-ghost use Rattle.label_check.specs.Parts.{Refuses};
+ghost use Rattle.label_check.specs.Parts.{RefusesFor};
 ghost use Rattle.label_check.specs.Places.{asks_of, PassesTo};
 
 use crate::CheckError;
@@ -27,7 +27,7 @@ pub fn check_block(
 ) -> Result<(), CheckError>
     requires { AreDeclared place.now.principals.now place.now.method.now.authority.items }
     ensures ok { OnOk result (PassesTo place.now pc.now found.old (block_tree statements.now) found.new done) }
-    ensures err { IfErr result (Refuses place.now.principals.now
+    ensures err { IfErr result (RefusesFor place.now.principals.now
         (asks_of place.now pc.now found.old (block_tree statements.now))) }
 {
     for statement in statements {
@@ -48,7 +48,7 @@ fn check_statement(
     requires { AreDeclared place.now.principals.now place.now.method.now.authority.items }
     ensures ok { OnOk result ((rest : BlockTree) →
         PassesTo place.now pc.now found.old (tree_before statement.now rest) found.new rest) }
-    ensures err { IfErr result (λ why. (rest : BlockTree) → Refuses place.now.principals.now
+    ensures err { IfErr result (λ why. (rest : BlockTree) → RefusesFor place.now.principals.now
         (asks_of place.now pc.now found.old (tree_before statement.now rest)) why) }
 {
     tree_laws();

@@ -20,7 +20,7 @@ use Rattle.label_reasons.specs.declared.reason.Via.TheVariants.{ByLocal, ByGuard
 use Rattle.label_reasons.specs.declared.reason.Cause.{Cause}
 use Rattle.label_reasons.specs.Traits.{IsDeclaredTrait}
 use Rattle.label_reasons.specs.Causes.{or_else, through, with_cause, expr_cause, guarded_cause, causes_after_assignment}
-use Rattle.label_reasons.specs.Causes.{causes_after, Tells, TellsVariables, IsMadeOfLabels, IsBlockOfLabels}
+use Rattle.label_reasons.specs.Causes.{causes_after, TellsCause, TellsVariables, IsMadeOfLabels, IsBlockOfLabels}
 use Rattle.label_reasons.proofs.TraitTests.{has_join}
 use Rattle.label_reasons.proofs.ExpressionCauses.{LabelLaws, as_both, or_some, is_trait, expr_tells}
 
@@ -50,7 +50,7 @@ through_some via (Some cause) both = (λ is. both.0 refl, λ p. refl)
 
 set_tells : (trait : Trait) (labels : VariableLabels) (causes : VarId → Option Cause) (x : VarId) (via : Via)
     (cause : Option Cause) (label : Label) → slice_get labels x.0 ≡ Some None → TellsVariables trait causes labels →
-    Tells trait cause label →
+    TellsCause trait cause label →
     TellsVariables trait (with_cause causes x (through via cause)) (slice_set labels x.0 (Some label))
 set_tells trait labels causes x via cause label found each tells y labelled = elim (eqb_tells y.0 x.0) [
   | inl same ↦
@@ -63,8 +63,9 @@ set_tells trait labels causes x via cause label found each tells y labelled = el
       rw apart.0 (rw elsewhere (each y (labelled.0, sym elsewhere ∙ labelled.1)))
 ]
 
-pub assignment_tells : (trait : Trait) (labels : VariableLabels) (causes : VarId → Option Cause) (x : VarId) (here : StmtId)
-    (cause : Option Cause) (label : Label) → TellsVariables trait causes labels → Tells trait cause label →
+pub assignment_tells : (trait : Trait) (labels : VariableLabels) (causes : VarId → Option Cause) (x : VarId)
+    (here : StmtId)
+    (cause : Option Cause) (label : Label) → TellsVariables trait causes labels → TellsCause trait cause label →
     TellsVariables trait (causes_after_assignment labels causes x here cause) (labels_after_assignment labels x label)
 assignment_tells trait labels causes x here cause label each tells = by (slice_get labels x.0) refl
   where
@@ -78,9 +79,9 @@ assignment_tells trait labels causes x here cause label each tells = by (slice_g
 pub guarded_tells : LabelLaws → (trait : Trait) (setting : MethodSetting) (here : StmtId) (of_pc : Option Cause)
     (pc : Label) (causes : VarId → Option Cause) (labels : VariableLabels) (guard : ExprTree) →
     IsDeclaredTrait setting.principals trait → IsLabel pc → IsMadeOfLabels setting pc labels guard →
-    IsLabel (expr_label setting pc labels guard) → Tells trait of_pc pc → TellsVariables trait causes labels →
+    IsLabel (expr_label setting pc labels guard) → TellsCause trait of_pc pc → TellsVariables trait causes labels →
     IsExprLabelled labels guard →
-    Tells trait (guarded_cause trait setting here of_pc causes guard) (guarded setting pc labels guard)
+    TellsCause trait (guarded_cause trait setting here of_pc causes guard) (guarded setting pc labels guard)
 guarded_tells laws trait setting here of_pc pc causes labels guard within pc_is are is tells each known =
     as_both
     (or_some of_pc (through (ByGuard here) (expr_cause trait setting here of_pc causes guard)) tells
@@ -94,7 +95,7 @@ guarded_tells laws trait setting here of_pc pc causes labels guard within pc_is 
 pub after_tells : LabelLaws → (trait : Trait) (setting : MethodSetting) (pc : Label) (of_pc : Option Cause)
     (labels : VariableLabels) (causes : VarId → Option Cause) (block : BlockTree) →
     IsDeclaredTrait setting.principals trait → IsLabel pc → IsBlockOfLabels setting pc labels block →
-    AreValuesLabelled setting pc labels block → Tells trait of_pc pc → TellsVariables trait causes labels →
+    AreValuesLabelled setting pc labels block → TellsCause trait of_pc pc → TellsVariables trait causes labels →
     TellsVariables trait (causes_after trait setting pc of_pc labels causes block)
     (labels_after setting pc labels block)
 after_tells laws trait setting pc of_pc labels causes done within pc_is are known tells each = each
@@ -102,7 +103,7 @@ after_tells laws trait setting pc of_pc labels causes (set_local heading x value
     each =
     let cause = or_else (expr_cause trait setting heading.id of_pc causes value) of_pc in
     let label = join_of (expr_label setting pc labels value) pc in
-    let joined : Tells trait cause label =
+    let joined : TellsCause trait cause label =
     as_both
     (or_some (expr_cause trait setting heading.id of_pc causes value) of_pc
     (expr_tells laws trait setting heading.id of_pc pc causes labels value within pc_is are.0 tells each known.0) tells)

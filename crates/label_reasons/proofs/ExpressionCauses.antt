@@ -20,7 +20,7 @@ use Rattle.label_reasons.specs.declared.reason.Source.{Source}
 use Rattle.label_reasons.specs.declared.reason.Source.TheVariants.{OfField, OfVariable, Written}
 use Rattle.label_reasons.specs.declared.reason.Cause.{Cause}
 use Rattle.label_reasons.specs.Traits.{has, IsTrait, IsDeclaredTrait}
-use Rattle.label_reasons.specs.Causes.{or_else, cause_where, expr_cause, declared_causes, Tells, TellsVariables}
+use Rattle.label_reasons.specs.Causes.{or_else, cause_where, expr_cause, declared_causes, TellsCause, TellsVariables}
 use Rattle.label_reasons.specs.Causes.{IsMadeOfLabels}
 use Rattle.label_reasons.proofs.TraitTests.{AreJoined, AreTrusted, forbids_is, has_join, not_both}
 
@@ -136,8 +136,8 @@ crossed_distrusts laws first second principal within one =
 pub expr_tells : LabelLaws → (trait : Trait) (setting : MethodSetting) (here : StmtId) (of_pc : Option Cause)
     (pc : Label) (causes : VarId → Option Cause) (labels : VariableLabels) (value : ExprTree) →
     IsDeclaredTrait setting.principals trait → IsLabel pc → IsMadeOfLabels setting pc labels value →
-    Tells trait of_pc pc → TellsVariables trait causes labels → IsExprLabelled labels value →
-    Tells trait (expr_cause trait setting here of_pc causes value) (expr_label setting pc labels value)
+    TellsCause trait of_pc pc → TellsVariables trait causes labels → IsExprLabelled labels value →
+    TellsCause trait (expr_cause trait setting here of_pc causes value) (expr_label setting pc labels value)
 expr_tells laws trait setting here of_pc pc causes labels (number value) within pc_is are tells each known = (
   λ is. absurd (false≢true is),
   λ is. absurd (bottom_free laws setting.principals trait within is),

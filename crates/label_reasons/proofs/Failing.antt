@@ -22,13 +22,14 @@ use Rattle.label_reasons.specs.declared.reason.Trait.{Trait}
 use Rattle.label_reasons.specs.declared.reason.Trait.TheVariants.{Keeps, Distrusts}
 use Rattle.label_reasons.specs.declared.reason.Cause.{Cause}
 use Rattle.label_reasons.specs.declared.reason.Reason.{Reason}
-use Rattle.label_reasons.specs.Traits.{has, Fails, IsTrait, IsDeclaredTrait}
+use Rattle.label_reasons.specs.Traits.{has, TraitIsLacking, IsTrait, IsDeclaredTrait}
 use Rattle.label_reasons.specs.Listed.{acts_for, declared_numbers, readers, pairs_of, all_pairs, all_distrusts, failing}
 use Rattle.label_reasons.specs.Listed.{is_of_another, unless_none, goes_without_saying, listed_pairs, listed}
 use Rattle.label_reasons.specs.Asks.{Ask}
-use Rattle.label_reasons.specs.Reasons.{fails, may_tell, release_fails, trust_fails, endorse_fails, fails_in, asked_label}
+use Rattle.label_reasons.specs.Reasons.{fails, may_tell, release_fails, trust_fails, endorse_fails, fails_in}
+use Rattle.label_reasons.specs.Reasons.{asked_label}
 use Rattle.label_reasons.specs.Reasons.{listed_in, reason_of, label_reasons, FailsIn}
-use Rattle.label_reasons.specs.Reasons.{IsLabelReason, IsTold, IsOver}
+use Rattle.label_reasons.specs.Reasons.{IsLabelReason, IsTold, IsConstraintOver}
 use Rattle.label_reasons.proofs.TraitTests.{AreTrusted, forbids_is, not_both, fails_flow, flows_else}
 use Rattle.label_reasons.proofs.ExpressionCauses.{is_trait}
 use Rattle.label_reasons.proofs.ActsTests.{ActsLaws, acts_tells}
@@ -45,7 +46,8 @@ all_flat P f (x ∷ xs) all =
     (All-append P (f x) (flat_map f xs) (All-head (λ one. All P (f one)) x xs all)
     (all_flat P f xs (All-tail (λ one. All P (f one)) x xs all)))
 
-pub all_range : (P : ℕ → Type 0) (from count : ℕ) → ((k : ℕ) → k < from + count → P k) → All P (range_with_len from count)
+pub all_range : (P : ℕ → Type 0) (from count : ℕ) → ((k : ℕ) → k < from + count → P k) →
+    All P (range_with_len from count)
 all_range P from zero each = All-nil P
 all_range P from (suc count) each =
     All-cons P from (range_with_len (from + 1) count) (each from (omega arith))
@@ -85,12 +87,12 @@ listed_within principals declared test = listed_all P principals test
 
 -- ---- what the tests tell
 
-fails_is : (trait : Trait) (from to : Label) → fails trait from to ≡ true → Fails trait from to
+fails_is : (trait : Trait) (from to : Label) → fails trait from to ≡ true → TraitIsLacking trait from to
 fails_is trait from to is =
     let both = and_parts (has trait from) (not (has trait to)) is in
     (both.0, λ also. not_both (has trait to) also both.1)
 
-is_fails : (trait : Trait) (from to : Label) → Fails trait from to → fails trait from to ≡ true
+is_fails : (trait : Trait) (from to : Label) → TraitIsLacking trait from to → fails trait from to ≡ true
 is_fails trait from to is =
     and_from (has trait from) (not (has trait to)) is.0
     (not_from_false (has trait to) (false_from_ne_true (has trait to) is.1))
@@ -215,7 +217,7 @@ denies tells principals (may_flow from to) trait within is holds =
 
 flow_else : AreTrusted → (principals : Declared) (from to : Label) → IsLabelOver principals from →
     IsLabelOver principals to → failing principals (λ trait. fails trait from to) ≡ [] → (trait : Trait) →
-    IsTrait trait → ¬ Fails trait from to
+    IsTrait trait → ¬ TraitIsLacking trait from to
 flow_else tells principals from to one other none (Keeps owner reader) within is =
     let held = (forbids_is from owner reader).0 is.0 in
     pair_fails principals (λ trait. fails trait from to) owner reader
@@ -242,7 +244,8 @@ release_else principals laws authority from to one none owner reader owner_in re
         | inr nobody ↦ absurd (pair_fails principals (release_fails principals authority from to) owner reader
             (one.forbids.owners owner reader owner_in reader_in held) is_reader
             (and_from (fails (Keeps owner reader) from to) (not (list_any (may_tell principals owner reader) authority))
-            (and_from (forbids from owner reader) (not (forbids to owner reader)) ((forbids_is from owner reader).1 held)
+            (and_from (forbids from owner reader) (not (forbids to owner reader))
+            ((forbids_is from owner reader).1 held)
             (not_from_false (forbids to owner reader) free))
             (not_from_false (list_any (may_tell principals owner reader) authority) nobody)) none)
       ]
@@ -288,7 +291,8 @@ endorse_else tells principals laws authority from to other none principal within
     test member = acts_for principals member.0 principal
 
 pub holds_else : AreTrusted → (principals : Declared) → ActsLaws principals → (constraint : Constraint) →
-    IsOver principals constraint → failing principals (fails_in principals constraint) ≡ [] → Holds principals constraint
+    IsConstraintOver principals constraint → failing principals (fails_in principals constraint) ≡ [] →
+    Holds principals constraint
 holds_else tells principals laws (may_release authority from to) over none =
     release_else principals laws authority from to over.1 none
 holds_else tells principals laws (trusted authority pc) over none = trust_else tells principals authority pc over none
@@ -382,7 +386,7 @@ mapped_some f None is = is
 mapped_some f (Some x) is = is
 
 pub reasons_due : AreTrusted → (principals : Declared) → IsDeclared principals → ActsLaws principals → (ask : Ask) →
-    IsOver principals ask.constraint → IsTold principals ask → ¬ Holds principals ask.constraint →
+    IsConstraintOver principals ask.constraint → IsTold principals ask → ¬ Holds principals ask.constraint →
     label_reasons principals ask ≢ []
 reasons_due tells principals declared laws ask over told fails none =
     fails (holds_else tells principals laws ask.constraint over

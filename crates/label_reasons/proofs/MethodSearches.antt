@@ -16,9 +16,10 @@ use Rattle.label_reasons.specs.declared.search_place.Place.{Place}
 use Rattle.label_reasons.specs.declared.search_place.Known.{Known}
 use Rattle.label_reasons.specs.declared.search_place.Found.{Found}
 use Rattle.label_reasons.specs.Causes.{begin_cause, causes_after, declared_causes}
-use Rattle.label_reasons.specs.Asks.{Ask, Spot, spot_after, block_asks, method_spot, methods_asks, program_asks}
+use Rattle.label_reasons.specs.Asks.{Ask, StatementSpot, spot_after, block_asks, method_spot, methods_asks}
+use Rattle.label_reasons.specs.Asks.{program_asks}
 use Rattle.label_reasons.specs.Reasons.{first_refused}
-use Rattle.label_reasons.specs.Search.{listed_cause, IsKnown, Shows, ShowsIfAny, Walks, WalksMethod}
+use Rattle.label_reasons.specs.Search.{listed_cause, AreCausesKnown, ShowsAsk, ShowsIfAny, Walks, WalksMethod}
 use Rattle.label_reasons.specs.Search.{authority_of, IsFirstRefused}
 use Rattle.label_reasons.proofs.Searching.{or_later, first_in_two}
 use Rattle.label_reasons.proofs.Walking.{found_in}
@@ -35,8 +36,10 @@ method_walks place of_pc number old new found body is same walks =
     let begin = place.method.now.begin in
     let cause : Option Cause = begin_cause place.held (record { 0 = number }) begin in
     let tree : BlockTree = (method_tree place.method.now).body in
-    let P : Option Cause → Type 0 = λ one. Walks place (record { pc = begin; of_pc = one }) old None body new found done in
-    let Q : BlockTree → Type 0 = λ one. Walks place (record { pc = begin; of_pc = cause }) old None one new found done in
+    let P : Option Cause → Type 0 = λ one. Walks place (record { pc = begin; of_pc = one }) old None body new found done
+    in
+    let Q : BlockTree → Type 0 = λ one. Walks place (record { pc = begin; of_pc = cause }) old None one new found done
+    in
     let all : Q tree = subst Q same (subst P is walks) in
     record {
       labels = all.labels;
@@ -56,14 +59,14 @@ pub record Reaches (principals : Declared) (program : ProgramTree) (held : Trait
     (methods : List MethodTree) : Type 0 where
   pub causes : Trait → VarId → Option Cause
   pub seen : causes held ≡ listed_cause known.causes.items
-  pub long : IsKnown known
+  pub long : AreCausesKnown known
   pub left : first_refused principals (program_asks principals program)
       ≡ first_refused principals (methods_asks principals program place known.labels.items causes methods)
 
 pub starts : (principals : Declared) (program : ProgramTree) (held : Trait) (known : Known) →
     known.labels.items ≡ declared_labels program →
     ((x : VarId) → listed_cause known.causes.items x ≡ declared_causes held (declared_labels program) x) →
-    IsKnown known → Reaches principals program held 0 known program.methods
+    AreCausesKnown known → Reaches principals program held 0 known program.methods
 starts principals program held known labels causes is =
     let declared : Trait → VarId → Option Cause = λ trait. declared_causes trait (declared_labels program) in
     let same : listed_cause known.causes.items ≡ declared held = λ t x. causes x t in
@@ -81,7 +84,7 @@ none_shown held authority None shows = refl
 none_shown held authority (Some ask) shows = absurd shows
 
 some_shown : (held : Trait) (authority : List PrincipalId) (first : Option Ask) (found : Found) →
-    ShowsIfAny held authority first (Some found) → (ask : Ask) × (first ≡ Some ask) × Shows held authority ask found
+    ShowsIfAny held authority first (Some found) → (ask : Ask) × (first ≡ Some ask) × ShowsAsk held authority ask found
 some_shown held authority None found shows = absurd shows
 some_shown held authority (Some ask) found shows = (ask, refl, shows)
 
@@ -89,11 +92,12 @@ pub goes_on : (principals : Declared) (program : ProgramTree) (held : Trait) (pl
     (method : MethodTree) (rest : List MethodTree) → Reaches principals program held place old (method ∷ rest) →
     WalksMethod principals program held place method old new None → Reaches principals program held (place + 1) new rest
 goes_on principals program held place old new method rest reached walks =
-    let spot : Spot = method_spot principals program place old.labels.items reached.causes method in
-    let after : Spot = spot_after spot method.body in
+    let spot : StatementSpot = method_spot principals program place old.labels.items reached.causes method in
+    let after : StatementSpot = spot_after spot method.body in
     let asks : List Ask = block_asks spot method.body in
     let later : List Ask = methods_asks principals program (place + 1) after.labels after.causes rest in
-    let none = none_shown held method.authority (first_refused principals asks) (walks.found reached.causes reached.seen)
+    let none = none_shown held method.authority (first_refused principals asks)
+    (walks.found reached.causes reached.seen)
     in
     record {
       causes = after.causes;
@@ -103,7 +107,8 @@ goes_on principals program held place old new method rest reached walks =
       long = walks.long;
       left = reached.left ∙ first_in_two principals asks later
           ∙ ap (λ first. or_later first (first_refused principals later)) none
-          ∙ ap (λ labels. first_refused principals (methods_asks principals program (place + 1) labels after.causes rest))
+          ∙ ap (λ labels. first_refused principals
+          (methods_asks principals program (place + 1) labels after.causes rest))
           walks.labels;
     }
 
@@ -112,15 +117,15 @@ pub is_found : (principals : Declared) (program : ProgramTree) (held : Trait) (p
     Reaches principals program held place old (method ∷ rest) →
     WalksMethod principals program held place method old new (Some found) →
     authority_of program place ≡ method.authority →
-    (ask : Ask) × IsFirstRefused principals program ask × Shows held (authority_of program place) ask found
+    (ask : Ask) × IsFirstRefused principals program ask × ShowsAsk held (authority_of program place) ask found
 is_found principals program held place old new method rest found reached walks same =
-    let spot : Spot = method_spot principals program place old.labels.items reached.causes method in
-    let after : Spot = spot_after spot method.body in
+    let spot : StatementSpot = method_spot principals program place old.labels.items reached.causes method in
+    let after : StatementSpot = spot_after spot method.body in
     let asks : List Ask = block_asks spot method.body in
     let later : List Ask = methods_asks principals program (place + 1) after.labels after.causes rest in
     let some = some_shown held method.authority (first_refused principals asks) found
     (walks.found reached.causes reached.seen) in
-    let P : List PrincipalId → Type 0 = λ authority. Shows held authority some.0 found in (
+    let P : List PrincipalId → Type 0 = λ authority. ShowsAsk held authority some.0 found in (
       some.0,
       reached.left ∙ first_in_two principals asks later
           ∙ ap (λ first. or_later first (first_refused principals later)) some.1,
@@ -133,9 +138,11 @@ pub authority_there : (program : ProgramTree) (methods : List Method) (place : �
     program.methods ≡ map method_tree methods → place < length methods → method ≡ get_or methods place method →
     authority_of program place ≡ method.authority.items
 authority_there program methods place method same within is =
-    let there : slice_get methods place ≡ Some method = slice_get-get_or methods place method within ∙ ap Some (sym is) in
+    let there : slice_get methods place ≡ Some method = slice_get-get_or methods place method within
+    ∙ ap Some (sym is) in
     let found : slice_get program.methods place ≡ Some (method_tree method) =
-    ap (λ list. slice_get list place) same ∙ slice_get-map method_tree methods place ∙ ap (option_map method_tree) there in
+    ap (λ list. slice_get list place) same ∙ slice_get-map method_tree methods place
+    ∙ ap (option_map method_tree) there in
     ap (λ (one : Option MethodTree). unwrap_or (option_map (λ tree. tree.authority) one) []) found
 
 pub declared_there : (principals : Declared) (methods : List Method) (place : ℕ) (method : Method) →

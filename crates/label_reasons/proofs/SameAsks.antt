@@ -18,7 +18,8 @@ use Rattle.jif_tree.specs.LabelRules.{result_flows, method_at, params_of, result
 use Rattle.jif_tree.specs.LabelRules.{declared_labels, obligations}
 use Rattle.label_reasons.specs.declared.reason.Trait.{Trait}
 use Rattle.label_reasons.specs.declared.reason.Cause.{Cause}
-use Rattle.label_reasons.specs.Asks.{Spot, Ask, label_at, spot_after, spot_assigned, spot_inside, spot_with, expr_asks}
+use Rattle.label_reasons.specs.Asks.{StatementSpot, Ask, label_at, spot_after, spot_assigned, spot_inside, spot_with}
+use Rattle.label_reasons.specs.Asks.{expr_asks}
 use Rattle.label_reasons.specs.Asks.{argument_asks, result_asks, call_flows, return_flows, block_asks, method_spot}
 use Rattle.label_reasons.specs.Asks.{methods_asks, program_asks, obligation_of}
 
@@ -54,7 +55,7 @@ and_asks first second one other is also =
 
 -- ---- expressions and calls
 
-expr_same : (spot : Spot) (here : StmtId) (value : ExprTree) →
+expr_same : (spot : StatementSpot) (here : StmtId) (value : ExprTree) →
     Are here (expr_asks spot here value) (expr_constraints spot.setting spot.pc spot.labels value)
 expr_same spot here (number value) = refl
 expr_same spot here (local x) = refl
@@ -67,7 +68,7 @@ expr_same spot here (binary operator left right) =
 expr_same spot here (declassified operand label) = both here _ _ _ _ (expr_same spot here operand) refl
 expr_same spot here (endorsed operand label) = both here _ _ _ _ (expr_same spot here operand) refl
 
-exprs_same : (spot : Spot) (here : StmtId) (values : List ExprTree) →
+exprs_same : (spot : StatementSpot) (here : StmtId) (values : List ExprTree) →
     Are here (flat_map (expr_asks spot here) values)
     (flat_map (expr_constraints spot.setting spot.pc spot.labels) values)
 exprs_same spot here [] = refl
@@ -78,7 +79,7 @@ exprs_same spot here (value ∷ values) =
     )
     (both here _ _ _ _ (expr_same spot here value) (exprs_same spot here values))
 
-arguments_same : (spot : Spot) (here : StmtId) (method : MethodId) (place : ℕ) (values : List ExprTree)
+arguments_same : (spot : StatementSpot) (here : StmtId) (method : MethodId) (place : ℕ) (values : List ExprTree)
     (params : List VarId) →
     Are here (argument_asks spot here method place values params)
     (argument_flows spot.setting spot.pc spot.labels values params)
@@ -88,13 +89,13 @@ arguments_same spot here method place (value ∷ values) (param ∷ params) =
     let first = asking here (flow_of spot.pc (label_at spot value) (variable_label spot.labels param)) in
     ap (λ rest. first ∷ rest) (arguments_same spot here method (place + 1) values params)
 
-result_same : (spot : Spot) (here : StmtId) (method : MethodId) (result into : Option VarId) →
+result_same : (spot : StatementSpot) (here : StmtId) (method : MethodId) (result into : Option VarId) →
     Are here (result_asks spot here method result into) (result_flows spot.pc spot.labels result into)
 result_same spot here method None into = refl
 result_same spot here method (Some result) None = refl
 result_same spot here method (Some result) (Some into) = refl
 
-call_same : (spot : Spot) (here : StmtId) (method : MethodId) (values : List ExprTree) (into : Option VarId) →
+call_same : (spot : StatementSpot) (here : StmtId) (method : MethodId) (values : List ExprTree) (into : Option VarId) →
     Are here (call_flows spot here method values into)
     (rules.call_constraints spot.setting spot.pc spot.labels (method_at spot.setting.program method) values into)
 call_same spot here method values into =
@@ -104,7 +105,7 @@ call_same spot here method values into =
     (both here _ _ _ _ (arguments_same spot here method 0 values (params_of called))
     (result_same spot here method (result_of called) into))
 
-return_same : (spot : Spot) (here : StmtId) (result : Option VarId) (value : ExprTree) →
+return_same : (spot : StatementSpot) (here : StmtId) (result : Option VarId) (value : ExprTree) →
     Are here (return_flows spot here result value)
     (rules.return_flows spot.pc spot.labels result (label_at spot value))
 return_same spot here None value = refl
@@ -112,10 +113,10 @@ return_same spot here (Some result) value = refl
 
 -- ---- blocks
 
-abbrev labels_at : Spot → BlockTree → List StatementLabels
+abbrev labels_at : StatementSpot → BlockTree → List StatementLabels
 labels_at spot block = block_labels spot.setting spot.pc spot.labels block
 
-block_same : (spot : Spot) (block : BlockTree) →
+block_same : (spot : StatementSpot) (block : BlockTree) →
     map obligation_of (block_asks spot block) ≡ obligations_of (block_labels spot.setting spot.pc spot.labels block)
 block_same spot done = refl
 block_same spot (set_local heading x value rest) =
@@ -137,7 +138,8 @@ block_same spot (branch heading guard first second rest) =
 block_same spot (loop heading guard body rest) =
     let inside = spot_inside spot heading.id guard in
     let after = spot_with spot (spot_after inside body) in
-    then_asks heading.id _ _ _ _ (both heading.id _ _ _ _ (expr_same spot heading.id guard) (expr_same inside heading.id guard))
+    then_asks heading.id _ _ _ _ (both heading.id _ _ _ _ (expr_same spot heading.id guard)
+    (expr_same inside heading.id guard))
     (and_asks _ _ (labels_at inside body) (labels_at after rest) (block_same inside body) (block_same after rest))
 block_same spot (call heading site method arguments into rest) =
     then_asks heading.id _ _ _ _ (both heading.id _ _ _ _ (exprs_same spot heading.id arguments)

@@ -1,5 +1,6 @@
 -- What is found in parts is found in the whole.
-use Rattle.std.proofs.Common.{◌≡◌, inl, inr, Bool, true, false, List, [], ◌∷◌, ◌++◌, filter, refl, sym, ◌∙◌, subst, cond}
+use Rattle.std.proofs.Common.{◌≡◌, inl, inr, Bool, true, false, List, [], ◌∷◌, ◌++◌, filter, refl, sym, ◌∙◌, subst}
+use Rattle.std.proofs.Common.{cond}
 use Rattle.std.specs.Prelude.{Option, Some, None}
 use Rattle.std.specs.List.{list_any}
 use Rattle.std.proofs.lemmas.Bool.{or_parts, or_cases, cases_Bool, true≢false}
@@ -13,9 +14,9 @@ use Rattle.label_reasons.specs.declared.search_place.Place.{Place}
 use Rattle.label_reasons.specs.declared.search_place.Stand.{Stand}
 use Rattle.label_reasons.specs.declared.search_place.Known.{Known}
 use Rattle.label_reasons.specs.Listed.{all_pairs, all_distrusts}
-use Rattle.label_reasons.specs.Asks.{Ask, Spot}
+use Rattle.label_reasons.specs.Asks.{Ask, StatementSpot}
 use Rattle.label_reasons.specs.Reasons.{fails_in, constraint_of, listed_in, refused_or, first_refused}
-use Rattle.label_reasons.specs.Search.{authority_at, spot_at, some_fails_in, Shows, ShowsIfAny, Finds, FindsAt}
+use Rattle.label_reasons.specs.Search.{authority_at, spot_at, some_fails_in, ShowsAsk, ShowsIfAny, Finds, FindsAt}
 use Rattle.label_reasons.proofs.Listing.{none_listed, cons_some}
 
 -- ---- what is refused
@@ -51,7 +52,8 @@ refused principals ask some = by (listed_in principals ask) refl
     test : Trait → Bool
     test = fails_in principals ask.constraint
 
-    by : (traits : List Trait) → listed_in principals ask ≡ traits → refused_or ask (listed_in principals ask) None ≡ Some ask
+    by : (traits : List Trait) → listed_in principals ask ≡ traits → refused_or ask (listed_in principals ask) None
+        ≡ Some ask
     by (trait ∷ traits) is = rw is refl
     by [] is =
         let none = none_in_two (filter test (all_pairs principals)) (filter test (all_distrusts principals))
@@ -62,7 +64,7 @@ refused principals ask some = by (listed_in principals ask) refl
         ])
 
 pub offered_some : (principals : Declared) (held : Trait) (authority : List PrincipalId) (ask : Ask) (asked : Found) →
-    Shows held authority ask asked → some_fails_in principals (constraint_of authority asked.demand) ≡ true →
+    ShowsAsk held authority ask asked → some_fails_in principals (constraint_of authority asked.demand) ≡ true →
     Finds principals held authority (ask ∷ []) None (Some asked)
 offered_some principals held authority ask asked shows some =
     let P : Constraint → Type 0 = λ one. some_fails_in principals one ≡ true in
@@ -70,7 +72,7 @@ offered_some principals held authority ask asked shows some =
     subst Q (sym (refused principals ask (subst P shows.constraint some))) shows
 
 pub offered_none : (principals : Declared) (held : Trait) (authority : List PrincipalId) (ask : Ask) (asked : Found) →
-    Shows held authority ask asked → some_fails_in principals (constraint_of authority asked.demand) ≡ false →
+    ShowsAsk held authority ask asked → some_fails_in principals (constraint_of authority asked.demand) ≡ false →
     Finds principals held authority (ask ∷ []) None None
 offered_none principals held authority ask asked shows none =
     let P : Constraint → Type 0 = λ one. some_fails_in principals one ≡ false in
@@ -134,11 +136,11 @@ finds_then principals held authority first second None mid new is also =
     (λ same. let Q : Option Found → Type 0 = λ one. Finds principals held authority second one new in
     subst Q same also))
 
-pub at_then : (place : Place) (stand : Stand) (known : Known) (first second : Spot → List Ask)
+pub at_then : (place : Place) (stand : Stand) (known : Known) (first second : StatementSpot → List Ask)
     (old mid new : Option Found) → FindsAt place stand known first old mid → FindsAt place stand known second mid new →
     FindsAt place stand known (λ spot. first spot ++ second spot) old new
 at_then place stand known first second old mid new is also of_pc causes sees =
-    let spot : Spot = spot_at place stand known of_pc causes in
+    let spot : StatementSpot = spot_at place stand known of_pc causes in
     finds_then place.principals.now place.held (authority_at place) (first spot) (second spot) old mid new
     (is of_pc causes sees) (also of_pc causes sees)
 

@@ -33,13 +33,15 @@ use Rattle.label_reasons.specs.declared.reason.Source.TheVariants.{OfBegin, OfVa
 use Rattle.label_reasons.specs.declared.reason.Wanted.{Wanted}
 use Rattle.label_reasons.specs.declared.reason.Wanted.TheVariants.{KeptInField, KeptInLocal, Given, GivenBack}
 use Rattle.label_reasons.specs.Traits.{has, IsDeclaredTrait}
-use Rattle.label_reasons.specs.Causes.{or_else, cause_where, Tells, TellsVariables, IsMadeOfLabels, declared_causes}
-use Rattle.label_reasons.specs.Asks.{Spot, Ask, label_at, cause_at, spot_after, spot_assigned, spot_inside, spot_with}
+use Rattle.label_reasons.specs.Causes.{or_else, cause_where, TellsCause, TellsVariables, IsMadeOfLabels}
+use Rattle.label_reasons.specs.Causes.{declared_causes}
+use Rattle.label_reasons.specs.Asks.{StatementSpot, Ask, label_at, cause_at, spot_after, spot_assigned, spot_inside}
+use Rattle.label_reasons.specs.Asks.{spot_with}
 use Rattle.label_reasons.specs.Asks.{release_ask, trust_ask, endorse_ask, element_ask, begin_ask, result_ask}
 use Rattle.label_reasons.specs.Asks.{expr_asks, flow_ask, value_ask, value_asks, element_asks, argument_asks}
 use Rattle.label_reasons.specs.Asks.{result_asks, call_flows, call_asks, return_flows, return_asks, block_asks}
 use Rattle.label_reasons.specs.Asks.{method_spot, methods_asks, program_asks}
-use Rattle.label_reasons.specs.Reasons.{IsTold, IsOver}
+use Rattle.label_reasons.specs.Reasons.{IsTold, IsConstraintOver}
 use Rattle.label_reasons.specs.Programs.{IsMethodOver, IsProgramOver}
 use Rattle.label_reasons.proofs.TraitTests.{has_join}
 use Rattle.label_reasons.proofs.ExpressionCauses.{LabelLaws, as_both, or_some, where_some, is_trait, expr_tells}
@@ -65,27 +67,29 @@ right_of P (x ∷ xs) ys all = right_of P xs ys (All-tail P x (xs ++ ys) all)
 -- ---- spots
 
 -- where labels are over the declared principals, and causes tell of them
-pub record IsSpotOver (spot : Spot) : Type 0 where
+pub record IsSpotOver (spot : StatementSpot) : Type 0 where
   pub named : AreNamedOver spot.setting spot.labels
   pub under : IsLabelOver spot.setting.principals spot.pc
   pub begins : (method : MethodId) →
       IsLabelOver spot.setting.principals (begin_label (method_at spot.setting.program method))
   pub authority : AreDeclared spot.setting.principals spot.setting.authority
-  pub of_pc : (trait : Trait) → IsDeclaredTrait spot.setting.principals trait → Tells trait (spot.of_pc trait) spot.pc
+  pub of_pc : (trait : Trait) → IsDeclaredTrait spot.setting.principals trait →
+      TellsCause trait (spot.of_pc trait) spot.pc
   pub variables : (trait : Trait) → IsDeclaredTrait spot.setting.principals trait →
       TellsVariables trait (spot.causes trait) spot.labels
 
 -- what is written in an expression
-abbrev AreWritten : Spot → ExprTree → Type 0
+abbrev AreWritten : StatementSpot → ExprTree → Type 0
 AreWritten spot value = All (IsLabelOver spot.setting.principals) (written_in value)
 
 -- ---- expressions
 
-over_at : (spot : Spot) → OverLaws spot.setting.principals → IsSpotOver spot → (value : ExprTree) →
+over_at : (spot : StatementSpot) → OverLaws spot.setting.principals → IsSpotOver spot → (value : ExprTree) →
     AreWritten spot value → IsLabelOver spot.setting.principals (label_at spot value)
-over_at spot laws is value written = expr_over {setting = spot.setting} laws.order spot.pc value is.under is.named written
+over_at spot laws is value written = expr_over {setting = spot.setting} laws.order spot.pc value is.under is.named
+    written
 
-made_over : (spot : Spot) → OverLaws spot.setting.principals → IsSpotOver spot → (value : ExprTree) →
+made_over : (spot : StatementSpot) → OverLaws spot.setting.principals → IsSpotOver spot → (value : ExprTree) →
     AreWritten spot value → IsMadeOfLabels spot.setting spot.pc spot.labels value
 made_over spot laws is (number value) written = tt
 made_over spot laws is (local x) written = tt
@@ -119,22 +123,26 @@ made_over spot laws is (endorsed operand label) written =
     let inner = left_of P (written_in operand) (label ∷ []) written in
     (here.is_label, (over_at spot laws is operand inner).is_label, made_over spot laws is operand inner)
 
-value_told : (spot : Spot) → OverLaws spot.setting.principals → IsSpotOver spot → (here : StmtId) (value : ExprTree) →
+value_told : (spot : StatementSpot) → OverLaws spot.setting.principals → IsSpotOver spot →
+    (here : StmtId) (value : ExprTree) →
     AreWritten spot value → IsExprLabelled spot.labels value → (trait : Trait) →
-    IsDeclaredTrait spot.setting.principals trait → Tells trait (cause_at spot here value trait) (label_at spot value)
+    IsDeclaredTrait spot.setting.principals trait →
+    TellsCause trait (cause_at spot here value trait) (label_at spot value)
 value_told spot laws is here value written known trait within =
-    expr_tells laws.labels trait spot.setting here (spot.of_pc trait) spot.pc (spot.causes trait) spot.labels value within
+    expr_tells laws.labels trait spot.setting here (spot.of_pc trait) spot.pc (spot.causes trait) spot.labels value
+    within
     is.under.is_label (made_over spot laws is value written) (is.of_pc trait within) (is.variables trait within) known
 
 -- what is known of what is asked for
 pub record IsAskOver (principals : Declared) (ask : Ask) : Type 0 where
-  pub over : IsOver principals ask.constraint
+  pub over : IsConstraintOver principals ask.constraint
   pub told : IsTold principals ask
 
-abbrev AreAsksOver : Spot → List Ask → Type 0
+abbrev AreAsksOver : StatementSpot → List Ask → Type 0
 AreAsksOver spot asks = All (IsAskOver spot.setting.principals) asks
 
-expr_good : (spot : Spot) → OverLaws spot.setting.principals → IsSpotOver spot → (here : StmtId) (value : ExprTree) →
+expr_good : (spot : StatementSpot) → OverLaws spot.setting.principals → IsSpotOver spot →
+    (here : StmtId) (value : ExprTree) →
     AreWritten spot value → IsExprLabelled spot.labels value → AreAsksOver spot (expr_asks spot here value)
 expr_good spot laws is here (number value) written known = All-nil (IsAskOver spot.setting.principals)
 expr_good spot laws is here (local x) written known = All-nil (IsAskOver spot.setting.principals)
@@ -173,7 +181,7 @@ expr_good spot laws is here (endorsed operand label) written known =
 -- a label over the principals, and causes that tell of it
 record IsToldLabel (principals : Declared) (cause : Trait → Option Cause) (label : Label) : Type 0 where
   over : IsLabelOver principals label
-  told : (trait : Trait) → IsDeclaredTrait principals trait → Tells trait (cause trait) label
+  told : (trait : Trait) → IsDeclaredTrait principals trait → TellsCause trait (cause trait) label
 
 joined : (principals : Declared) → OverLaws principals → (one other : Trait → Option Cause) (first second : Label) →
     IsToldLabel principals one first → IsToldLabel principals other second →
@@ -186,7 +194,8 @@ joined principals laws one other first second is also = record {
       is.over.is_label also.over.is_label);
 }
 
-value_is : (spot : Spot) → OverLaws spot.setting.principals → IsSpotOver spot → (here : StmtId) (value : ExprTree) →
+value_is : (spot : StatementSpot) → OverLaws spot.setting.principals → IsSpotOver spot →
+    (here : StmtId) (value : ExprTree) →
     AreWritten spot value → IsExprLabelled spot.labels value →
     IsToldLabel spot.setting.principals (cause_at spot here value) (label_at spot value)
 value_is spot laws is here value written known = record {
@@ -194,7 +203,8 @@ value_is spot laws is here value written known = record {
   told = value_told spot laws is here value written known;
 }
 
-flow_good : (spot : Spot) → OverLaws spot.setting.principals → IsSpotOver spot → (here : StmtId) (wanted : Wanted)
+flow_good : (spot : StatementSpot) → OverLaws spot.setting.principals → IsSpotOver spot →
+    (here : StmtId) (wanted : Wanted)
     (from : Label) (cause : Trait → Option Cause) (to : Label) → IsToldLabel spot.setting.principals cause from →
     IsLabelOver spot.setting.principals to → IsAskOver spot.setting.principals (flow_ask spot here wanted from cause to)
 flow_good spot laws is here wanted from cause to value other =
@@ -202,17 +212,20 @@ flow_good spot laws is here wanted from cause to value other =
     (record { over = is.under; told = is.of_pc }) in
     record { over = (both.over, other); told = both.told }
 
-value_good : (spot : Spot) → OverLaws spot.setting.principals → IsSpotOver spot → (here : StmtId) (wanted : Wanted)
+value_good : (spot : StatementSpot) → OverLaws spot.setting.principals → IsSpotOver spot →
+    (here : StmtId) (wanted : Wanted)
     (value : ExprTree) (to : Label) → AreWritten spot value → IsExprLabelled spot.labels value →
     IsLabelOver spot.setting.principals to → AreAsksOver spot (value_asks spot here wanted value to)
 value_good spot laws is here wanted value to written known other =
     let Q : Ask → Type 0 = IsAskOver spot.setting.principals in
     All-append Q (expr_asks spot here value) (value_ask spot here wanted value to ∷ [])
     (expr_good spot laws is here value written known)
-    (All-cons Q (value_ask spot here wanted value to) [] (flow_good spot laws is here wanted (label_at spot value) (cause_at spot here value) to
+    (All-cons Q (value_ask spot here wanted value to) []
+    (flow_good spot laws is here wanted (label_at spot value) (cause_at spot here value) to
     (value_is spot laws is here value written known) other) (All-nil Q))
 
-element_good : (spot : Spot) → OverLaws spot.setting.principals → IsSpotOver spot → (here : StmtId) (field : FieldId)
+element_good : (spot : StatementSpot) → OverLaws spot.setting.principals → IsSpotOver spot →
+    (here : StmtId) (field : FieldId)
     (index value : ExprTree) → AreWritten spot index → AreWritten spot value → IsExprLabelled spot.labels index →
     IsExprLabelled spot.labels value → AreAsksOver spot (element_asks spot here field index value)
 element_good spot laws is here field index value first second one other =
@@ -228,7 +241,7 @@ element_good spot laws is here field index value first second one other =
 
 -- ---- calls
 
-arguments_good : (spot : Spot) → OverLaws spot.setting.principals → IsSpotOver spot → (here : StmtId)
+arguments_good : (spot : StatementSpot) → OverLaws spot.setting.principals → IsSpotOver spot → (here : StmtId)
     (method : MethodId) (place : ℕ) (values : List ExprTree) (params : List VarId) →
     All (IsLabelOver spot.setting.principals) (flat_map written_in values) →
     AllByRecursion (IsExprLabelled spot.labels) values →
@@ -249,7 +262,7 @@ arguments_good spot laws is here method place (value ∷ values) (param ∷ para
     (arguments_good spot laws is here method (place + 1) values params
     (right_of P (written_in value) (flat_map written_in values) parts) known.1)
 
-exprs_good : (spot : Spot) → OverLaws spot.setting.principals → IsSpotOver spot → (here : StmtId)
+exprs_good : (spot : StatementSpot) → OverLaws spot.setting.principals → IsSpotOver spot → (here : StmtId)
     (values : List ExprTree) → All (IsLabelOver spot.setting.principals) (flat_map written_in values) →
     AllByRecursion (IsExprLabelled spot.labels) values → AreAsksOver spot (flat_map (expr_asks spot here) values)
 exprs_good spot laws is here [] written known = All-nil (IsAskOver spot.setting.principals)
@@ -263,7 +276,7 @@ exprs_good spot laws is here (value ∷ values) written known =
     (expr_good spot laws is here value (left_of P (written_in value) (flat_map written_in values) parts) known.0)
     (exprs_good spot laws is here values (right_of P (written_in value) (flat_map written_in values) parts) known.1))
 
-result_good : (spot : Spot) → OverLaws spot.setting.principals → IsSpotOver spot → (here : StmtId)
+result_good : (spot : StatementSpot) → OverLaws spot.setting.principals → IsSpotOver spot → (here : StmtId)
     (method : MethodId) (result into : Option VarId) → AreAsksOver spot (result_asks spot here method result into)
 result_good spot laws is here method None into = All-nil (IsAskOver spot.setting.principals)
 result_good spot laws is here method (Some result) None = All-nil (IsAskOver spot.setting.principals)
@@ -276,7 +289,7 @@ result_good spot laws is here method (Some result) (Some into) =
       told = λ trait within. where_some (has trait label) (OfVariable result);
     }) (is.named.variables into)) (All-nil (IsAskOver spot.setting.principals))
 
-call_good : (spot : Spot) → OverLaws spot.setting.principals → IsSpotOver spot → (here : StmtId)
+call_good : (spot : StatementSpot) → OverLaws spot.setting.principals → IsSpotOver spot → (here : StmtId)
     (method : MethodId) (values : List ExprTree) (into : Option VarId) →
     All (IsLabelOver spot.setting.principals) (flat_map written_in values) →
     AllByRecursion (IsExprLabelled spot.labels) values → AreAsksOver spot (call_asks spot here method values into)
@@ -293,7 +306,7 @@ call_good spot laws is here method values into written known =
     (arguments_good spot laws is here method 0 values (params_of called) written known)
     (result_good spot laws is here method (result_of called) into)))
 
-return_good : (spot : Spot) → OverLaws spot.setting.principals → IsSpotOver spot → (here : StmtId)
+return_good : (spot : StatementSpot) → OverLaws spot.setting.principals → IsSpotOver spot → (here : StmtId)
     (result : Option VarId) (value : ExprTree) → AreWritten spot value → IsExprLabelled spot.labels value →
     AreAsksOver spot (return_flows spot here result value)
 return_good spot laws is here None value written known = All-nil (IsAskOver spot.setting.principals)
@@ -331,7 +344,8 @@ assigned_over P labels x label holds all = by (slice_get labels x.0) refl
     by (Some (Some declared)) is y = rw is (all y)
     by (Some None) is y = rw is (set_over P labels x label is holds all y)
 
-assigned_good : (spot : Spot) → OverLaws spot.setting.principals → IsSpotOver spot → (here : StmtId) (x : VarId)
+assigned_good : (spot : StatementSpot) → OverLaws spot.setting.principals → IsSpotOver spot →
+    (here : StmtId) (x : VarId)
     (value : ExprTree) → AreWritten spot value → IsExprLabelled spot.labels value →
     IsSpotOver (spot_assigned spot here x value)
 assigned_good spot laws is here x value written known =
@@ -354,7 +368,7 @@ assigned_good spot laws is here x value written known =
           (both.told trait within);
     }
 
-inside_good : (spot : Spot) → OverLaws spot.setting.principals → IsSpotOver spot → (here : StmtId)
+inside_good : (spot : StatementSpot) → OverLaws spot.setting.principals → IsSpotOver spot → (here : StmtId)
     (guard : ExprTree) → AreWritten spot guard → IsExprLabelled spot.labels guard →
     IsSpotOver (spot_inside spot here guard)
 inside_good spot laws is here guard written known = record {
@@ -368,7 +382,7 @@ inside_good spot laws is here guard written known = record {
   variables = is.variables;
 }
 
-with_good : (spot inner : Spot) → IsSpotOver spot → AreNamedOver spot.setting inner.labels →
+with_good : (spot inner : StatementSpot) → IsSpotOver spot → AreNamedOver spot.setting inner.labels →
     ((trait : Trait) → IsDeclaredTrait spot.setting.principals trait →
     TellsVariables trait (inner.causes trait) inner.labels) → IsSpotOver (spot_with spot inner)
 with_good spot inner is named variables = record {
@@ -383,11 +397,11 @@ with_good spot inner is named variables = record {
 -- ---- blocks
 
 -- what is asked for in a block, and what is known behind it
-record IsBlockOver (spot : Spot) (block : BlockTree) : Type 0 where
+record IsBlockOver (spot : StatementSpot) (block : BlockTree) : Type 0 where
   asks : AreAsksOver spot (block_asks spot block)
   after : IsSpotOver (spot_after spot block)
 
-block_good : (spot : Spot) → OverLaws spot.setting.principals → IsSpotOver spot → (block : BlockTree) →
+block_good : (spot : StatementSpot) → OverLaws spot.setting.principals → IsSpotOver spot → (block : BlockTree) →
     All (IsLabelOver spot.setting.principals) (written_in_block block) →
     AreValuesLabelled spot.setting spot.pc spot.labels block → IsBlockOver spot block
 block_good spot laws is done written known = record { asks = All-nil (IsAskOver spot.setting.principals); after = is }
@@ -401,7 +415,8 @@ block_good spot laws is (set_local heading x value rest) written known =
     (right_of P (written_in value) (written_in_block rest) written) known.1 in
     record {
       asks = All-append (IsAskOver spot.setting.principals) (value_asks spot heading.id (KeptInLocal x) value to)
-          (block_asks after rest) (value_good spot laws is heading.id (KeptInLocal x) value to one known.0 (assigned.named.variables x)) left.asks;
+          (block_asks after rest) (value_good spot laws is heading.id (KeptInLocal x) value to one known.0
+          (assigned.named.variables x)) left.asks;
       after = left.after;
     }
 block_good spot laws is (set_field heading field value rest) written known =
@@ -410,7 +425,8 @@ block_good spot laws is (set_field heading field value rest) written known =
     let left = block_good spot laws is rest (right_of P (written_in value) (written_in_block rest) written) known.1 in
     record {
       asks = All-append (IsAskOver spot.setting.principals) (value_asks spot heading.id (KeptInField field) value to)
-          (block_asks spot rest) (value_good spot laws is heading.id (KeptInField field) value to (left_of P (written_in value) (written_in_block rest) written)
+          (block_asks spot rest) (value_good spot laws is heading.id (KeptInField field) value to
+          (left_of P (written_in value) (written_in_block rest) written)
           known.0 (is.named.fields field)) left.asks;
       after = left.after;
     }
@@ -553,7 +569,8 @@ record AreVariablesOver (principals : Declared) (program : ProgramTree) (labels 
   over : (x : VarId) → IsLabelOver principals (variable_label labels x)
   told : (trait : Trait) → IsDeclaredTrait principals trait → TellsVariables trait (causes trait) labels
 
-methods_good : (principals : Declared) (program : ProgramTree) → OverLaws principals → IsProgramOver principals program →
+methods_good : (principals : Declared) (program : ProgramTree) → OverLaws principals →
+    IsProgramOver principals program →
     (place : ℕ) (labels : VariableLabels) (causes : Trait → VarId → Option Cause) (methods : List MethodTree) →
     AreVariablesOver principals program labels causes → All (IsMethodOver principals) methods →
     AreAllValuesLabelled principals program labels methods →

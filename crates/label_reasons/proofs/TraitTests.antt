@@ -9,7 +9,7 @@ use Rattle.label_lattice.specs.Lattice.{IsJoin, join_of}
 use Rattle.label_lattice.specs.Printed.{forbids, is_trusted_by}
 use Rattle.label_reasons.specs.declared.reason.Trait.{Trait}
 use Rattle.label_reasons.specs.declared.reason.Trait.TheVariants.{Keeps, Distrusts}
-use Rattle.label_reasons.specs.Traits.{has, IsTrait, Fails}
+use Rattle.label_reasons.specs.Traits.{has, IsTrait, TraitIsLacking}
 
 -- what the laws of labels say of joins, and those of their texts of tests
 abbrev pub AreJoined : Type 0
@@ -64,7 +64,8 @@ has_join joined trusted (Distrusts principal) first second within one two =
     sets : Trusts (join_of first second) principal ↔ (Trusts first principal × Trusts second principal)
     sets = (joined first second one two).trusts principal within
 
-pub fails_flow : AreTrusted → (trait : Trait) (from to : Label) → IsTrait trait → Fails trait from to → ¬ Flows from to
+pub fails_flow : AreTrusted → (trait : Trait) (from to : Label) → IsTrait trait → TraitIsLacking trait from to →
+    ¬ Flows from to
 fails_flow trusted (Keeps owner reader) from to within fails flows =
     fails.1 ((forbids_is to owner reader).1
     (flows.0 owner reader within.0 within.1 ((forbids_is from owner reader).0 fails.0)))
@@ -74,7 +75,7 @@ fails_flow trusted (Distrusts principal) from to within fails flows = elim (case
   | inr lacks ↦ fails.1 (not_from_false (is_trusted_by to principal) lacks)
 ]
 
-pub flows_else : AreTrusted → (from to : Label) → ((trait : Trait) → IsTrait trait → ¬ Fails trait from to) →
+pub flows_else : AreTrusted → (from to : Label) → ((trait : Trait) → IsTrait trait → ¬ TraitIsLacking trait from to) →
     Flows from to
 flows_else trusted from to none = (
   λ owner reader owner_in reader_in held. elim (cases_Bool (forbids to owner reader)) [

@@ -14,14 +14,15 @@ use Rattle.label_reasons.specs.declared.search_place.Place.{Place}
 use Rattle.label_reasons.specs.declared.search_place.Stand.{Stand}
 use Rattle.label_reasons.specs.declared.search_place.Known.{Known}
 use Rattle.label_reasons.specs.Causes.{or_else, expr_cause, guarded_cause, causes_after, causes_after_assignment}
-use Rattle.label_reasons.specs.Asks.{Ask, Spot, spot_after, spot_inside, spot_with, expr_asks, block_asks}
+use Rattle.label_reasons.specs.Asks.{Ask, StatementSpot, spot_after, spot_inside, spot_with, expr_asks, block_asks}
 use Rattle.label_reasons.specs.Asks.{spot_assigned, value_ask}
-use Rattle.label_reasons.specs.Search.{listed_cause, setting_at, authority_at, Finds, FindsAt, Sees, spot_at, IsKnown}
+use Rattle.label_reasons.specs.Search.{listed_cause, setting_at, authority_at, Finds, FindsAt, Sees, spot_at}
+use Rattle.label_reasons.specs.Search.{AreCausesKnown}
 use Rattle.label_reasons.specs.Search.{Walks, stand_inside, label_is, cause_is}
 use Rattle.label_reasons.proofs.Searching.{finds_none, finds_two}
 
 pub walks_none : (place : Place) (stand : Stand) (known : Known) (found : Option Found) (block : BlockTree) →
-    IsKnown known → Walks place stand known found block known found block
+    AreCausesKnown known → Walks place stand known found block known found block
 walks_none place stand known found block is = record {
   labels = refl;
   causes = refl;
@@ -31,7 +32,8 @@ walks_none place stand known found block is = record {
 
 pub walks_on : (place : Place) (stand : Stand) (old mid new : Known) (old_found mid_found new_found : Option Found)
     (block between left : BlockTree) → Walks place stand old old_found block mid mid_found between →
-    Walks place stand mid mid_found between new new_found left → Walks place stand old old_found block new new_found left
+    Walks place stand mid mid_found between new new_found left →
+    Walks place stand old old_found block new new_found left
 walks_on place stand old mid new old_found mid_found new_found block between left one other = record {
   labels = one.labels ∙ other.labels;
   causes = one.causes ∙ other.causes;
@@ -49,22 +51,22 @@ found_in place stand old new old_found new_found block walks =
 
 -- ---- statements without blocks
 
-pub plain : (place : Place) (stand : Stand) (known : Known) (asks : Spot → List Ask) (block rest : BlockTree)
-    (old new : Option Found) → IsKnown known → FindsAt place stand known asks old new →
+pub plain : (place : Place) (stand : Stand) (known : Known) (asks : StatementSpot → List Ask) (block rest : BlockTree)
+    (old new : Option Found) → AreCausesKnown known → FindsAt place stand known asks old new →
     labels_after (setting_at place) stand.pc known.labels.items block
     ≡ labels_after (setting_at place) stand.pc known.labels.items rest →
     causes_after place.held (setting_at place) stand.pc stand.of_pc known.labels.items (listed_cause known.causes.items)
     block
     ≡ causes_after place.held (setting_at place) stand.pc stand.of_pc known.labels.items
     (listed_cause known.causes.items) rest →
-    ((spot : Spot) → block_asks spot block ≡ asks spot ++ block_asks spot rest) →
+    ((spot : StatementSpot) → block_asks spot block ≡ asks spot ++ block_asks spot rest) →
     Walks place stand known old block known new rest
 plain place stand known asks block rest old new is finds labels causes parts = record {
   labels = labels;
   causes = causes;
   long = is;
   found = λ end at of_pc seen sees.
-      let spot : Spot = spot_at place stand known of_pc seen in
+      let spot : StatementSpot = spot_at place stand known of_pc seen in
       let P : List Ask → Type 0 = λ all. Finds place.principals.now place.held (authority_at place) all old end in
       subst P (sym (parts spot)) (finds_two place (asks spot) (block_asks spot rest) old new end
       (finds of_pc seen sees) (at of_pc seen sees));
@@ -124,12 +126,14 @@ inside_sees place stand known of_pc causes here guard sees = record {
 }
 
 pub branch_walks : (place : Place) (stand : Stand) (old mid new : Known)
-    (old_found in_guard in_first new_found : Option Found) (heading : Heading) (guard : ExprTree) (first second rest : BlockTree) →
+    (old_found in_guard in_first new_found : Option Found) (heading : Heading) (guard : ExprTree)
+    (first second rest : BlockTree) →
     FindsAt place stand old (λ spot. expr_asks spot heading.id guard) old_found in_guard →
     Walks place (stand_inside place heading.id stand old guard) old in_guard first mid in_first done →
     Walks place (stand_inside place heading.id stand old guard) mid in_first second new new_found done →
     Walks place stand old old_found (branch heading guard first second rest) new new_found rest
-branch_walks place stand old mid new old_found in_guard in_first new_found heading guard first second rest finds one two =
+branch_walks place stand old mid new old_found in_guard in_first new_found heading guard first second rest finds one
+    two =
     let setting = setting_at place in
     let inside : Stand = stand_inside place heading.id stand old guard in
     record {
@@ -144,18 +148,18 @@ branch_walks place stand old mid new old_found in_guard in_first new_found headi
           two.causes;
       long = two.long;
       found = λ end at of_pc causes sees.
-          let spot : Spot = spot_at place stand old of_pc causes in
+          let spot : StatementSpot = spot_at place stand old of_pc causes in
           let within = inside_sees place stand old of_pc causes heading.id guard sees in
           let told : Trait → Option Cause = λ trait. guarded_cause trait setting heading.id (of_pc trait) (causes trait)
           guard in
           let to_mid = went place inside old mid in_guard in_first first told causes one within in
           let to_new = went place inside mid new in_first new_found second told
           (causes_behind place inside old told causes first) two to_mid.sees in
-          let between : Spot = spot_after (spot_inside spot heading.id guard) first in
-          let after : Spot = spot_with spot (spot_after between second) in
-          let P : Spot → Type 0 = λ seen. Finds place.principals.now place.held (authority_at place)
+          let between : StatementSpot = spot_after (spot_inside spot heading.id guard) first in
+          let after : StatementSpot = spot_with spot (spot_after between second) in
+          let P : StatementSpot → Type 0 = λ seen. Finds place.principals.now place.held (authority_at place)
           (block_asks seen second) in_first new_found in
-          let Q : Spot → Type 0 = λ seen. Finds place.principals.now place.held (authority_at place)
+          let Q : StatementSpot → Type 0 = λ seen. Finds place.principals.now place.held (authority_at place)
           (block_asks seen rest) new_found end in
           let reached = ap (λ seen. spot_with spot (spot_after seen second)) to_mid.behind
           ∙ ap (λ seen. spot_with spot seen) to_new.behind in
@@ -174,7 +178,8 @@ branch_walks place stand old mid new old_found in_guard in_first new_found headi
     }
 
 pub loop_walks : (place : Place) (stand : Stand) (old new : Known)
-    (old_found outside in_guard new_found : Option Found) (heading : Heading) (guard : ExprTree) (body rest : BlockTree) →
+    (old_found outside in_guard new_found : Option Found) (heading : Heading) (guard : ExprTree)
+    (body rest : BlockTree) →
     FindsAt place stand old (λ spot. expr_asks spot heading.id guard) old_found outside →
     FindsAt place (stand_inside place heading.id stand old guard) old (λ spot. expr_asks spot heading.id guard) outside
     in_guard → Walks place (stand_inside place heading.id stand old guard) old in_guard body new new_found done →
@@ -187,22 +192,24 @@ loop_walks place stand old new old_found outside in_guard new_found heading guar
           one.causes;
       long = one.long;
       found = λ end at of_pc causes sees.
-          let spot : Spot = spot_at place stand old of_pc causes in
+          let spot : StatementSpot = spot_at place stand old of_pc causes in
           let within = inside_sees place stand old of_pc causes heading.id guard sees in
           let told : Trait → Option Cause = λ trait. guarded_cause trait setting heading.id (of_pc trait) (causes trait)
           guard in
           let inside : Stand = stand_inside place heading.id stand old guard in
           let to_new = went place inside old new in_guard new_found body told causes one within in
-          let inner : Spot = spot_inside spot heading.id guard in
-          let after : Spot = spot_with spot (spot_after inner body) in
-          let Q : Spot → Type 0 = λ seen. Finds place.principals.now place.held (authority_at place)
+          let inner : StatementSpot = spot_inside spot heading.id guard in
+          let after : StatementSpot = spot_with spot (spot_after inner body) in
+          let Q : StatementSpot → Type 0 = λ seen. Finds place.principals.now place.held (authority_at place)
           (block_asks seen rest) new_found end in
           finds_two place (expr_asks spot heading.id guard ++ expr_asks inner heading.id guard)
           (block_asks inner body ++ block_asks after rest) old_found in_guard end
-          (finds_two place (expr_asks spot heading.id guard) (expr_asks inner heading.id guard) old_found outside in_guard
+          (finds_two place (expr_asks spot heading.id guard) (expr_asks inner heading.id guard) old_found outside
+          in_guard
           (finds of_pc causes sees) (again told causes within))
           (finds_two place (block_asks inner body) (block_asks after rest) in_guard new_found end to_new.finds
-          (subst Q (sym (ap (λ seen. spot_with spot seen) to_new.behind)) (at of_pc (causes_behind place inside old told causes body) (record {
+          (subst Q (sym (ap (λ seen. spot_with spot seen) to_new.behind))
+          (at of_pc (causes_behind place inside old told causes body) (record {
             of_pc_is = sees.of_pc_is;
             causes_are = to_new.sees.causes_are;
           }))));
@@ -215,7 +222,7 @@ pub local_walks : (place : Place) (stand : Stand) (old new : Known) (old_found m
     new.labels.items ≡ labels_after_assignment old.labels.items x (join_of (label_is place stand old value) stand.pc) →
     ((y : VarId) → listed_cause new.causes.items y
     ≡ causes_after_assignment old.labels.items (listed_cause old.causes.items) x heading.id
-    (or_else (cause_is place heading.id stand old value) stand.of_pc) y) → IsKnown new →
+    (or_else (cause_is place heading.id stand old value) stand.of_pc) y) → AreCausesKnown new →
     FindsAt place stand old (λ spot. expr_asks spot heading.id value) old_found mid_found →
     FindsAt place stand old (λ spot. value_ask spot heading.id (KeptInLocal x) value
     (variable_label (spot_assigned spot heading.id x value).labels x) ∷ []) mid_found new_found →
@@ -231,10 +238,11 @@ local_walks place stand old new old_found mid_found new_found heading x value re
           (sym same);
       long = is;
       found = λ end at of_pc seen sees.
-          let spot : Spot = spot_at place stand old of_pc seen in
-          let after : Spot = spot_assigned spot heading.id x value in
+          let spot : StatementSpot = spot_at place stand old of_pc seen in
+          let after : StatementSpot = spot_assigned spot heading.id x value in
           let ask : Ask = value_ask spot heading.id (KeptInLocal x) value (variable_label after.labels x) in
-          let Q : Spot → Type 0 = λ one. Finds place.principals.now place.held (authority_at place) (block_asks one rest)
+          let Q : StatementSpot → Type 0 = λ one. Finds place.principals.now place.held (authority_at place)
+          (block_asks one rest)
           new_found end in
           let behind : after ≡ spot_at place stand new of_pc after.causes = ap (λ list. record {
             setting = setting;

@@ -32,7 +32,7 @@ use Rattle.label_reasons.specs.Causes.{or_else, cause_where, expr_cause, begin_c
 use Rattle.label_reasons.specs.Causes.{causes_after, causes_after_assignment}
 
 -- where a statement stands: the program label and the labels of variables, each with what brings a trait in
-pub record Spot : Type 0 where
+pub record StatementSpot : Type 0 where
   pub setting : MethodSetting
   pub pc : Label
   pub of_pc : Trait → Option Cause
@@ -48,21 +48,21 @@ pub record Ask : Type 0 where
 
 -- ---- spots
 
-abbrev pub label_at : Spot → ExprTree → Label
+abbrev pub label_at : StatementSpot → ExprTree → Label
 label_at spot value = expr_label spot.setting spot.pc spot.labels value
 
-abbrev pub cause_at : Spot → StmtId → ExprTree → Trait → Option Cause
+abbrev pub cause_at : StatementSpot → StmtId → ExprTree → Trait → Option Cause
 cause_at spot here value trait = expr_cause trait spot.setting here (spot.of_pc trait) (spot.causes trait) value
 
 -- behind a block
-abbrev pub spot_after : Spot → BlockTree → Spot
+abbrev pub spot_after : StatementSpot → BlockTree → StatementSpot
 spot_after spot block = record spot {
   labels = labels_after spot.setting spot.pc spot.labels block;
   causes = λ trait. causes_after trait spot.setting spot.pc (spot.of_pc trait) spot.labels (spot.causes trait) block;
 }
 
 -- behind an assignment to a variable
-abbrev pub spot_assigned : Spot → StmtId → VarId → ExprTree → Spot
+abbrev pub spot_assigned : StatementSpot → StmtId → VarId → ExprTree → StatementSpot
 spot_assigned spot here x value = record spot {
   labels = labels_after_assignment spot.labels x (join_of (label_at spot value) spot.pc);
   causes = λ trait. causes_after_assignment spot.labels (spot.causes trait) x here
@@ -70,20 +70,20 @@ spot_assigned spot here x value = record spot {
 }
 
 -- inside a branch or a loop
-abbrev pub spot_inside : Spot → StmtId → ExprTree → Spot
+abbrev pub spot_inside : StatementSpot → StmtId → ExprTree → StatementSpot
 spot_inside spot here guard = record spot {
   pc = guarded spot.setting spot.pc spot.labels guard;
   of_pc = λ trait. guarded_cause trait spot.setting here (spot.of_pc trait) (spot.causes trait) guard;
 }
 
 -- the labels and causes of variables at the second spot, and the program label of the first
-abbrev pub spot_with : Spot → Spot → Spot
+abbrev pub spot_with : StatementSpot → StatementSpot → StatementSpot
 spot_with spot inner = record spot { labels = inner.labels; causes = inner.causes }
 
 -- ---- expressions
 
 -- to release a value, and to be trusted with it
-abbrev pub release_ask : Spot → StmtId → ExprTree → Label → Ask
+abbrev pub release_ask : StatementSpot → StmtId → ExprTree → Label → Ask
 release_ask spot here operand label = record {
   statement = here;
   wanted = Released;
@@ -91,7 +91,7 @@ release_ask spot here operand label = record {
   cause = cause_at spot here operand;
 }
 
-abbrev pub trust_ask : Spot → StmtId → Ask
+abbrev pub trust_ask : StatementSpot → StmtId → Ask
 trust_ask spot here = record {
   statement = here;
   wanted = ReleaseTrusted;
@@ -99,7 +99,7 @@ trust_ask spot here = record {
   cause = spot.of_pc;
 }
 
-abbrev pub endorse_ask : Spot → StmtId → ExprTree → Label → Ask
+abbrev pub endorse_ask : StatementSpot → StmtId → ExprTree → Label → Ask
 endorse_ask spot here operand label = record {
   statement = here;
   wanted = Endorsed;
@@ -108,7 +108,7 @@ endorse_ask spot here operand label = record {
 }
 
 -- what the expressions in an expression ask for, inner before outer and from the left
-abbrev pub expr_asks : Spot → StmtId → ExprTree → List Ask
+abbrev pub expr_asks : StatementSpot → StmtId → ExprTree → List Ask
 expr_asks spot here (number value) = []
 expr_asks spot here (local x) = []
 expr_asks spot here (scalar field) = []
@@ -123,7 +123,7 @@ expr_asks spot here (endorsed operand label) = expr_asks spot here operand ++ en
 -- ---- flows
 
 -- the flow of a value's label, joined with the program label
-abbrev pub flow_ask : Spot → StmtId → Wanted → Label → (Trait → Option Cause) → Label → Ask
+abbrev pub flow_ask : StatementSpot → StmtId → Wanted → Label → (Trait → Option Cause) → Label → Ask
 flow_ask spot here wanted from cause to = record {
   statement = here;
   wanted = wanted;
@@ -131,26 +131,26 @@ flow_ask spot here wanted from cause to = record {
   cause = λ trait. or_else (cause trait) (spot.of_pc trait);
 }
 
-abbrev pub value_ask : Spot → StmtId → Wanted → ExprTree → Label → Ask
+abbrev pub value_ask : StatementSpot → StmtId → Wanted → ExprTree → Label → Ask
 value_ask spot here wanted value to = flow_ask spot here wanted (label_at spot value) (cause_at spot here value) to
 
 -- the flow of a value, behind what it asks for itself
-abbrev pub value_asks : Spot → StmtId → Wanted → ExprTree → Label → List Ask
+abbrev pub value_asks : StatementSpot → StmtId → Wanted → ExprTree → Label → List Ask
 value_asks spot here wanted value to = expr_asks spot here value ++ value_ask spot here wanted value to ∷ []
 
 -- the flow of an element of an array, whose index comes before its value
-abbrev pub element_ask : Spot → StmtId → FieldId → ExprTree → ExprTree → Ask
+abbrev pub element_ask : StatementSpot → StmtId → FieldId → ExprTree → ExprTree → Ask
 element_ask spot here field index value =
     flow_ask spot here (KeptInElement field) (join_of (label_at spot index) (label_at spot value))
     (λ trait. or_else (cause_at spot here index trait) (cause_at spot here value trait))
     (field_label spot.setting.program field)
 
-abbrev pub element_asks : Spot → StmtId → FieldId → ExprTree → ExprTree → List Ask
+abbrev pub element_asks : StatementSpot → StmtId → FieldId → ExprTree → ExprTree → List Ask
 element_asks spot here field index value =
     expr_asks spot here index ++ expr_asks spot here value ++ element_ask spot here field index value ∷ []
 
 -- the arguments from a place on
-abbrev pub argument_asks : Spot → StmtId → MethodId → ℕ → List ExprTree → List VarId → List Ask
+abbrev pub argument_asks : StatementSpot → StmtId → MethodId → ℕ → List ExprTree → List VarId → List Ask
 argument_asks spot here method place [] params = []
 argument_asks spot here method place (argument ∷ arguments) [] = []
 argument_asks spot here method place (argument ∷ arguments) (param ∷ params) =
@@ -158,17 +158,17 @@ argument_asks spot here method place (argument ∷ arguments) (param ∷ params)
     ∷ argument_asks spot here method (place + 1) arguments params
 
 -- A result is declared with a label, so it is its own source.
-abbrev pub result_ask : Spot → StmtId → MethodId → VarId → VarId → Ask
+abbrev pub result_ask : StatementSpot → StmtId → MethodId → VarId → VarId → Ask
 result_ask spot here method result into =
     flow_ask spot here (ResultKept method into) (variable_label spot.labels result)
     (λ trait. cause_where (has trait (variable_label spot.labels result)) (OfVariable result))
     (variable_label spot.labels into)
 
-abbrev pub result_asks : Spot → StmtId → MethodId → Option VarId → Option VarId → List Ask
+abbrev pub result_asks : StatementSpot → StmtId → MethodId → Option VarId → Option VarId → List Ask
 result_asks spot here method (Some result) (Some into) = result_ask spot here method result into ∷ []
 result_asks spot here method result into = []
 
-abbrev pub begin_ask : Spot → StmtId → MethodId → Ask
+abbrev pub begin_ask : StatementSpot → StmtId → MethodId → Ask
 begin_ask spot here method = record {
   statement = here;
   wanted = Begun method;
@@ -177,27 +177,27 @@ begin_ask spot here method = record {
 }
 
 -- what a call asks for behind what its arguments ask for themselves
-abbrev pub call_flows : Spot → StmtId → MethodId → List ExprTree → Option VarId → List Ask
+abbrev pub call_flows : StatementSpot → StmtId → MethodId → List ExprTree → Option VarId → List Ask
 call_flows spot here method arguments into =
     let called = method_at spot.setting.program method in
     begin_ask spot here method ∷ argument_asks spot here method 0 arguments (params_of called)
     ++ result_asks spot here method (result_of called) into
 
-abbrev pub call_asks : Spot → StmtId → MethodId → List ExprTree → Option VarId → List Ask
+abbrev pub call_asks : StatementSpot → StmtId → MethodId → List ExprTree → Option VarId → List Ask
 call_asks spot here method arguments into =
     flat_map (expr_asks spot here) arguments ++ call_flows spot here method arguments into
 
-abbrev pub return_flows : Spot → StmtId → Option VarId → ExprTree → List Ask
+abbrev pub return_flows : StatementSpot → StmtId → Option VarId → ExprTree → List Ask
 return_flows spot here None value = []
 return_flows spot here (Some result) value =
     value_ask spot here (GivenBack result) value (variable_label spot.labels result) ∷ []
 
-abbrev pub return_asks : Spot → StmtId → ExprTree → List Ask
+abbrev pub return_asks : StatementSpot → StmtId → ExprTree → List Ask
 return_asks spot here value = expr_asks spot here value ++ return_flows spot here spot.setting.result value
 
 -- ---- blocks
 
-abbrev pub block_asks : Spot → BlockTree → List Ask
+abbrev pub block_asks : StatementSpot → BlockTree → List Ask
 block_asks spot done = []
 block_asks spot (set_local heading x value rest) =
     let after = spot_assigned spot heading.id x value in
@@ -224,7 +224,7 @@ block_asks spot (give_back heading value rest) = return_asks spot heading.id val
 
 -- Where the body of a method begins. The number of a method is its place.
 abbrev pub method_spot : Declared → ProgramTree → ℕ → VariableLabels → (Trait → VarId → Option Cause) → MethodTree →
-    Spot
+    StatementSpot
 method_spot principals program place labels causes method = record {
   setting = setting_of principals program method;
   pc = method.begin;

@@ -142,13 +142,13 @@ causes_after trait setting pc of_pc labels causes (give_back heading value rest)
 -- ---- what causes tell
 
 -- there is a cause exactly where the label has the trait
-abbrev pub Tells : Trait → Option Cause → Label → Type 0
-Tells trait cause label = IsSome cause ↔ IsTrue (has trait label)
+abbrev pub TellsCause : Trait → Option Cause → Label → Type 0
+TellsCause trait cause label = IsSome cause ↔ IsTrue (has trait label)
 
 -- so it is of each variable that has a label
 abbrev pub TellsVariables : Trait → (VarId → Option Cause) → VariableLabels → Type 0
 TellsVariables trait causes labels =
-    (x : VarId) → IsLabelled labels x → Tells trait (causes x) (variable_label labels x)
+    (x : VarId) → IsLabelled labels x → TellsCause trait (causes x) (variable_label labels x)
 
 -- what the label of an expression is made of are labels
 abbrev pub IsMadeOfLabels : MethodSetting → Label → VariableLabels → ExprTree → Type 0

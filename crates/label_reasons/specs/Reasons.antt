@@ -18,8 +18,8 @@ use Rattle.label_reasons.specs.declared.demand.Demand.TheVariants.{Release, Trus
 use Rattle.label_reasons.specs.declared.reason.Reason.{Reason}
 use Rattle.label_reasons.specs.declared.reason.Wanted.{Wanted}
 use Rattle.jif_tree.specs.Trees.{ProgramTree}
-use Rattle.label_reasons.specs.Traits.{has, Fails, IsDeclaredTrait}
-use Rattle.label_reasons.specs.Causes.{Tells}
+use Rattle.label_reasons.specs.Traits.{has, TraitIsLacking, IsDeclaredTrait}
+use Rattle.label_reasons.specs.Causes.{TellsCause}
 use Rattle.label_reasons.specs.Listed.{acts_for, listed}
 use Rattle.label_reasons.specs.Asks.{Ask, program_asks}
 
@@ -93,7 +93,8 @@ label_reasons principals ask = filter_map (reason_of ask.cause) (listed_in princ
 -- What is held fails: the first label has it and the second has not, or authority is missing.
 abbrev pub ReleaseFails : Declared → List PrincipalId → Label → Label → Trait → Type 0
 ReleaseFails principals authority from to (Keeps owner reader) =
-    Fails (Keeps owner reader) from to × ¬ Any (λ member. PolicyForbids principals member [] owner reader) authority
+    TraitIsLacking (Keeps owner reader) from to
+    × ¬ Any (λ member. PolicyForbids principals member [] owner reader) authority
 ReleaseFails principals authority from to (Distrusts principal) = ⊥
 
 abbrev pub TrustFails : List PrincipalId → Label → Trait → Type 0
@@ -103,14 +104,14 @@ TrustFails authority pc (Distrusts principal) = Any (λ member. member.0 ≡ pri
 abbrev pub EndorseFails : Declared → List PrincipalId → Label → Label → Trait → Type 0
 EndorseFails principals authority from to (Keeps owner reader) = ⊥
 EndorseFails principals authority from to (Distrusts principal) =
-    Fails (Distrusts principal) from to × ¬ Any (λ member. ActsFor principals member.0 principal) authority
+    TraitIsLacking (Distrusts principal) from to × ¬ Any (λ member. ActsFor principals member.0 principal) authority
 
 abbrev pub FailsIn : Declared → Constraint → Trait → Type 0
 FailsIn principals (may_release authority from to) trait = ReleaseFails principals authority from to trait
 FailsIn principals (trusted authority pc) trait = TrustFails authority pc trait
 FailsIn principals (may_endorse authority from to) trait = EndorseFails principals authority from to trait
-FailsIn principals (may_begin pc begin) trait = Fails trait pc begin
-FailsIn principals (may_flow from to) trait = Fails trait from to
+FailsIn principals (may_begin pc begin) trait = TraitIsLacking trait pc begin
+FailsIn principals (may_flow from to) trait = TraitIsLacking trait from to
 
 -- A reason for what is asked: a trait of declared principals fails in it, and the cause is what brings that in.
 pub record IsLabelReason (principals : Declared) (ask : Ask) (reason : Reason) : Type 0 where
@@ -123,15 +124,17 @@ pub record IsLabelReason (principals : Declared) (ask : Ask) (reason : Reason) :
 -- there is a cause exactly where the label that is asked about has the trait
 abbrev pub IsTold : Declared → Ask → Type 0
 IsTold principals ask = (trait : Trait) → IsDeclaredTrait principals trait →
-    Tells trait (ask.cause trait) (asked_label ask.constraint)
+    TellsCause trait (ask.cause trait) (asked_label ask.constraint)
 
 -- its labels are over the declared principals, and so is its authority
-abbrev pub IsOver : Declared → Constraint → Type 0
-IsOver principals (may_release authority from to) = AreDeclared principals authority × IsLabelOver principals from
-IsOver principals (trusted authority pc) = AreDeclared principals authority
-IsOver principals (may_endorse authority from to) = AreDeclared principals authority × IsLabelOver principals to
-IsOver principals (may_begin pc begin) = IsLabelOver principals pc × IsLabelOver principals begin
-IsOver principals (may_flow from to) = IsLabelOver principals from × IsLabelOver principals to
+abbrev pub IsConstraintOver : Declared → Constraint → Type 0
+IsConstraintOver principals (may_release authority from to) = AreDeclared principals authority
+    × IsLabelOver principals from
+IsConstraintOver principals (trusted authority pc) = AreDeclared principals authority
+IsConstraintOver principals (may_endorse authority from to) = AreDeclared principals authority
+    × IsLabelOver principals to
+IsConstraintOver principals (may_begin pc begin) = IsLabelOver principals pc × IsLabelOver principals begin
+IsConstraintOver principals (may_flow from to) = IsLabelOver principals from × IsLabelOver principals to
 
 -- ---- the refused statement
 

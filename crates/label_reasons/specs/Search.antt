@@ -20,7 +20,7 @@ use Rattle.label_reasons.specs.declared.refusal.Refusal.{Refusal}
 use Rattle.label_reasons.specs.Traits.{IsTrait}
 use Rattle.label_reasons.specs.Causes.{expr_cause, guarded_cause, causes_after, begin_cause}
 use Rattle.label_reasons.specs.Listed.{all_pairs, all_distrusts}
-use Rattle.label_reasons.specs.Asks.{Spot, Ask, block_asks, method_spot, program_asks}
+use Rattle.label_reasons.specs.Asks.{StatementSpot, Ask, block_asks, method_spot, program_asks}
 use Rattle.label_reasons.specs.Reasons.{fails_in, constraint_of, first_refused, Explained}
 
 -- the cause of a variable in a list of causes
@@ -35,7 +35,7 @@ abbrev pub authority_at : Place → List PrincipalId
 authority_at place = place.method.now.authority.items
 
 -- what is looked for may be held, and all that may be listed is at hand
-pub record IsPlace (place : Place) : Type 0 where
+pub record IsSearchPlace (place : Place) : Type 0 where
   pub held : IsTrait place.held
   pub authority : AreDeclared place.principals.now (authority_at place)
   pub pairs : place.pairs.now ≡ all_pairs place.principals.now
@@ -50,7 +50,7 @@ some_fails_in principals constraint =
 -- ---- what is found
 
 -- it shows what is asked for, by this authority, and what brings the trait in
-pub record Shows (held : Trait) (authority : List PrincipalId) (ask : Ask) (found : Found) : Type 0 where
+pub record ShowsAsk (held : Trait) (authority : List PrincipalId) (ask : Ask) (found : Found) : Type 0 where
   pub statement : found.statement ≡ ask.statement
   pub wanted : found.wanted ≡ ask.wanted
   pub constraint : constraint_of authority found.demand ≡ ask.constraint
@@ -60,7 +60,7 @@ abbrev pub ShowsIfAny : Trait → List PrincipalId → Option Ask → Option Fou
 ShowsIfAny held authority None None = ⊤
 ShowsIfAny held authority None (Some found) = ⊥
 ShowsIfAny held authority (Some ask) None = ⊥
-ShowsIfAny held authority (Some ask) (Some found) = Shows held authority ask found
+ShowsIfAny held authority (Some ask) (Some found) = ShowsAsk held authority ask found
 
 -- What was found stays. Where nothing was, the first of these that is refused is found.
 abbrev pub Finds : Declared → Trait → List PrincipalId → List Ask → Option Found → Option Found → Type 0
@@ -75,7 +75,7 @@ pub record Sees (held : Trait) (stand : Stand) (known : Known) (of_pc : Trait �
   pub of_pc_is : of_pc held ≡ stand.of_pc
   pub causes_are : causes held ≡ listed_cause known.causes.items
 
-abbrev pub spot_at : Place → Stand → Known → (Trait → Option Cause) → (Trait → VarId → Option Cause) → Spot
+abbrev pub spot_at : Place → Stand → Known → (Trait → Option Cause) → (Trait → VarId → Option Cause) → StatementSpot
 spot_at place stand known of_pc causes = record {
   setting = setting_at place;
   pc = stand.pc;
@@ -100,14 +100,14 @@ stand_inside place here stand known guard = record {
 }
 
 -- of what is asked for at the spot that is seen
-abbrev pub FindsAt : Place → Stand → Known → (Spot → List Ask) → Option Found → Option Found → Type 0
+abbrev pub FindsAt : Place → Stand → Known → (StatementSpot → List Ask) → Option Found → Option Found → Type 0
 FindsAt place stand known asks old new =
     (of_pc : Trait → Option Cause) (causes : Trait → VarId → Option Cause) → Sees place.held stand known of_pc causes →
     Finds place.principals.now place.held (authority_at place) (asks (spot_at place stand known of_pc causes)) old new
 
 -- as many causes as labels
-abbrev pub IsKnown : Known → Type 0
-IsKnown known = length known.causes.items ≡ length known.labels.items
+abbrev pub AreCausesKnown : Known → Type 0
+AreCausesKnown known = length known.causes.items ≡ length known.labels.items
 
 -- From a block to one that is left of it: both leave the same labels and causes, and what is found in what is left is
 -- found in the whole.
@@ -119,7 +119,7 @@ pub record Walks (place : Place) (stand : Stand) (old : Known) (old_found : Opti
       (listed_cause old.causes.items) block
       ≡ causes_after place.held (setting_at place) stand.pc stand.of_pc new.labels.items
       (listed_cause new.causes.items) left
-  pub long : IsKnown new
+  pub long : AreCausesKnown new
   pub found : (end : Option Found) → FindsAt place stand new (λ spot. block_asks spot left) new_found end →
       FindsAt place stand old (λ spot. block_asks spot block) old_found end
 
@@ -135,7 +135,7 @@ pub record WalksMethod (principals : Declared) (program : ProgramTree) (held : T
       (begin_cause held (record { 0 = place }) method.begin) old.labels.items (listed_cause old.causes.items)
       method.body
       ≡ listed_cause new.causes.items
-  pub long : IsKnown new
+  pub long : AreCausesKnown new
   pub found : (causes : Trait → VarId → Option Cause) → causes held ≡ listed_cause old.causes.items →
       Finds principals held method.authority
       (block_asks (method_spot principals program place old.labels.items causes method) method.body) None
@@ -150,7 +150,7 @@ abbrev pub Locates : Declared → ProgramTree → Trait → Option Located → T
 Locates principals program held None = first_refused principals (program_asks principals program) ≡ None
 Locates principals program held (Some located) =
     (ask : Ask) × (first_refused principals (program_asks principals program) ≡ Some ask)
-    × Shows held (authority_of program located.method) ask located.found
+    × ShowsAsk held (authority_of program located.method) ask located.found
 
 -- what brings the trait in, where something was found
 abbrev pub found_cause : Option Located → Option Cause

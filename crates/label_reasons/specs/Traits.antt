@@ -29,5 +29,5 @@ IsDeclaredTrait principals (Distrusts principal) =
     IsTrait (Distrusts principal) × (principal < length principals.names)
 
 -- the first label has it, and the second has not
-abbrev pub Fails : Trait → Label → Label → Type 0
-Fails trait from to = IsTrue (has trait from) × ¬ IsTrue (has trait to)
+abbrev pub TraitIsLacking : Trait → Label → Label → Type 0
+TraitIsLacking trait from to = IsTrue (has trait from) × ¬ IsTrue (has trait to)

@@ -18,15 +18,15 @@ ghost use Rattle.label_reasons.specs.declared.reason.Trait.{Trait};
 ghost use Rattle.label_reasons.specs.declared.reason.Source.TheVariants.{OfBegin, OfField, OfVariable, Written};
 ghost use Rattle.label_reasons.specs.declared.reason.Via.TheVariants.{Itself, ByLocal, ByGuard};
 ghost use Rattle.label_reasons.specs.declared.reason.Cause.{Cause};
-ghost use Rattle.label_reasons.specs.Traits.{has, IsTrait, IsDeclaredTrait, Fails};
+ghost use Rattle.label_reasons.specs.Traits.{has, IsTrait, IsDeclaredTrait, TraitIsLacking};
 ghost use Rattle.label_reasons.specs.Causes.{begin_cause, declared_causes, expr_cause, guarded_cause, causes_after};
-ghost use Rattle.label_reasons.specs.Causes.{Tells, TellsVariables, IsMadeOfLabels, IsBlockOfLabels};
+ghost use Rattle.label_reasons.specs.Causes.{TellsCause, TellsVariables, IsMadeOfLabels, IsBlockOfLabels};
 ghost use Rattle.label_reasons.specs.CauseExamples.{from_bob, not_by_alice, not_by_bob, a, q, x, y, main};
 ghost use Rattle.label_reasons.specs.CauseExamples.{statement, caused, cause_under, cause_of, cause_inside};
 ghost use Rattle.label_reasons.specs.CauseExamples.{cause_behind, told_before, sum, chosen, released, endorsed_again};
 ghost use Rattle.label_reasons.specs.CauseExamples.{copied, copied_inside, told, overwritten, released_again};
 ghost use Rattle.label_reasons.specs.declared.reason.Reason.{Reason};
-ghost use Rattle.label_reasons.specs.Reasons.{label_reasons, IsLabelReason, IsOver, IsTold};
+ghost use Rattle.label_reasons.specs.Reasons.{label_reasons, IsLabelReason, IsConstraintOver, IsTold};
 ghost use Rattle.label_reasons.specs.Reasons.{first_refused, asked_by, explained};
 ghost use Rattle.label_reasons.specs.Programs.{IsProgramOver};
 ghost use Rattle.label_reasons.specs.ReasonExamples.{guarded_assignment, by_the_guard, alice_for_bob};
@@ -46,9 +46,11 @@ pub fn trait_laws()
     ensures has_join { (trait : Trait) (first second : Label) → IsTrait trait → IsLabel first → IsLabel second →
         (IsTrue (has trait (join_of first second)) ↔ (IsTrue (has trait first) ⊎ IsTrue (has trait second))) }
     // What fails forbids the flow.
-    ensures fails_flow { (trait : Trait) (from to : Label) → IsTrait trait → Fails trait from to → ¬ Flows from to }
+    ensures fails_flow { (trait : Trait) (from to : Label) → IsTrait trait → TraitIsLacking trait from to →
+        ¬ Flows from to }
     // What forbids a flow is something that fails.
-    ensures flows_else { (from to : Label) → ((trait : Trait) → IsTrait trait → ¬ Fails trait from to) → Flows from to }
+    ensures flows_else { (from to : Label) → ((trait : Trait) → IsTrait trait → ¬ TraitIsLacking trait from to) →
+        Flows from to }
 {
     text_laws();
     label_laws();
@@ -58,7 +60,7 @@ pub fn trait_laws()
 pub fn cause_laws()
     // The begin label of a method has a trait exactly where there is a cause.
     ensures begins { (trait : Trait) (method : MethodId) (begin : Label) →
-        Tells trait (begin_cause trait method begin) begin }
+        TellsCause trait (begin_cause trait method begin) begin }
     // So has each variable that is declared with a label.
     ensures declared { (trait : Trait) (labels : VariableLabels) →
         TellsVariables trait (declared_causes trait labels) labels }
@@ -66,20 +68,20 @@ pub fn cause_laws()
     ensures expression { (trait : Trait) (setting : MethodSetting) (here : StmtId) (of_pc : Option Cause) (pc : Label)
         (causes : VarId → Option Cause) (labels : VariableLabels) (value : ExprTree) →
         IsDeclaredTrait setting.principals trait → IsLabel pc → IsMadeOfLabels setting pc labels value →
-        Tells trait of_pc pc → TellsVariables trait causes labels → IsExprLabelled labels value →
-        Tells trait (expr_cause trait setting here of_pc causes value) (expr_label setting pc labels value) }
+        TellsCause trait of_pc pc → TellsVariables trait causes labels → IsExprLabelled labels value →
+        TellsCause trait (expr_cause trait setting here of_pc causes value) (expr_label setting pc labels value) }
     // It is so of the program label inside a branch or a loop.
     ensures guard { (trait : Trait) (setting : MethodSetting) (here : StmtId) (of_pc : Option Cause) (pc : Label)
         (causes : VarId → Option Cause) (labels : VariableLabels) (guard : ExprTree) →
         IsDeclaredTrait setting.principals trait → IsLabel pc → IsMadeOfLabels setting pc labels guard →
-        IsLabel (expr_label setting pc labels guard) → Tells trait of_pc pc → TellsVariables trait causes labels →
+        IsLabel (expr_label setting pc labels guard) → TellsCause trait of_pc pc → TellsVariables trait causes labels →
         IsExprLabelled labels guard →
-        Tells trait (guarded_cause trait setting here of_pc causes guard) (guarded setting pc labels guard) }
+        TellsCause trait (guarded_cause trait setting here of_pc causes guard) (guarded setting pc labels guard) }
     // And it is so of the variables behind a block.
     ensures block { (trait : Trait) (setting : MethodSetting) (pc : Label) (of_pc : Option Cause)
         (labels : VariableLabels) (causes : VarId → Option Cause) (block : BlockTree) →
         IsDeclaredTrait setting.principals trait → IsLabel pc → IsBlockOfLabels setting pc labels block →
-        AreValuesLabelled setting pc labels block → Tells trait of_pc pc → TellsVariables trait causes labels →
+        AreValuesLabelled setting pc labels block → TellsCause trait of_pc pc → TellsVariables trait causes labels →
         TellsVariables trait (causes_after trait setting pc of_pc labels causes block)
         (labels_after setting pc labels block) }
 {
@@ -90,10 +92,10 @@ pub fn cause_laws()
 /// What brings a trait into the labels of a small program of Alice and Bob, in which Alice keeps a field from Bob.
 pub fn cause_examples()
     // What Alice keeps from Bob fails towards the label `{}`, and does not fail the other way.
-    ensures fails { Fails from_bob keeps_bob_out empty_label }
-    ensures passes { ¬ Fails from_bob empty_label keeps_bob_out }
+    ensures fails { TraitIsLacking from_bob keeps_bob_out empty_label }
+    ensures passes { ¬ TraitIsLacking from_bob empty_label keeps_bob_out }
     // There it is her trust that fails.
-    ensures distrusted { Fails not_by_alice empty_label keeps_bob_out }
+    ensures distrusted { TraitIsLacking not_by_alice empty_label keeps_bob_out }
     // A number has no cause, a field is its own, and a variable with a label too.
     ensures number_alone { (value : ℤ) → cause_of from_bob (number value) ≡ None }
     ensures secret_field { cause_of from_bob (scalar a) ≡ caused (OfField a) Itself }
@@ -156,7 +158,7 @@ pub fn reason_laws()
         IsLabelReason principals ask reason → ¬ Holds principals ask.constraint }
     // A constraint that does not hold has a reason.
     ensures reason_due { (principals : Declared) (ask : Ask) → IsDeclared principals →
-        IsOver principals ask.constraint → IsTold principals ask → ¬ Holds principals ask.constraint →
+        IsConstraintOver principals ask.constraint → IsTold principals ask → ¬ Holds principals ask.constraint →
         label_reasons principals ask ≢ [] }
 {
     acts_for_laws();

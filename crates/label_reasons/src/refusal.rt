@@ -12,7 +12,8 @@ ghost use Rattle.label_reasons.specs.Causes.{declared_causes, label_cause};
 ghost use Rattle.label_reasons.specs.Asks.{Ask};
 ghost use Rattle.label_reasons.specs.Listed.{all_pairs, all_distrusts};
 ghost use Rattle.label_reasons.specs.Reasons.{reason_of, explained};
-ghost use Rattle.label_reasons.specs.Search.{listed_cause, IsKnown, WalksMethod, Locates, authority_of, found_cause};
+ghost use Rattle.label_reasons.specs.Search.{listed_cause, AreCausesKnown, WalksMethod, Locates, authority_of};
+ghost use Rattle.label_reasons.specs.Search.{found_cause};
 ghost use Rattle.label_reasons.specs.Search.{IsFirstRefused, seen_refusal};
 
 use crate::listed_traits::listed;
@@ -58,7 +59,7 @@ pub fn declared(alloc: Global, program: &Program, held: Trait) -> Result<Known, 
     ensures labels { IfOk result (λ known. known.labels.items ≡ declared_labels (program_tree program.now)) }
     ensures causes { IfOk result (λ known. (x : VarId) →
         listed_cause known.causes.items x ≡ declared_causes held (declared_labels (program_tree program.now)) x) }
-    ensures long { IfOk result IsKnown }
+    ensures long { IfOk result AreCausesKnown }
 {
     let mut labels = Vec::new(alloc);
     let mut causes = Vec::new(alloc);
@@ -86,7 +87,7 @@ fn search_method(
     requires authority { AreDeclared principals.now method.now.authority.items }
     requires pairs { pairs.now ≡ all_pairs principals.now }
     requires distrusts { distrusts.now ≡ all_distrusts principals.now }
-    requires known { IsKnown known.old }
+    requires known { AreCausesKnown known.old }
     ensures { WalksMethod principals.now (program_tree program.now) held number (method_tree method.now) known.old
         known.new result }
 {

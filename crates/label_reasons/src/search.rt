@@ -8,7 +8,8 @@ ghost use Rattle.jif_tree.specs.LabelRules.{guarded, method_at, result_of, varia
 ghost use Rattle.label_reasons.specs.Causes.{guarded_cause};
 ghost use Rattle.label_reasons.specs.Asks.{Ask, release_ask, trust_ask, endorse_ask, expr_asks, value_ask, value_asks};
 ghost use Rattle.label_reasons.specs.Asks.{element_asks, argument_asks, result_asks, call_asks, return_asks};
-ghost use Rattle.label_reasons.specs.Search.{setting_at, authority_at, listed_cause, IsPlace, IsKnown, Shows, Finds};
+ghost use Rattle.label_reasons.specs.Search.{setting_at, authority_at, listed_cause, IsSearchPlace, AreCausesKnown};
+ghost use Rattle.label_reasons.specs.Search.{ShowsAsk, Finds};
 ghost use Rattle.label_reasons.specs.Search.{FindsAt, Walks, stand_inside, label_is, cause_is, some_fails_in};
 ghost use Rattle.label_reasons.specs.Reasons.{constraint_of};
 
@@ -25,7 +26,7 @@ use label_lattice::Label;
 
 /// Whether something fails where this is demanded.
 fn is_refused(place: &Place<'_>, demand: &Demand) -> bool
-    requires { IsPlace place.now }
+    requires { IsSearchPlace place.now }
     ensures { result ≡ some_fails_in place.now.principals.now (constraint_of (authority_at place.now) demand.now) }
 {
     let authority = &place.method.authority;
@@ -35,8 +36,8 @@ fn is_refused(place: &Place<'_>, demand: &Demand) -> bool
 
 /// What was found before, and otherwise what is asked for where it is refused.
 fn offered(place: &Place<'_>, asked: &Found, before: Option<Found>) -> Option<Found>
-    requires { IsPlace place.now }
-    ensures { (ask : Ask) → Shows place.now.held (authority_at place.now) ask asked.now →
+    requires { IsSearchPlace place.now }
+    ensures { (ask : Ask) → ShowsAsk place.now.held (authority_at place.now) ask asked.now →
         Finds place.now.principals.now place.now.held (authority_at place.now) (ask ∷ []) before result }
 {
     match before {
@@ -66,7 +67,7 @@ fn cause_of(
     known: &Known,
     expr: &Expr,
 ) -> Option<Cause>
-    requires { IsPlace place.now }
+    requires { IsSearchPlace place.now }
     ensures { result ≡ cause_is place.now here stand.now known.now (expr_tree expr.now) }
 {
     expr_cause(place, here, stand.of_pc, &known.causes, expr)
@@ -89,7 +90,7 @@ fn search_expr(
     expr: &Expr,
     found: &mut Option<Found>,
 )
-    requires { IsPlace place.now }
+    requires { IsSearchPlace place.now }
     ensures { FindsAt place.now stand.now known.now (λ spot. expr_asks spot here (expr_tree expr.now)) found.old
         found.new }
 {
@@ -123,7 +124,7 @@ fn search_release(
     to: &Label,
     found: &mut Option<Found>,
 )
-    requires { IsPlace place.now }
+    requires { IsSearchPlace place.now }
     ensures { FindsAt place.now stand.now known.now
         (λ spot. release_ask spot here (expr_tree operand.now) to.now ∷ trust_ask spot here ∷ []) found.old found.new }
 {
@@ -154,7 +155,7 @@ fn search_endorsement(
     to: &Label,
     found: &mut Option<Found>,
 )
-    requires { IsPlace place.now }
+    requires { IsSearchPlace place.now }
     ensures { FindsAt place.now stand.now known.now
         (λ spot. endorse_ask spot here (expr_tree operand.now) to.now ∷ []) found.old found.new }
 {
@@ -179,7 +180,7 @@ fn search_flow(
     to: &Label,
     found: &mut Option<Found>,
 )
-    requires { IsPlace place.now }
+    requires { IsSearchPlace place.now }
     ensures { FindsAt place.now stand.now known.now
         (λ spot. value_ask spot here wanted (expr_tree value.now) to.now ∷ []) found.old found.new }
 {
@@ -205,7 +206,7 @@ fn search_value(
     to: &Label,
     found: &mut Option<Found>,
 )
-    requires { IsPlace place.now }
+    requires { IsSearchPlace place.now }
     ensures { FindsAt place.now stand.now known.now
         (λ spot. value_asks spot here wanted (expr_tree value.now) to.now) found.old found.new }
 {
@@ -224,7 +225,7 @@ fn search_element(
     value: &Expr,
     found: &mut Option<Found>,
 )
-    requires { IsPlace place.now }
+    requires { IsSearchPlace place.now }
     ensures { FindsAt place.now stand.now known.now
         (λ spot. element_asks spot here field (expr_tree index.now) (expr_tree value.now)) found.old found.new }
 {
@@ -252,7 +253,7 @@ fn search_arguments(
     args: &[Expr],
     found: &mut Option<Found>,
 )
-    requires { IsPlace place.now }
+    requires { IsSearchPlace place.now }
     ensures { FindsAt place.now stand.now known.now (λ spot. flat_map (expr_asks spot here) (map expr_tree args.now))
         found.old found.new }
 {
@@ -272,7 +273,7 @@ fn search_params(
     params: &[VarId],
     found: &mut Option<Found>,
 )
-    requires { IsPlace place.now }
+    requires { IsSearchPlace place.now }
     ensures { FindsAt place.now stand.now known.now
         (λ spot. argument_asks spot here method 0 (map expr_tree args.now) params.now) found.old found.new }
 {
@@ -297,7 +298,7 @@ fn search_result(
     into: Option<VarId>,
     found: &mut Option<Found>,
 )
-    requires { IsPlace place.now }
+    requires { IsSearchPlace place.now }
     ensures { FindsAt place.now stand.now known.now (λ spot. result_asks spot here method
         (result_of (method_at (program_tree place.now.program.now) method)) into) found.old found.new }
 {
@@ -326,7 +327,7 @@ fn search_call(
     into: Option<VarId>,
     found: &mut Option<Found>,
 )
-    requires { IsPlace place.now }
+    requires { IsSearchPlace place.now }
     ensures { FindsAt place.now stand.now known.now
         (λ spot. call_asks spot here method (map expr_tree args.now) into) found.old found.new }
 {
@@ -360,7 +361,7 @@ fn search_return(
     value: &Expr,
     found: &mut Option<Found>,
 )
-    requires { IsPlace place.now }
+    requires { IsSearchPlace place.now }
     ensures { FindsAt place.now stand.now known.now (λ spot. return_asks spot here (expr_tree value.now))
         found.old found.new }
 {
@@ -390,8 +391,8 @@ fn search_assignment(
     value: &Expr,
     found: &mut Option<Found>,
 )
-    requires place { IsPlace place.now }
-    requires known { IsKnown known.old }
+    requires place { IsSearchPlace place.now }
+    requires known { AreCausesKnown known.old }
     ensures { (rest : BlockTree) (line : ℕ) → Walks place.now stand.now known.old found.old
         (set_local (record { id = here; line = line }) var (expr_tree value.now) rest) known.new found.new rest }
 {
@@ -410,7 +411,7 @@ fn search_assignment(
 
 /// Where the blocks inside a branch or a loop stand.
 fn inside(place: &Place<'_>, here: StmtId, stand: &Stand, known: &Known, guard: &Expr) -> Stand
-    requires { IsPlace place.now }
+    requires { IsSearchPlace place.now }
     ensures { result ≡ stand_inside place.now here stand.now known.now (expr_tree guard.now) }
 {
     let from = label_of(place, stand, known, guard);
@@ -430,8 +431,8 @@ pub fn search_block(
     known: &mut Known,
     found: &mut Option<Found>,
 )
-    requires place { IsPlace place.now }
-    requires known { IsKnown known.old }
+    requires place { IsSearchPlace place.now }
+    requires known { AreCausesKnown known.old }
     ensures { Walks place.now stand.now known.old found.old (block_tree statements.now) known.new found.new done }
 {
     for statement in statements {
@@ -448,8 +449,8 @@ fn search_statement(
     known: &mut Known,
     found: &mut Option<Found>,
 )
-    requires place { IsPlace place.now }
-    requires known { IsKnown known.old }
+    requires place { IsSearchPlace place.now }
+    requires known { AreCausesKnown known.old }
     ensures { (rest : BlockTree) →
         Walks place.now stand.now known.old found.old (tree_before statement.now rest) known.new found.new rest }
 {

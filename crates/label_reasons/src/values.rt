@@ -8,7 +8,7 @@ ghost use Rattle.jif_tree.specs.LabelRules.{expr_label, field_label, variable_la
 ghost use Rattle.label_reasons.specs.Traits.{has, IsTrait};
 ghost use Rattle.label_reasons.specs.Causes.{or_else, cause_where, through, released_cause, endorsed_cause, expr_cause};
 ghost use Rattle.label_reasons.specs.Causes.{causes_after_assignment};
-ghost use Rattle.label_reasons.specs.Search.{listed_cause, setting_at, IsKnown};
+ghost use Rattle.label_reasons.specs.Search.{listed_cause, setting_at, AreCausesKnown};
 
 use crate::reason::{Cause, Source, Trait, Via};
 use crate::search_place::{Known, Place};
@@ -190,11 +190,11 @@ pub fn expr_cause(
 
 /// Gives a variable that has no label yet the label of what is assigned to it, and its cause.
 pub fn assign(known: &mut Known, var: VarId, here: StmtId, label: Label, cause: Option<Cause>)
-    requires { IsKnown known.old }
+    requires { AreCausesKnown known.old }
     ensures labels { known.new.labels.items ≡ labels_after_assignment known.old.labels.items var label }
     ensures causes { (x : VarId) → listed_cause known.new.causes.items x
         ≡ causes_after_assignment known.old.labels.items (listed_cause known.old.causes.items) var here cause x }
-    ensures long { IsKnown known.new }
+    ensures long { AreCausesKnown known.new }
 {
     if let Some(None) = known.labels.get(var.0 as usize) {
         known.labels[var.0 as usize] = Some(label);

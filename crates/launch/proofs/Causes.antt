@@ -8,12 +8,12 @@ use Rattle.js_base.specs.declared.status.Status.{Status}
 use Rattle.js_base.specs.declared.status.Status.TheVariants as status
 use Rattle.host_decl.specs.Refusal.{HostsRefusal, refusal_shape}
 use Rattle.front_end.specs.declared.verdict.Verdict.{Verdict}
-use Rattle.front_end.specs.Answers.{AnswersTo, IsAnswered, Puts, SinkChange}
+use Rattle.front_end.specs.Answers.{AnswersTo, IsAnswered, PutsWhole, SinkChange}
 use Rattle.front_end.specs.Loads.{FilesChange}
 use Rattle.front_end.specs.Verdicts.{Print, VerdictShape, file_fault, hosts_refused, no_such_file, verdict_shape}
 use Rattle.launch.specs.declared.child_end.ChildEnd.{ChildEnd}
 use Rattle.launch.specs.declared.child_end.ChildEnd.TheVariants.{Ended, NotStarted, NotWaited, NoMemory}
-use Rattle.launch.specs.Due.{IsDue, IsRefusal, IsUndue, usage}
+use Rattle.launch.specs.Due.{IsDue, IsLaunchRefusal, IsUndueLaunch, usage}
 use Rattle.launch.specs.Launching.{failures}
 use Rattle.launch.specs.Report.{ended_otherwise, has_failed, report, status_of_ends, wants_memory}
 use Rattle.launch.specs.Starts.{RoseBy, SpawnerState, failure}
@@ -22,7 +22,7 @@ use Rattle.launch.specs.Starts.{RoseBy, SpawnerState, failure}
 pub before_due : (words : List (List ℕ)) (files : FilesChange) (old new : SpawnerState) (due : Result Verdict
     OutOfMemory) →
     IfOk due (λ verdict. IsDue words files old new (verdict_shape verdict)) →
-    IfErr due (λ _. IsUndue words files old new) → IsUndue words files old new
+    IfErr due (λ _. IsUndueLaunch words files old new) → IsUndueLaunch words files old new
 before_due words files old new (Err memory) is ran_out = ran_out
 before_due words files old new (Ok verdict) (inl refusal) ran_out = inl refusal.1
 before_due words files old new (Ok verdict) (inr launch) ran_out = inr (launch.0, launch.1, launch.2)
@@ -73,7 +73,7 @@ rose_by_one many before after one rose = record {
 
 -- ---- what is answered to a verdict
 
-puts_status : (text : List ℕ) (said answer : Status) (sink : SinkChange) → Puts text said answer sink →
+puts_status : (text : List ℕ) (said answer : Status) (sink : SinkChange) → PutsWhole text said answer sink →
     answer ≡ status.ChildFault → said ≡ status.ChildFault
 puts_status text said answer sink (inl put) is = sym put.0 ∙ is
 puts_status text said answer sink (inr fault) is = absurd (other (sym fault.0 ∙ is))
@@ -111,7 +111,8 @@ hosts_never why program answer out err answered is = other (puts_status _ _ answ
     other : status.InputRefused ≡ status.ChildFault → ⊥
     other is = cc
 
-refusal_never : (words : List (List ℕ)) (files : FilesChange) (verdict : VerdictShape) → IsRefusal words files verdict →
+refusal_never : (words : List (List ℕ)) (files : FilesChange) (verdict : VerdictShape) →
+    IsLaunchRefusal words files verdict →
     never verdict
 refusal_never words files verdict (inl form) = subst never (sym form.2) usage_never
 refusal_never words files verdict (inr (run, is, inl (inl absent))) = subst never (sym absent.4) (file_never absent.1)

@@ -18,9 +18,10 @@ use Rattle.child_programs.specs.Children.{without}
 use Rattle.child_programs.specs.declared.spawner.SpawnError.{SpawnError}
 use Rattle.child_programs.specs.declared.spawner.SpawnError.TheVariants as error
 use Rattle.launch.specs.declared.child_end.ChildEnd.{ChildEnd}
-use Rattle.launch.specs.Launching.{AllEnded, AllStarted, AreApart, AreLive, Launched, Spawned, Waited}
+use Rattle.launch.specs.Launching.{AllEnded, AllStarted, AreApartChildren, AreLive, Launched, Spawned, Waited}
 use Rattle.launch.specs.Launching.{children, failures, given, requests, statuses, without_started}
-use Rattle.launch.specs.Starts.{Answers, Grew, MayEnd, RoseBy, SpawnerState, Start, unasked, childless, started}
+use Rattle.launch.specs.Starts.{SpawnAnswers, Grew, MayEnd, RoseBy, SpawnerState, ChildStart, unasked, childless}
+use Rattle.launch.specs.Starts.{started}
 use Rattle.launch.specs.Starts.{child_of, end_of, failed_start, failure, given_by, request_of}
 
 -- ---- lists that are told
@@ -76,8 +77,8 @@ rose_once old new rose more = record {
 at_front : (child : ℕ) (others : List ℕ) → Contains (child ∷ others) child
 at_front child others = (0, omega arith, refl)
 
-apart_push : (others more : List ℕ) (child : ℕ) → AreApart others more → (Contains (others ++ more) child → ⊥) →
-    AreApart others (more ++ child ∷ [])
+apart_push : (others more : List ℕ) (child : ℕ) → AreApartChildren others more → (Contains (others ++ more) child → ⊥) →
+    AreApartChildren others (more ++ child ∷ [])
 apart_push others [] child apart fresh = (
   λ has. fresh (Contains-append_left others [] child has),
   λ has. omega (arith, has.1),
@@ -153,11 +154,11 @@ long_push : {A : Type 0} (xs : List A) (x : A) → length (xs ++ x ∷ []) ≡ l
 long_push [] x = refl
 long_push (a ∷ xs) x = omega (arith, long_push xs x)
 
-apart_more : (others more : List ℕ) (answer : Result ℕ SpawnError) → AreApart others more →
+apart_more : (others more : List ℕ) (answer : Result ℕ SpawnError) → AreApartChildren others more →
     ((child : ℕ) → Contains (child_of answer) child → Contains (others ++ more) child → ⊥) →
-    AreApart others (more ++ child_of answer)
+    AreApartChildren others (more ++ child_of answer)
 apart_more others more (Ok child) apart fresh = apart_push others more child apart (fresh child (at_front child []))
-apart_more others more (Err why) apart fresh = subst (AreApart others) (sym (append-nil more)) apart
+apart_more others more (Err why) apart fresh = subst (AreApartChildren others) (sym (append-nil more)) apart
 
 pub one_started : (program : List ℕ) (words : List (List (List ℕ))) (one : List (List ℕ))
     (answers : List (Result ℕ SpawnError)) (answer : Result ℕ SpawnError) (old now new : SpawnerState) →
@@ -166,11 +167,11 @@ pub one_started : (program : List ℕ) (words : List (List (List ℕ))) (one : L
 one_started program words one answers answer old now new so_far last = record {
   starts = so_far.starts ++ last.start ∷ [];
   many = long_push so_far.starts last.start ∙ ap (λ (n : ℕ). n + 1) so_far.many ∙ sym (long_push words one);
-  answered = zip_push Answers so_far.starts answers last.start answer so_far.answered last.answered;
+  answered = zip_push SpawnAnswers so_far.starts answers last.start answer so_far.answered last.answered;
   asked = grew_by _ _ old.asked new.asked
-      (ap (flat_map (λ (w : List (List ℕ) × Start). request_of program w.0 w.1))
+      (ap (flat_map (λ (w : List (List ℕ) × ChildStart). request_of program w.0 w.1))
       (zip_front words so_far.starts one last.start so_far.many)
-      ∙ flat_more (λ (w : List (List ℕ) × Start). request_of program w.0 w.1) (zip words so_far.starts) (
+      ∙ flat_more (λ (w : List (List ℕ) × ChildStart). request_of program w.0 w.1) (zip words so_far.starts) (
         one,
         last.start,
       ))
@@ -182,7 +183,7 @@ one_started program words one answers answer old now new so_far last = record {
   live = last.live ∙ ap (λ (list : List ℕ). list ++ child_of answer) so_far.live
       ∙ append_assoc old.live (children answers) (child_of answer)
       ∙ ap (λ (list : List ℕ). old.live ++ list) (sym (flat_more child_of answers answer));
-  apart = subst (AreApart old.live) (sym (flat_more child_of answers answer))
+  apart = subst (AreApartChildren old.live) (sym (flat_more child_of answers answer))
       (apart_more old.live (children answers) answer so_far.apart
       (λ child new_one has. last.fresh child new_one (subst (λ (list : List ℕ). Contains list child) (sym so_far.live)
       has)));

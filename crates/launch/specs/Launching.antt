@@ -4,15 +4,16 @@ use Rattle.std.specs.List.{AllZip, flat_map, sum_by, zip}
 use Rattle.child_programs.specs.Children.{without}
 use Rattle.child_programs.specs.declared.spawner.SpawnError.{SpawnError}
 use Rattle.launch.specs.declared.child_end.ChildEnd.{ChildEnd}
-use Rattle.launch.specs.Starts.{Answers, Grew, MayEnd, RoseBy, SpawnerState, Start, child_of, end_of, failed_start}
+use Rattle.launch.specs.Starts.{SpawnAnswers, Grew, MayEnd, RoseBy, SpawnerState, ChildStart, child_of, end_of}
+use Rattle.launch.specs.Starts.{failed_start}
 use Rattle.launch.specs.Starts.{failure, given_by, request_of}
 
 -- the requests for lists of words, in order, by what came of each
-abbrev pub requests : List ℕ → List (List (List ℕ)) → List Start → List (List ℕ × List (List ℕ))
+abbrev pub requests : List ℕ → List (List (List ℕ)) → List ChildStart → List (List ℕ × List (List ℕ))
 requests program words starts = flat_map (λ one. request_of program one.0 one.1) (zip words starts)
 
 -- what they gave
-abbrev pub given : List Start → List (Option ℕ)
+abbrev pub given : List ChildStart → List (Option ℕ)
 given starts = flat_map given_by starts
 
 -- the children that were started
@@ -33,10 +34,10 @@ failures ends = sum_by failure ends
 -- words.
 pub record Launched (program : List ℕ) (words : List (List (List ℕ))) (ends : List ChildEnd) (old new : SpawnerState)
     : Type 0 where
-  pub starts : List Start
+  pub starts : List ChildStart
   pub answers : List (Result ℕ SpawnError)
   pub many : length starts ≡ length words
-  pub answered : AllZip Answers starts answers
+  pub answered : AllZip SpawnAnswers starts answers
   pub may_end : AllZip MayEnd answers ends
   pub asked : Grew (requests program words starts) old.asked new.asked
   pub gave : Grew (given starts) old.gave new.gave
@@ -49,8 +50,8 @@ pub record Launched (program : List ℕ) (words : List (List (List ℕ))) (ends 
 -- what one call of `spawn` leaves
 pub record Spawned (program : List ℕ) (words : List (List ℕ)) (answer : Result ℕ SpawnError) (old new : SpawnerState)
     : Type 0 where
-  pub start : Start
-  pub answered : Answers start answer
+  pub start : ChildStart
+  pub answered : SpawnAnswers start answer
   pub asked : Grew (request_of program words start) old.asked new.asked
   pub gave : Grew (given_by start) old.gave new.gave
   pub ended : new.ended ≡ old.ended
@@ -59,22 +60,22 @@ pub record Spawned (program : List ℕ) (words : List (List ℕ)) (answer : Resu
   pub faults : RoseBy (failed_start answer) old.faults new.faults
 
 -- no number stands twice among the children, or among others
-abbrev pub AreApart : List ℕ → List ℕ → Type 0
-AreApart others [] = ⊤
-AreApart others (child ∷ more) =
-    (Contains others child → ⊥) × (Contains more child → ⊥) × AreApart others more
+abbrev pub AreApartChildren : List ℕ → List ℕ → Type 0
+AreApartChildren others [] = ⊤
+AreApartChildren others (child ∷ more) =
+    (Contains others child → ⊥) × (Contains more child → ⊥) × AreApartChildren others more
 
 -- what the calls of `spawn` for lists of words leave
 pub record AllStarted (program : List ℕ) (words : List (List (List ℕ))) (answers : List (Result ℕ SpawnError))
     (old new : SpawnerState) : Type 0 where
-  pub starts : List Start
+  pub starts : List ChildStart
   pub many : length starts ≡ length words
-  pub answered : AllZip Answers starts answers
+  pub answered : AllZip SpawnAnswers starts answers
   pub asked : Grew (requests program words starts) old.asked new.asked
   pub gave : Grew (given starts) old.gave new.gave
   pub ended : new.ended ≡ old.ended
   pub live : new.live ≡ old.live ++ children answers
-  pub apart : AreApart old.live (children answers)
+  pub apart : AreApartChildren old.live (children answers)
   pub faults : RoseBy (sum_by failed_start answers) old.faults new.faults
 
 -- without the child that a call of `spawn` gave
@@ -85,7 +86,7 @@ without_started (Err why) live = live
 -- others are live, and these children apart from them
 pub record AreLive (others live started : List ℕ) : Type 0 where
   pub live_is : live ≡ others ++ started
-  pub apart : AreApart others started
+  pub apart : AreApartChildren others started
 
 -- what the wait for a child leaves, where one was started
 pub record Waited (answer : Result ℕ SpawnError) (end : ChildEnd) (old new : SpawnerState) : Type 0 where

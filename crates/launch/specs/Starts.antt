@@ -37,29 +37,29 @@ pub record RoseBy (many before after : ℕ) : Type 0 where
   pub calm : many ≡ 0 → after ≡ before
 
 -- What came of a request to start a program: none was made, for want of memory, or it gave no child, or this one.
-pub data Start : Type 0 where
-  unasked : Start
-  childless : Start
-  started : (child : ℕ) → Start
+pub data ChildStart : Type 0 where
+  unasked : ChildStart
+  childless : ChildStart
+  started : (child : ℕ) → ChildStart
 
 -- how a call of `spawn` answers
-abbrev pub Answers : Start → Result ℕ SpawnError → Type 0
-Answers unasked (Ok child) = ⊥
-Answers unasked (Err error.OutOfMemory) = ⊤
-Answers unasked (Err error.Failed) = ⊥
-Answers childless (Ok child) = ⊥
-Answers childless (Err why) = ⊤
-Answers (started number) (Ok child) = child ≡ number
-Answers (started number) (Err why) = ⊥
+abbrev pub SpawnAnswers : ChildStart → Result ℕ SpawnError → Type 0
+SpawnAnswers unasked (Ok child) = ⊥
+SpawnAnswers unasked (Err error.OutOfMemory) = ⊤
+SpawnAnswers unasked (Err error.Failed) = ⊥
+SpawnAnswers childless (Ok child) = ⊥
+SpawnAnswers childless (Err why) = ⊤
+SpawnAnswers (started number) (Ok child) = child ≡ number
+SpawnAnswers (started number) (Err why) = ⊥
 
 -- what was asked for
-abbrev pub request_of : List ℕ → List (List ℕ) → Start → List (List ℕ × List (List ℕ))
+abbrev pub request_of : List ℕ → List (List ℕ) → ChildStart → List (List ℕ × List (List ℕ))
 request_of program words unasked = []
 request_of program words childless = (program, words) ∷ []
 request_of program words (started child) = (program, words) ∷ []
 
 -- what this gave
-abbrev pub given_by : Start → List (Option ℕ)
+abbrev pub given_by : ChildStart → List (Option ℕ)
 given_by unasked = []
 given_by childless = None ∷ []
 given_by (started child) = Some child ∷ []

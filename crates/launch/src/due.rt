@@ -5,7 +5,7 @@ ghost use Rattle.front_end.specs.declared.stop.Stop.TheVariants as stops;
 ghost use Rattle.front_end.specs.Loading.{EndsAs};
 ghost use Rattle.front_end.specs.Loads.{AreKept, files_change};
 ghost use Rattle.front_end.specs.Verdicts.{verdict_shape};
-ghost use Rattle.launch.specs.Due.{HostsOf, IsDue, IsRun, IsUndue, IsUnlaunched, LaunchesTo};
+ghost use Rattle.launch.specs.Due.{HostsOf, IsDue, AreRunWords, IsUndueLaunch, IsUnlaunched, LaunchesTo};
 ghost use Rattle.launch.specs.Report.{RunWords, run_words};
 ghost use Rattle.launch.specs.Starts.{spawner_state};
 
@@ -26,7 +26,7 @@ const FORMS: &str = "P H START N";
 const NODE: &str = "jifhost";
 
 /// What is due for the words.
-pub fn due<F: Files, P: Spawner>(
+pub fn due_verdict<F: Files, P: Spawner>(
     alloc: Global,
     words: &[String],
     files: &mut F,
@@ -36,7 +36,7 @@ pub fn due<F: Files, P: Spawner>(
         (files_change F.Files files.old files.new)
         (spawner_state P.Spawner spawner.old) (spawner_state P.Spawner spawner.new)
         (verdict_shape verdict)) }
-    ensures undue { IfErr result (λ _. IsUndue (map string_bytes words.now)
+    ensures undue { IfErr result (λ _. IsUndueLaunch (map string_bytes words.now)
         (files_change F.Files files.old files.new)
         (spawner_state P.Spawner spawner.old) (spawner_state P.Spawner spawner.new)) }
     ensures loads { F.loads files.new ≤ F.loads files.old + 1 }
@@ -63,8 +63,8 @@ fn verdict_at(stop: Stop) -> Result<Verdict, OutOfMemory>
 
 /// What the words ask for, where they have the form.
 fn run_of(words: &[String]) -> Option<Run<'_>>
-    ensures some { IfSome result (λ run. IsRun (map string_bytes words.now) (run_words run)) }
-    ensures none { IfNone result ((run : RunWords) → IsRun (map string_bytes words.now) run → ⊥) }
+    ensures some { IfSome result (λ run. AreRunWords (map string_bytes words.now) (run_words run)) }
+    ensures none { IfNone result ((run : RunWords) → AreRunWords (map string_bytes words.now) run → ⊥) }
 {
     let [program, hosts, start, turns] = words else {
         return None;

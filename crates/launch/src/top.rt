@@ -4,10 +4,10 @@ ghost use Rattle.std.specs.Prelude.{◌≡◌, ◌≤◌, ◌+◌, codes, map, s
 ghost use Rattle.js_base.specs.declared.status.Status.{Status};
 ghost use Rattle.front_end.specs.Answers.{AnswersTo, sink_change};
 ghost use Rattle.front_end.specs.Loads.{AreKept, files_change};
-ghost use Rattle.launch.specs.Due.{IsDue, IsUndue};
+ghost use Rattle.launch.specs.Due.{IsDue, IsUndueLaunch};
 ghost use Rattle.launch.specs.Starts.{RoseBy, spawner_state};
 
-use crate::due::due;
+use crate::due::due_verdict;
 use child_programs::Spawner;
 use front_end::answer;
 use js_base::{Files, Sink, Status};
@@ -45,7 +45,7 @@ pub fn jifrun<F: Files, P: Spawner, S: Sink, E: Sink>(
     // What is answered and put out is what is due. Where memory runs out before, nothing was launched, or all nodes
     // were.
     ensures answer { AnswersTo (codes "jifrun")
-        (IsUndue (map string_bytes words.now)
+        (IsUndueLaunch (map string_bytes words.now)
         (files_change F.Files files.old files.new)
         (spawner_state P.Spawner spawner.old) (spawner_state P.Spawner spawner.new))
         (IsDue (map string_bytes words.now)
@@ -62,6 +62,6 @@ pub fn jifrun<F: Files, P: Spawner, S: Sink, E: Sink>(
     ensures loads { F.loads files.new ≤ F.loads files.old + 1 }
     ensures kept { AreKept (files_change F.Files files.old files.new) }
 {
-    let found = due(alloc, words, files, spawner);
+    let found = due_verdict(alloc, words, files, spawner);
     answer(alloc, PROGRAM, NO_MEMORY, found, out, err)
 }

@@ -16,7 +16,7 @@ use Rattle.link_seal.specs.declared.sizes.TheConstants.{MOST_FRAMES}
 use Rattle.link_seal.specs.Hmac.{hmac_of}
 use Rattle.link_seal.specs.Links.{LinkShape, new_link, after_one, text_of, sealed}
 use Rattle.link_seal.specs.Opening.{opens}
-use Rattle.link_seal.specs.Accepting.{Accepted, accepted, frames_of, with_answer, IsBeginning, IsForged, SomeForged}
+use Rattle.link_seal.specs.Accepting.{Accepted, accepted, frames_of, with_answer, AreFirstFrames, IsForged, SomeForged}
 use Rattle.link_seal.proofs.Opened.{length-hmac, opened}
 
 -- ---- sealed frames are told apart
@@ -62,7 +62,7 @@ module _ (frames : List (List ℕ)) (few : length frames ≤ MOST_FRAMES) where
   -- what was accepted from the next frame of the link on
   abbrev Outcome : LinkShape → List Accepted → Type 0
   Outcome link taken =
-      IsBeginning (frames_of taken) (drop link.next frames) ⊎ SomeForged link frames taken
+      AreFirstFrames (frames_of taken) (drop link.next frames) ⊎ SomeForged link frames taken
 
   -- a string that was opened is forged, where another frame was sealed with its number, or none
   other_frame : (link : LinkShape) (string frame : List ℕ) → AreBytes string → opens link string ≡ Ok frame →
@@ -125,5 +125,5 @@ pub prefix : (key : List ℕ) (from to : HostId) (frames strings : List (List �
     All AreBytes strings →
     let link = new_link key from to in
     let taken = accepted link strings in
-    IsBeginning (frames_of taken) frames ⊎ SomeForged link frames taken
+    AreFirstFrames (frames_of taken) frames ⊎ SomeForged link frames taken
 prefix key from to frames strings few fits = from_here frames few (new_link key from to) strings fits

@@ -24,8 +24,8 @@ accepted link (string ∷ strings) =
     with_answer string (opens link string) (accepted (after_one link) strings) (accepted link strings)
 
 -- the first of these, in their order
-abbrev pub IsBeginning : List (List ℕ) → List (List ℕ) → Type 0
-IsBeginning first frames = (rest : List (List ℕ)) × (first ++ rest ≡ frames)
+abbrev pub AreFirstFrames : List (List ℕ) → List (List ℕ) → Type 0
+AreFirstFrames first frames = (rest : List (List ℕ)) × (first ++ rest ≡ frames)
 
 -- A string with the tag of its text, as if it were a frame that was sealed for the link. But it is none of those that
 -- were sealed, each with its place as its number.

@@ -42,5 +42,5 @@ unfoldable pub opens : LinkShape → List ℕ → Result (List ℕ) OpenError
 opens link bytes = frame_alone link (parts_at bytes)
 
 -- what the call returned, as contracts see it, is what there is to read
-abbrev pub Gives : {X Y : Type 0} → (X → Y) → Result X OpenError → Result Y OpenError → Type 0
-Gives view result reading = MatchResult result (λ x. reading ≡ Ok (view x)) (λ what. reading ≡ Err what)
+abbrev pub OpensAs : {X Y : Type 0} → (X → Y) → Result X OpenError → Result Y OpenError → Type 0
+OpensAs view result reading = MatchResult result (λ x. reading ≡ Ok (view x)) (λ what. reading ≡ Err what)

@@ -11,7 +11,7 @@ ghost use Rattle.link_seal.specs.Hmac.{hmac_of, key_block, with_pad};
 ghost use Rattle.link_seal.specs.Examples.{small_link, ended_link, small_text};
 ghost use Rattle.link_seal.specs.Links.{LinkShape, new_link, after_one, text_of, sealed, next_sealed, CanSeal};
 ghost use Rattle.link_seal.specs.Opening.{frame_in, opens};
-ghost use Rattle.link_seal.specs.Accepting.{accepted, frames_of, IsBeginning, SomeForged};
+ghost use Rattle.link_seal.specs.Accepting.{accepted, frames_of, AreFirstFrames, SomeForged};
 
 /// Laws of sealed frames, for who reasons about them. The call does nothing.
 pub fn seal_laws()
@@ -39,7 +39,7 @@ pub fn seal_laws()
         length frames ≤ MOST_FRAMES → All AreBytes strings →
         let link = new_link key from to in
         let taken = accepted link strings in
-        IsBeginning (frames_of taken) frames ⊎ SomeForged link frames taken }
+        AreFirstFrames (frames_of taken) frames ⊎ SomeForged link frames taken }
 
     // The pads, and the key with zeros behind it.
     ensures worked_pad { with_pad INNER_PAD (0 ∷ 54 ∷ 255 ∷ []) ≡ 54 ∷ 0 ∷ 201 ∷ [] }

@@ -20,8 +20,8 @@ use Rattle.jif_tree.specs.LabelRules.{program_labels, variable_labels}
 use Rattle.need_labels.specs.Labelled.{Labelled, pc_of}
 use Rattle.need_labels.specs.Needs.{for_label, Backs, StatementUse, block_uses, statement_uses, NeedsShape}
 use Rattle.need_labels.specs.Needs.{IsNeed, AreNeedsOf, Telling, told_of}
-use Rattle.place_rules.specs.PlaceRules.{MayHoldField, MayHoldStatement, IsHeld}
-use Rattle.place_rules.specs.Refusal.{IsRefused}
+use Rattle.place_rules.specs.PlaceRules.{MayHoldField, MayHoldStatement, HasHolder}
+use Rattle.place_rules.specs.Refusal.{IsPlaceRefused}
 use Rattle.place_rules.specs.declared.place_error.PlaceError.{PlaceError}
 use Rattle.place_rules.specs.declared.place_error.PlaceError.TheVariants as error
 use Rattle.made_laws.proofs.MadeLabels.{LabelLaws, MadeLabels, both, joined_both, any_of_one}
@@ -164,7 +164,7 @@ held_on : {X : Type 0} (P : X → Type 0) (found : Option X) (x : X) → found �
 held_on P found x is holds = rw is holds
 
 statement_held : LabelLaws → (labels : MadeLabels) (one : StatementUse) (need : ℕ) → IsOfLabel labels one →
-    IsNeed alice_and_bob one.backing need → IsHeld (MayHoldStatement (one.used, need)) (made_file labels).hosts
+    IsNeed alice_and_bob one.backing need → HasHolder (MayHoldStatement (one.used, need)) (made_file labels).hosts
 statement_held laws labels one need of is =
     let host = of.host in
     let flows = laws.reflexive of.label in (
@@ -182,7 +182,7 @@ statement_held laws labels one need of is =
 
 statements_held : LabelLaws → (labels : MadeLabels) (uses : List StatementUse) (needs : List ℕ) →
     AllByRecursion (IsOfLabel labels) uses → AllZip (λ one word. IsNeed alice_and_bob one.backing word) uses needs →
-    AllByRecursion (λ one. IsHeld (MayHoldStatement one) (made_file labels).hosts)
+    AllByRecursion (λ one. HasHolder (MayHoldStatement one) (made_file labels).hosts)
     (zip (map (λ one. one.used) uses) needs)
 statements_held laws labels [] needs of are = tt
 statements_held laws labels (one ∷ uses) [] of are = absurd are
@@ -222,7 +222,7 @@ all_told labels (one ∷ uses) of =
 
 field_held : LabelLaws → (labels : MadeLabels) (field : FieldTree) (told : Label) → told ≡ both →
     IsLabelOver alice_and_bob field.label → HasHost labels field.label →
-    IsHeld (MayHoldField (field, told)) (made_file labels).hosts
+    HasHolder (MayHoldField (field, told)) (made_file labels).hosts
 field_held laws labels field told is over host =
     let flows = laws.reflexive field.label in
     let joined = ap (join_of field.label) is ∙ joined_both laws field.label over in (
@@ -239,11 +239,11 @@ field_held laws labels field told is over host =
 -- no part is without a host
 pub has_place : LabelLaws → (labels : MadeLabels) (lines : ℕ → ℕ) (numbers : List ℕ) (needs : NeedsShape)
     (why : PlaceError) → AreNeedsOf alice_and_bob (made_labelled labels lines numbers) needs →
-    why ≢ error.OutOfMemory → ¬ IsRefused (made_labelled labels lines numbers) needs (made_file labels) why
+    why ≢ error.OutOfMemory → ¬ IsPlaceRefused (made_labelled labels lines numbers) needs (made_file labels) why
 has_place laws labels lines numbers needs error.OutOfMemory are some refused = some refl
 has_place laws labels lines numbers needs (error.NoHostForField field) are some refused =
-    refused.unheld (all_at (λ one. IsHeld (MayHoldField one) (made_file labels).hosts) _ field.0 refused.one
-    (subst (λ loc. AllByRecursion (λ one. IsHeld (MayHoldField one) (made_file labels).hosts)
+    refused.unheld (all_at (λ one. HasHolder (MayHoldField one) (made_file labels).hosts) _ field.0 refused.one
+    (subst (λ loc. AllByRecursion (λ one. HasHolder (MayHoldField one) (made_file labels).hosts)
     (zip (made_tree labels lines numbers).fields loc)) (sym are.loc) (first, (second, tt))) refused.place)
   where
     uses : List StatementUse
@@ -254,20 +254,20 @@ has_place laws labels lines numbers needs (error.NoHostForField field) are some 
         told_both laws (λ telling. nat_eq telling.field.0 field) (flat_map (λ one. one.tellings) uses)
         (all_told labels uses (all_of_labels laws labels lines numbers))
 
-    first : IsHeld (MayHoldField (alice_field labels, told_of alice_and_bob (flat_map (λ one. one.tellings) uses) 0))
+    first : HasHolder (MayHoldField (alice_field labels, told_of alice_and_bob (flat_map (λ one. one.tellings) uses) 0))
         (made_file labels).hosts
     first =
         field_held laws labels (alice_field labels) _ (told 0) labels.alice_said.over
         (own_host labels lines numbers true)
 
-    second : IsHeld (MayHoldField (bob_field labels, told_of alice_and_bob (flat_map (λ one. one.tellings) uses) 1))
+    second : HasHolder (MayHoldField (bob_field labels, told_of alice_and_bob (flat_map (λ one. one.tellings) uses) 1))
         (made_file labels).hosts
     second =
         field_held laws labels (bob_field labels) _ (told 1) labels.bob_said.over (own_host labels lines numbers false)
 has_place laws labels lines numbers needs (error.NoHostForStatement statement) are some refused =
-    refused.1.unheld (all_at (λ one. IsHeld (MayHoldStatement one) (made_file labels).hosts) _ statement.0
+    refused.1.unheld (all_at (λ one. HasHolder (MayHoldStatement one) (made_file labels).hosts) _ statement.0
     refused.1.one
-    (subst (λ used. AllByRecursion (λ one. IsHeld (MayHoldStatement one) (made_file labels).hosts)
+    (subst (λ used. AllByRecursion (λ one. HasHolder (MayHoldStatement one) (made_file labels).hosts)
     (zip used needs.need)) (sym are.used)
     (statements_held laws labels (statement_uses alice_and_bob (made_labelled labels lines numbers)) needs.need
     (all_of_labels laws labels lines numbers) are.need))

@@ -19,10 +19,10 @@ use Rattle.need_labels.specs.Labelled.{Labelled}
 use Rattle.need_labels.specs.Needs.{NeedsShape, AreNeedsOf}
 use Rattle.place_rules.specs.Allowed.{AllowedShape}
 use Rattle.place_rules.specs.PlaceRules.{AreAllowed}
-use Rattle.place_rules.specs.Refusal.{IsRefused}
+use Rattle.place_rules.specs.Refusal.{IsPlaceRefused}
 use Rattle.place_rules.specs.declared.place_error.PlaceError.{PlaceError}
 use Rattle.place_rules.specs.declared.place_error.PlaceError.TheVariants as error
-use Rattle.made_laws.specs.Made.{IsAccepted}
+use Rattle.made_laws.specs.Made.{IsMadeAccepted}
 use Rattle.made_laws.proofs.MadeDrafts.{made_draft, made_resolved}
 use Rattle.made_laws.proofs.MadeHosts.{SpelledLaw, made_file, reads_hosts}
 use Rattle.made_laws.proofs.MadeLabels.{LabelLaws, made_labels}
@@ -39,7 +39,7 @@ pub record PlaceLaws : Type 0 where
       (needs : NeedsShape) × AreNeedsOf principals labelled needs
   pub allowed_or_refused : (labelled : Labelled) (needs : NeedsShape) (hosts : HostsShape) →
       length hosts.hosts ≤ HOSTS → ((allowed : AllowedShape) × AreAllowed labelled needs hosts allowed)
-      ⊎ ((why : PlaceError) × (why ≢ error.OutOfMemory) × IsRefused labelled needs hosts why)
+      ⊎ ((why : PlaceError) × (why ≢ error.OutOfMemory) × IsPlaceRefused labelled needs hosts why)
 
 pub record MadeLaws : Type 0 where
   pub spelled : SpelledLaw
@@ -50,7 +50,7 @@ pub record MadeLaws : Type 0 where
 
 -- ---- the whole
 
-pub accepted : MadeLaws → (statements : ℕ) → statements < STATEMENTS → IsAccepted statements
+pub accepted : MadeLaws → (statements : ℕ) → statements < STATEMENTS → IsMadeAccepted statements
 accepted laws statements less =
     let numbers = range_with_len 0 statements in
     let count : length numbers ≡ statements = length-range_with_len 0 statements in

@@ -29,7 +29,7 @@ labelled_with file tree = record {
 
 -- The text has tokens, which are a draft, and the host file says hosts. The names of the draft stand for a program, its
 -- labels keep the rules, and each of its parts has one of the hosts at least that may hold it.
-pub record IsAccepted (statements : ℕ) : Type 0 where
+pub record IsMadeAccepted (statements : ℕ) : Type 0 where
   pub few : length (made_program statements) ≤ PROGRAM_BYTES
   pub list : List Token
   pub read : ReadsAs (made_program statements) (tokens list)

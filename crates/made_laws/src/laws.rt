@@ -2,7 +2,7 @@
 
 ghost use Rattle.std.specs.Prelude.{◌<◌, ℕ};
 ghost use Rattle.js_base.specs.declared.limits.TheConstants.{STATEMENTS};
-ghost use Rattle.made_laws.specs.Made.{IsAccepted};
+ghost use Rattle.made_laws.specs.Made.{IsMadeAccepted};
 
 use jif_grammar::verdict_laws;
 use jif_lex::spelled_laws;
@@ -14,7 +14,7 @@ use place_rules::place_rule_laws;
 /// has one statement more, and is within the limits of programs up to there.
 pub fn made_laws()
     // It is read, resolved and accepted, each of its parts has a host, and it runs to its end in so many steps.
-    ensures accepted { (statements : ℕ) → statements < STATEMENTS → IsAccepted statements }
+    ensures accepted { (statements : ℕ) → statements < STATEMENTS → IsMadeAccepted statements }
 {
     spelled_laws();
     label_laws();

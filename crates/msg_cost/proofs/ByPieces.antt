@@ -21,7 +21,7 @@ use Rattle.msg_cost.specs.Moves.{PlannedShape, on, next_spot, straight_to, carri
 use Rattle.msg_cost.specs.Moves.{block_end, home_of, called_home, called_end}
 use Rattle.msg_cost.specs.Terms.{Term, message, exchange, inside, leave_terms, move_terms, expr_terms, forwards}
 use Rattle.msg_cost.specs.Terms.{given_terms, argument_terms, call_terms, block_terms, method_terms, program_terms}
-use Rattle.msg_cost.specs.Pieces.{Given, given_ids, given_statements, Piece, access, giving, passing, calling, walk}
+use Rattle.msg_cost.specs.Pieces.{Given, given_ids, given_statements, CostPiece, access, giving, passing, calling, walk}
 use Rattle.msg_cost.specs.Pieces.{ending, touches, untouched, walk_terms, carried_at, piece_cost, pieces_cost}
 use Rattle.msg_cost.specs.Pieces.{expr_pieces, argument_pieces, call_pieces, given_pieces, block_pieces}
 use Rattle.msg_cost.specs.Pieces.{method_pieces, program_pieces}
@@ -30,20 +30,20 @@ use Rattle.msg_cost.proofs.Spots.{next_host}
 use Rattle.msg_cost.proofs.Statements.{given_own}
 use Rattle.msg_cost.proofs.Sums.{cost-append}
 
-pub pieces-append : (planned : PlannedShape) (moved : Option StmtId) (first second : List Piece) →
+pub pieces-append : (planned : PlannedShape) (moved : Option StmtId) (first second : List CostPiece) →
     pieces_cost planned moved (first ++ second) ≡ pieces_cost planned moved first + pieces_cost planned moved second
 pieces-append planned moved first second = sum_by-append (piece_cost planned moved) first second
 
-pub pieces-cons : (planned : PlannedShape) (moved : Option StmtId) (piece : Piece) (others : List Piece) →
+pub pieces-cons : (planned : PlannedShape) (moved : Option StmtId) (piece : CostPiece) (others : List CostPiece) →
     pieces_cost planned moved (piece ∷ others) ≡ piece_cost planned moved piece + pieces_cost planned moved others
 pieces-cons planned moved piece others = let parts = pieces-append planned moved (piece ∷ []) others in omega arith
 
 -- terms that cost what pieces do
-record Same (planned : PlannedShape) (moved : Option StmtId) (terms : List Term) (pieces : List Piece) :
+record Same (planned : PlannedShape) (moved : Option StmtId) (terms : List Term) (pieces : List CostPiece) :
     Type 0 where
   pub cost : cost_of planned.hosts terms ≡ pieces_cost planned moved pieces
 
-both : (planned : PlannedShape) (moved : Option StmtId) (terms others : List Term) (pieces more : List Piece) →
+both : (planned : PlannedShape) (moved : Option StmtId) (terms others : List Term) (pieces more : List CostPiece) →
     Same planned moved terms pieces → Same planned moved others more →
     Same planned moved (terms ++ others) (pieces ++ more)
 both planned moved terms others pieces more one two = record {
@@ -55,7 +55,7 @@ both planned moved terms others pieces more one two = record {
       omega arith;
 }
 
-one_piece : (planned : PlannedShape) (moved : Option StmtId) (piece : Piece) (terms : List Term) →
+one_piece : (planned : PlannedShape) (moved : Option StmtId) (piece : CostPiece) (terms : List Term) →
     cost_of planned.hosts terms ≡ piece_cost planned moved piece → Same planned moved terms (piece ∷ [])
 one_piece planned moved piece terms same = record { cost = omega arith }
 
@@ -246,7 +246,7 @@ record Walked (planned : PlannedShape) (moved : Option StmtId) (weight : ℕ) (h
 -- one statement, with what it gives
 step_walked : (planned : PlannedShape) (moved : Option StmtId) (weight : ℕ) (home : StmtId) (own : List Given)
     (place : ℕ) (spot : Spot) (left : Option VarId) (id : StmtId) (gives : Option VarId) (rest : BlockTree)
-    (terms : List Term) (pieces : List Piece) →
+    (terms : List Term) (pieces : List CostPiece) →
     IsAt planned home own place spot (id ∷ own_statements rest) → Same planned moved terms pieces →
     Walked planned moved weight home own (suc place) (next_spot planned spot id (own_statements rest))
     (untouched planned.needs moved (record { id = id; gives = gives })) rest →
@@ -287,7 +287,7 @@ step_walked planned moved weight home own place spot left id gives rest terms pi
 -- one statement that gives nothing
 plain : (planned : PlannedShape) (moved : Option StmtId) (weight : ℕ) (home : StmtId) (own : List Given) (place : ℕ)
     (spot : Spot) (left : Option VarId) (id : StmtId) (rest : BlockTree) →
-    IsAt planned home own place spot (id ∷ own_statements rest) → (terms : List Term) (pieces : List Piece) →
+    IsAt planned home own place spot (id ∷ own_statements rest) → (terms : List Term) (pieces : List CostPiece) →
     Same planned moved terms pieces →
     Walked planned moved weight home own (suc place) (next_spot planned spot id (own_statements rest)) None rest →
     cost_of planned.hosts

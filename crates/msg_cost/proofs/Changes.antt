@@ -14,7 +14,7 @@ use Rattle.msg_cost.specs.declared.step.Step.{Step}
 use Rattle.msg_cost.specs.declared.step.Step.TheVariants as step
 use Rattle.msg_cost.specs.Cost.{cost_of}
 use Rattle.msg_cost.specs.Moves.{PlannedShape}
-use Rattle.msg_cost.specs.Pieces.{Piece, piece_cost, pieces_cost}
+use Rattle.msg_cost.specs.Pieces.{CostPiece, piece_cost, pieces_cost}
 use Rattle.msg_cost.specs.Pieces.{program_pieces}
 use Rattle.msg_cost.specs.Rows.{has_number, numbers_of, pieces_with, kind_of, number_of}
 use Rattle.msg_cost.specs.Steps.{moved}
@@ -31,17 +31,17 @@ use Rattle.msg_cost.proofs.Seats.{set_other}
 
 -- ---- sums
 
-passed : (test : Piece → Bool) (piece : Piece) (others : List Piece) → test piece ≡ true →
+passed : (test : CostPiece → Bool) (piece : CostPiece) (others : List CostPiece) → test piece ≡ true →
     filter test (piece ∷ others) ≡ piece ∷ filter test others
 passed test piece others is = ap (λ (b : Bool). cond b (piece ∷ filter test others) (filter test others)) is
 
-held_back : (test : Piece → Bool) (piece : Piece) (others : List Piece) → test piece ≡ false →
+held_back : (test : CostPiece → Bool) (piece : CostPiece) (others : List CostPiece) → test piece ≡ false →
     filter test (piece ∷ others) ≡ filter test others
 held_back test piece others is = ap (λ (b : Bool). cond b (piece ∷ filter test others) (filter test others)) is
 
 -- two sums differ as those of the pieces differ that pass a test, where the others cost the same
-pub parted : (first second : PlannedShape) (moved : Option StmtId) (test : Piece → Bool) → ((piece : Piece) →
-    test piece ≡ false → piece_cost first moved piece ≡ piece_cost second moved piece) → (pieces : List Piece) →
+pub parted : (first second : PlannedShape) (moved : Option StmtId) (test : CostPiece → Bool) → ((piece : CostPiece) →
+    test piece ≡ false → piece_cost first moved piece ≡ piece_cost second moved piece) → (pieces : List CostPiece) →
     pieces_cost second moved pieces + pieces_cost first moved (filter test pieces)
     ≡ pieces_cost first moved pieces + pieces_cost second moved (filter test pieces)
 parted first second moved test same [] = omega arith
@@ -63,7 +63,7 @@ parted first second moved test same (piece ∷ others) =
           omega arith
     ]
 
-pub fewer : (planned : PlannedShape) (moved : Option StmtId) (test : Piece → Bool) (pieces : List Piece) →
+pub fewer : (planned : PlannedShape) (moved : Option StmtId) (test : CostPiece → Bool) (pieces : List CostPiece) →
     pieces_cost planned moved (filter test pieces) ≤ pieces_cost planned moved pieces
 fewer planned moved test [] = omega arith
 fewer planned moved test (piece ∷ others) =
@@ -112,7 +112,7 @@ all_fields_stay planned field host (one ∷ others) not =
     )
 
 -- a piece that does not depend on the moved part costs the same
-untouched : (planned : PlannedShape) (move : Step) (piece : Piece) →
+untouched : (planned : PlannedShape) (move : Step) (piece : CostPiece) →
     has_number (number_of move) (numbers_of (kind_of move) planned.program planned.needs piece) ≡ false →
     piece_cost planned (moved_by move) piece
     ≡ piece_cost (under planned (moved planned.plan move)) (moved_by move) piece
@@ -134,7 +134,7 @@ untouched planned (step.Statement statement host) piece not =
     (statements_of planned.program planned.needs piece) not))
 
 -- what a move changes is what the pieces that depend on the part come to
-pub changed : (planned : PlannedShape) (move : Step) (pieces : List Piece) →
+pub changed : (planned : PlannedShape) (move : Step) (pieces : List CostPiece) →
     pieces_cost (under planned (moved planned.plan move)) (moved_by move) pieces
     + pieces_cost planned (moved_by move)
     (pieces_with (numbers_of (kind_of move) planned.program planned.needs) (number_of move) pieces)
@@ -150,7 +150,7 @@ changed planned move pieces =
 
 -- some pieces of a program within the limits cost little
 pub row_small : (planned : PlannedShape) → AreHosts planned.hosts → IsWithinLimits planned.program →
-    (part : Option StmtId) (test : Piece → Bool) (row : List Piece) →
+    (part : Option StmtId) (test : CostPiece → Bool) (row : List CostPiece) →
     row ≡ filter test (program_pieces planned.program) → (total : ℕ) →
     total ≡ capped (pieces_cost planned part row) → (total ≡ pieces_cost planned part row) × (total < 2 ^ 62)
 row_small planned sound sized part test row is total counted =

@@ -14,7 +14,7 @@ use Rattle.msg_cost.specs.Moves.{PlannedShape, is_same, is_trusted_for_all, host
 use Rattle.msg_cost.specs.Moves.{end_of, entered, next_spot, end_host, own_statements, called_home}
 use Rattle.msg_cost.specs.Moves.{called_end, straight_to, is_to}
 use Rattle.msg_cost.specs.Terms.{Term, message, exchange, leave_terms, move_terms, is_told, forwards, given_terms}
-use Rattle.msg_cost.specs.Pieces.{Given, given_ids, Piece, access, giving, passing, calling, walk, ending}
+use Rattle.msg_cost.specs.Pieces.{Given, given_ids, CostPiece, access, giving, passing, calling, walk, ending}
 use Rattle.msg_cost.specs.Pieces.{touches, untouched, carried_at, walk_terms, piece_terms}
 use Rattle.msg_cost.specs.Walks.{under, SameHosts}
 use Rattle.msg_cost.specs.Touches.{head_of_method, statements_of_method, statements_of, fields_of}
@@ -145,12 +145,12 @@ called_end_same planned plan (Some method) same =
 -- ---- pieces
 
 -- the fields stand on the same hosts
-abbrev pub SameFields : PlannedShape → PlanShape → Piece → Type 0
+abbrev pub SameFields : PlannedShape → PlanShape → CostPiece → Type 0
 SameFields planned plan piece =
     AllByRecursion (λ field. field_host planned.plan field ≡ field_host plan field) (fields_of piece)
 
 -- the moved statement does not touch what the piece gives
-abbrev pub NotTouched : PlannedShape → Option StmtId → Piece → Type 0
+abbrev pub NotTouched : PlannedShape → Option StmtId → CostPiece → Type 0
 NotTouched planned moved (giving weight statement x home own place) = touches planned.needs moved statement x ≡ false
 NotTouched planned moved other = Unit {0}
 
@@ -160,7 +160,7 @@ home_and_readers : (planned : PlannedShape) (plan : PlanShape) (called : Option 
 home_and_readers planned plan None readers same = (refl, same)
 home_and_readers planned plan (Some method) readers same = same
 
-pub piece_same : (planned : PlannedShape) (plan : PlanShape) (moved : Option StmtId) (piece : Piece) →
+pub piece_same : (planned : PlannedShape) (plan : PlanShape) (moved : Option StmtId) (piece : CostPiece) →
     Quiet planned plan moved → NotTouched planned moved piece → SameFields planned plan piece →
     SameHosts planned plan (statements_of planned.program planned.needs piece) →
     piece_terms planned moved piece ≡ piece_terms (under planned plan) moved piece

@@ -15,7 +15,7 @@ use Rattle.js_base.specs.declared.ids.StmtId.{StmtId}
 use Rattle.jif_tree.specs.declared.program.Method.{Method}
 use Rattle.jif_tree.specs.Trees.{MethodTree, method_tree}
 use Rattle.msg_cost.specs.declared.piece.Piece.{Piece as Kept}
-use Rattle.msg_cost.specs.Pieces.{Piece}
+use Rattle.msg_cost.specs.Pieces.{CostPiece}
 use Rattle.msg_cost.specs.PieceViews.{piece_shape, all_pieces}
 use Rattle.msg_cost.specs.Rows.{has_number, AreRows, AreNoted, rows_of}
 use Rattle.msg_cost.specs.Touches.{head_of_method, statements_of_method}
@@ -48,10 +48,10 @@ not_true test not = elim (cases_Bool test) [
 
 -- ---- one piece
 
-abbrev with_piece : Piece → Bool → List Piece
+abbrev with_piece : CostPiece → Bool → List CostPiece
 with_piece piece test = if test then piece ∷ [] else []
 
-pub noted_first : (turn : ℕ) (piece : Piece) (before : List (List Piece)) (marks : List ℕ) →
+pub noted_first : (turn : ℕ) (piece : CostPiece) (before : List (List CostPiece)) (marks : List ℕ) →
     length marks ≡ length before → ((number : ℕ) → number < length marks → get_or marks number 0 < turn) →
     AreNoted turn piece [] before before marks
 noted_first turn piece before marks long fresh = record {
@@ -65,13 +65,13 @@ noted_first turn piece before marks long fresh = record {
 }
 
 -- the row of one more number gets it
-pub noted_here : (turn : ℕ) (piece : Piece) (done : List ℕ) (number : ℕ) (before after : List (List Piece))
+pub noted_here : (turn : ℕ) (piece : CostPiece) (done : List ℕ) (number : ℕ) (before after : List (List CostPiece))
     (marks : List ℕ) → number < length marks → get_or marks number 0 ≢ turn →
     AreNoted turn piece done before after marks →
     AreNoted turn piece (done ++ number ∷ []) before (set after number (get_or after number [] ++ piece ∷ []))
     (set marks number turn)
 noted_here turn piece done number before after marks within fresh so =
-    let row : List Piece = get_or after number [] ++ piece ∷ [] in
+    let row : List CostPiece = get_or after number [] ++ piece ∷ [] in
     let long = so.long in
     let marked = so.marked in
     let inside : number < length before = omega arith in
@@ -82,7 +82,7 @@ noted_here turn piece done number before after marks within fresh so =
     ≡ get_or before t [] ++ with_piece piece (has_number t (done ++ number ∷ [])) in
     let here : Added number =
     get_or-set_same after number row [] inside_after
-    ∙ ap (λ (old : List Piece). old ++ piece ∷ [])
+    ∙ ap (λ (old : List CostPiece). old ++ piece ∷ [])
     (so.added number inside ∙ ap (λ (test : Bool). get_or before number [] ++ with_piece piece test) not_yet
     ∙ append-nil (get_or before number []))
     ∙ ap (λ (test : Bool). get_or before number [] ++ with_piece piece test)
@@ -122,7 +122,7 @@ noted_here turn piece done number before after marks within fresh so =
     }
 
 -- there is no such row, or it has the piece
-pub noted_again : (turn : ℕ) (piece : Piece) (done : List ℕ) (number : ℕ) (before after : List (List Piece))
+pub noted_again : (turn : ℕ) (piece : CostPiece) (done : List ℕ) (number : ℕ) (before after : List (List CostPiece))
     (marks : List ℕ) → ((number < length marks) × (get_or marks number 0 ≢ turn) → ⊥) →
     AreNoted turn piece done before after marks → AreNoted turn piece (done ++ number ∷ []) before after marks
 noted_again turn piece done number before after marks stale so =
@@ -153,26 +153,26 @@ noted_again turn piece done number before after marks stale so =
 
 -- ---- all pieces
 
-pub no_rows : (touched : Piece → List ℕ) (count : ℕ) (rows : List (List Piece)) → rows ≡ replicate count [] →
+pub no_rows : (touched : CostPiece → List ℕ) (count : ℕ) (rows : List (List CostPiece)) → rows ≡ replicate count [] →
     AreRows touched [] rows
 no_rows touched count rows is = record {
   rows_are = λ number below.
       let long : length rows ≡ count = ap length is ∙ length-replicate count [] in
-      ap (λ (all : List (List Piece)). get_or all number []) is
+      ap (λ (all : List (List CostPiece)). get_or all number []) is
       ∙ get_or-replicate count number [] [] (omega arith);
 }
 
-pub rows_more : (touched : Piece → List ℕ) (pieces : List Piece) (piece : Piece) (turn : ℕ)
-    (rows after : List (List Piece)) (marks : List ℕ) → AreRows touched pieces rows →
+pub rows_more : (touched : CostPiece → List ℕ) (pieces : List CostPiece) (piece : CostPiece) (turn : ℕ)
+    (rows after : List (List CostPiece)) (marks : List ℕ) → AreRows touched pieces rows →
     AreNoted turn piece (touched piece) rows after marks → AreRows touched (pieces ++ piece ∷ []) after
 rows_more touched pieces piece turn rows after marks are noted = record {
   rows_are = λ number below.
       let long = noted.long in
       let inside : number < length rows = omega arith in
       noted.added number inside
-      ∙ ap (λ (row : List Piece). row ++ with_piece piece (has_number number (touched piece)))
+      ∙ ap (λ (row : List CostPiece). row ++ with_piece piece (has_number number (touched piece)))
       (are.rows_are number inside)
-      ∙ sym (filter-append (λ (one : Piece). has_number number (touched one)) pieces (piece ∷ []));
+      ∙ sym (filter-append (λ (one : CostPiece). has_number number (touched one)) pieces (piece ∷ []));
 }
 
 -- ---- methods
@@ -224,18 +224,19 @@ pub pushed_row : (rows : List (Vec Kept)) (place : ℕ) (row pushed : Vec Kept) 
     rows_of (set rows place pushed)
     ≡ set (rows_of rows) place (get_or (rows_of rows) place [] ++ piece_shape piece ∷ [])
 pushed_row rows place row pushed piece within is more =
-    let shape : Vec Kept → List Piece = λ one. all_pieces one.items in
+    let shape : Vec Kept → List CostPiece = λ one. all_pieces one.items in
     let long = length-map rows shape in
     let old : get_or (rows_of rows) place [] ≡ all_pieces row.items =
     get_or-map shape rows place row [] (omega arith) ∙ ap shape (sym is) in
     map-set shape rows place pushed
-    ∙ ap (λ (last : List Piece). set (rows_of rows) place last)
+    ∙ ap (λ (last : List CostPiece). set (rows_of rows) place last)
     (ap all_pieces more ∙ map-append piece_shape row.items (piece ∷ [])
-    ∙ ap (λ (front : List Piece). front ++ piece_shape piece ∷ []) (sym old))
+    ∙ ap (λ (front : List CostPiece). front ++ piece_shape piece ∷ []) (sym old))
 
 -- ---- turns
 
-pub next_turn : (turn : ℕ) (piece : Piece) (numbers : List ℕ) (before after : List (List Piece)) (marks : List ℕ) →
+pub next_turn : (turn : ℕ) (piece : CostPiece) (numbers : List ℕ) (before after : List (List CostPiece))
+    (marks : List ℕ) →
     AreNoted turn piece numbers before after marks → (number : ℕ) → number < length marks →
     get_or marks number 0 ≤ turn
 next_turn turn piece numbers before after marks noted number below =

@@ -15,7 +15,7 @@ use Rattle.msg_cost.specs.PieceViews.{givens_of, walk_shape, piece_shape, all_pi
 use Rattle.msg_cost.specs.declared.walk.Walk.{Walk}
 use Rattle.msg_cost.specs.Terms.{inside}
 use Rattle.msg_cost.proofs.Statements.{given_list}
-use Rattle.msg_cost.specs.Pieces.{Given, given_statements, Piece, walk, expr_pieces, block_pieces, method_pieces}
+use Rattle.msg_cost.specs.Pieces.{Given, given_statements, CostPiece, walk, expr_pieces, block_pieces, method_pieces}
 
 pieces_first : (program : ProgramTree) (weight : ℕ) (home : StmtId) (own : List Given) (place : ℕ) (what : StmtKind)
     (heading : Heading) (rest : BlockTree) →
@@ -23,28 +23,28 @@ pieces_first : (program : ProgramTree) (weight : ℕ) (home : StmtId) (own : Lis
     ≡ block_pieces program weight home own place (statement_tree what heading done)
     ++ block_pieces program weight home own (suc place) rest
 pieces_first program weight home own place (kind.Let x value) heading rest =
-    ap (λ (mine : List Piece). mine ++ block_pieces program weight home own (suc place) rest) (sym (append-nil _))
+    ap (λ (mine : List CostPiece). mine ++ block_pieces program weight home own (suc place) rest) (sym (append-nil _))
 pieces_first program weight home own place (kind.SetField field value) heading rest =
-    ap (λ (mine : List Piece). mine ++ block_pieces program weight home own (suc place) rest) (sym (append-nil _))
+    ap (λ (mine : List CostPiece). mine ++ block_pieces program weight home own (suc place) rest) (sym (append-nil _))
 pieces_first program weight home own place (kind.SetElement field index value) heading rest =
-    ap (λ (mine : List Piece). mine ++ block_pieces program weight home own (suc place) rest) (sym (append-nil _))
+    ap (λ (mine : List CostPiece). mine ++ block_pieces program weight home own (suc place) rest) (sym (append-nil _))
 pieces_first program weight home own place (kind.If' guard m first n second) heading rest =
-    ap (λ (mine : List Piece). mine ++ block_pieces program weight home own (suc place) rest) (sym (append-nil _))
+    ap (λ (mine : List CostPiece). mine ++ block_pieces program weight home own (suc place) rest) (sym (append-nil _))
 pieces_first program weight home own place (kind.While' guard m body) heading rest =
-    ap (λ (mine : List Piece). mine ++ block_pieces program weight home own (suc place) rest) (sym (append-nil _))
+    ap (λ (mine : List CostPiece). mine ++ block_pieces program weight home own (suc place) rest) (sym (append-nil _))
 pieces_first program weight home own place (kind.Call site method args into) heading rest =
-    ap (λ (mine : List Piece). mine ++ block_pieces program weight home own (suc place) rest) (sym (append-nil _))
+    ap (λ (mine : List CostPiece). mine ++ block_pieces program weight home own (suc place) rest) (sym (append-nil _))
 pieces_first program weight home own place (kind.Return value) heading rest =
-    ap (λ (mine : List Piece). mine ++ block_pieces program weight home own (suc place) rest) (sym (append-nil _))
+    ap (λ (mine : List CostPiece). mine ++ block_pieces program weight home own (suc place) rest) (sym (append-nil _))
 
-moved_over : (so_far own left all next : List Piece) → so_far ++ (own ++ left) ≡ all → next ≡ so_far ++ own →
+moved_over : (so_far own left all next : List CostPiece) → so_far ++ (own ++ left) ≡ all → next ≡ so_far ++ own →
     next ++ left ≡ all
 moved_over so_far own left all next was is =
-    ap (λ (one : List Piece). one ++ left) is ∙ append_assoc so_far own left ∙ was
+    ap (λ (one : List CostPiece). one ++ left) is ∙ append_assoc so_far own left ∙ was
 
 -- the pieces of one more statement are there
 pub one_more : (program : ProgramTree) (weight : ℕ) (home : StmtId) (own : List Given) (place : ℕ)
-    (so_far next all : List Piece) (statement : Stmt) (others : List Stmt) →
+    (so_far next all : List CostPiece) (statement : Stmt) (others : List Stmt) →
     so_far ++ block_pieces program weight home own place (block_tree (statement ∷ others)) ≡ all →
     next ≡ so_far ++ block_pieces program weight home own place (tree_before statement done) →
     next ++ block_pieces program weight home own (suc place) (block_tree others) ≡ all
@@ -52,7 +52,7 @@ one_more program weight home own place so_far next all statement others was is =
     let parts = pieces_first program weight home own place statement.kind (head_of statement) (block_tree others) in
     let mine = block_pieces program weight home own place (tree_before statement done) in
     moved_over so_far mine (block_pieces program weight home own (suc place) (block_tree others)) all next
-    (ap (λ (left : List Piece). so_far ++ left) (sym parts) ∙ was) is
+    (ap (λ (left : List CostPiece). so_far ++ left) (sym parts) ∙ was) is
 
 -- ---- walks of blocks
 
@@ -68,20 +68,20 @@ walk_is one weight home nested block weighs begins is_nested has =
 
 -- a block is walked, and has its pieces
 pub walked_added : (program : ProgramTree) (weight : ℕ) (home : StmtId) (nested : Bool) (block : List Stmt)
-    (old pushed next : List Piece) → pushed ≡ old ++ walk weight home nested (givens_of block) ∷ [] →
+    (old pushed next : List CostPiece) → pushed ≡ old ++ walk weight home nested (givens_of block) ∷ [] →
     next ≡ pushed ++ block_pieces program weight home (givens_of block) 0 (block_tree block) →
     next ≡ old ++ (walk weight home nested (given_statements (block_tree block))
     ∷ block_pieces program weight home (given_statements (block_tree block)) 0 (block_tree block))
 walked_added program weight home nested block old pushed next first is =
     let rest = block_pieces program weight home (givens_of block) 0 (block_tree block) in
-    is ∙ ap (λ (one : List Piece). one ++ rest) first
+    is ∙ ap (λ (one : List CostPiece). one ++ rest) first
     ∙ append_assoc old (walk weight home nested (givens_of block) ∷ []) rest
     ∙ ap (λ (own : List Given).
     old ++ (walk weight home nested own ∷ block_pieces program weight home own 0 (block_tree block)))
     (sym (given_list block))
 
 -- one more method has its pieces
-pub method_more : (program : ProgramTree) (so_far next all : List Piece) (method : Method) (others : List Method) →
+pub method_more : (program : ProgramTree) (so_far next all : List CostPiece) (method : Method) (others : List Method) →
     so_far ++ flat_map (method_pieces program) (map method_tree (method ∷ others)) ≡ all →
     next ≡ so_far ++ method_pieces program (method_tree method) →
     next ++ flat_map (method_pieces program) (map method_tree others) ≡ all
@@ -92,7 +92,7 @@ method_more program so_far next all method others was is =
 -- ---- branches and loops
 
 pub branch_pieces : (program : ProgramTree) (weight : ℕ) (home : StmtId) (own : List Given) (place : ℕ)
-    (heading : Heading) (guard : ExprTree) (first second : BlockTree) (old read one two : List Piece) →
+    (heading : Heading) (guard : ExprTree) (first second : BlockTree) (old read one two : List CostPiece) →
     read ≡ old ++ expr_pieces weight heading.id guard →
     one ≡ read ++ (walk weight heading.id true (given_statements first)
     ∷ block_pieces program weight heading.id (given_statements first) 0 first) →
@@ -101,19 +101,19 @@ pub branch_pieces : (program : ProgramTree) (weight : ℕ) (home : StmtId) (own 
     two ≡ old ++ block_pieces program weight home own place (branch heading guard first second done)
 branch_pieces program weight home own place heading guard first second old read one two read_is one_is two_is =
     let guards = expr_pieces weight heading.id guard in
-    let firsts : List Piece =
+    let firsts : List CostPiece =
     walk weight heading.id true (given_statements first)
     ∷ block_pieces program weight heading.id (given_statements first) 0 first in
-    let seconds : List Piece =
+    let seconds : List CostPiece =
     walk weight heading.id true (given_statements second)
     ∷ block_pieces program weight heading.id (given_statements second) 0 second in
-    two_is ∙ ap (λ (so_far : List Piece). so_far ++ seconds)
-    (one_is ∙ ap (λ (so_far : List Piece). so_far ++ firsts) read_is ∙ append_assoc old guards firsts)
+    two_is ∙ ap (λ (so_far : List CostPiece). so_far ++ seconds)
+    (one_is ∙ ap (λ (so_far : List CostPiece). so_far ++ firsts) read_is ∙ append_assoc old guards firsts)
     ∙ append_assoc old (guards ++ firsts) seconds
-    ∙ ap (λ (mine : List Piece). old ++ mine) (sym (append-nil (guards ++ firsts ++ seconds)))
+    ∙ ap (λ (mine : List CostPiece). old ++ mine) (sym (append-nil (guards ++ firsts ++ seconds)))
 
 pub loop_pieces : (program : ProgramTree) (weight : ℕ) (home : StmtId) (own : List Given) (place : ℕ)
-    (heading : Heading) (guard : ExprTree) (body : BlockTree) (old read one : List Piece) →
+    (heading : Heading) (guard : ExprTree) (body : BlockTree) (old read one : List CostPiece) →
     read ≡ old ++ expr_pieces (inside weight) heading.id guard →
     one ≡ read
     ++ (walk (inside weight) heading.id true (given_statements body)
@@ -121,8 +121,8 @@ pub loop_pieces : (program : ProgramTree) (weight : ℕ) (home : StmtId) (own : 
     one ≡ old ++ block_pieces program weight home own place (loop heading guard body done)
 loop_pieces program weight home own place heading guard body old read one read_is one_is =
     let guards = expr_pieces (inside weight) heading.id guard in
-    let bodies : List Piece =
+    let bodies : List CostPiece =
     walk (inside weight) heading.id true (given_statements body)
     ∷ block_pieces program (inside weight) heading.id (given_statements body) 0 body in
-    one_is ∙ ap (λ (so_far : List Piece). so_far ++ bodies) read_is ∙ append_assoc old guards bodies
-    ∙ ap (λ (mine : List Piece). old ++ mine) (sym (append-nil (guards ++ bodies)))
+    one_is ∙ ap (λ (so_far : List CostPiece). so_far ++ bodies) read_is ∙ append_assoc old guards bodies
+    ∙ ap (λ (mine : List CostPiece). old ++ mine) (sym (append-nil (guards ++ bodies)))

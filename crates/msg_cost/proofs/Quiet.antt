@@ -7,7 +7,7 @@ use Rattle.js_base.specs.declared.ids.StmtId.{StmtId}
 use Rattle.js_base.specs.declared.ids.VarId.{VarId}
 use Rattle.need_labels.specs.Plan.{PlanShape, statement_host}
 use Rattle.msg_cost.specs.Moves.{PlannedShape}
-use Rattle.msg_cost.specs.Pieces.{Piece, access, giving, passing, calling, walk, ending, touches, untouched}
+use Rattle.msg_cost.specs.Pieces.{CostPiece, access, giving, passing, calling, walk, ending, touches, untouched}
 use Rattle.msg_cost.specs.Rows.{has_number}
 use Rattle.msg_cost.specs.Touches.{statements_of}
 use Rattle.msg_cost.specs.Walks.{SameHosts}
@@ -69,7 +69,7 @@ any_numbers : (number : ℕ) (statements : List StmtId) →
 any_numbers number [] = refl
 any_numbers number (one ∷ others) = ap (λ (rest : Bool). nat_eq one.0 number || rest) (any_numbers number others)
 
-pub not_touched : (planned : PlannedShape) (statement : StmtId) (piece : Piece) →
+pub not_touched : (planned : PlannedShape) (statement : StmtId) (piece : CostPiece) →
     has_number statement.0 (map (λ one. one.0) (statements_of planned.program planned.needs piece)) ≡ false →
     NotTouched planned (Some statement) piece
 not_touched planned statement (access weight one field) not = tt
@@ -82,7 +82,7 @@ not_touched planned statement (calling weight one method kept) not = tt
 not_touched planned statement (walk weight home nested own) not = tt
 not_touched planned statement (ending method) not = tt
 
-pub none_touched : (planned : PlannedShape) (piece : Piece) → NotTouched planned None piece
+pub none_touched : (planned : PlannedShape) (piece : CostPiece) → NotTouched planned None piece
 none_touched planned (access weight one field) = tt
 none_touched planned (giving weight one x home own place) = refl
 none_touched planned (passing weight one method x) = tt

@@ -16,11 +16,11 @@ use Rattle.msg_cost.specs.declared.step.Step.TheVariants as step
 use Rattle.msg_cost.specs.declared.walk_change.Change.{Change}
 use Rattle.msg_cost.specs.Cost.{cost_of}
 use Rattle.msg_cost.specs.Moves.{PlannedShape}
-use Rattle.msg_cost.specs.Pieces.{Piece, access, giving, passing, calling, walk, ending, piece_cost, pieces_cost}
+use Rattle.msg_cost.specs.Pieces.{CostPiece, access, giving, passing, calling, walk, ending, piece_cost, pieces_cost}
 use Rattle.msg_cost.specs.Pieces.{walk_cost}
 use Rattle.msg_cost.specs.Pieces.{walks_cost, other_cost, others_cost, program_pieces}
 use Rattle.msg_cost.specs.PieceViews.{all_pieces}
-use Rattle.msg_cost.specs.Rows.{HasRows, AreRows, rows_of, numbers_of, pieces_with, kind_of, number_of}
+use Rattle.msg_cost.specs.Rows.{HasCostRows, AreRows, rows_of, numbers_of, pieces_with, kind_of, number_of}
 use Rattle.msg_cost.specs.Steps.{moved}
 use Rattle.msg_cost.specs.Terms.{program_terms}
 use Rattle.msg_cost.specs.Touched.{moved_by, row_others, touched_others}
@@ -38,17 +38,17 @@ use Rattle.msg_cost.proofs.WalkChanges.{nothing_changed}
 -- ---- rows
 
 -- the pieces of a row, or all where there is no such row
-abbrev row_or_all : List (Vec Kept) → ℕ → List Piece → List Piece
+abbrev row_or_all : List (Vec Kept) → ℕ → List CostPiece → List CostPiece
 row_or_all rows number all = unwrap_or (option_map (λ row. all_pieces row.items) (slice_get rows number)) all
 
 -- the pieces that are counted for a move: those that the index has for the part, and all where it has no row for it
-abbrev touched_pieces : PlannedShape → Index → Step → List Piece
+abbrev touched_pieces : PlannedShape → Index → Step → List CostPiece
 touched_pieces planned index (step.Field field host) =
     row_or_all index.fields.items field.0 (program_pieces planned.program)
 touched_pieces planned index (step.Statement statement host) =
     row_or_all index.statements.items statement.0 (program_pieces planned.program)
 
-there : (rows : List (Vec Kept)) (number : ℕ) (all : List Piece) →
+there : (rows : List (Vec Kept)) (number : ℕ) (all : List CostPiece) →
     ((number < length (rows_of rows)) × (row_or_all rows number all ≡ slice_index_or (rows_of rows) number []))
     ⊎ (row_or_all rows number all ≡ all)
 there [] number all = inr refl
@@ -58,7 +58,8 @@ there (row ∷ rows) (suc number) all = elim (there rows number all) [
   | inr none ↦ inr none
 ]
 
-row_is : (touched : Piece → List ℕ) (all : List Piece) (rows : List (Vec Kept)) → AreRows touched all (rows_of rows) →
+row_is : (touched : CostPiece → List ℕ) (all : List CostPiece) (rows : List (Vec Kept)) →
+    AreRows touched all (rows_of rows) →
     (number : ℕ) →
     (row_or_all rows number all ≡ pieces_with touched number all) ⊎ (row_or_all rows number all ≡ all)
 row_is touched all rows are number = elim (there rows number all) [
@@ -67,7 +68,7 @@ row_is touched all rows are number = elim (there rows number all) [
 ]
 
 -- they are those that depend on the part, or all
-touched_are : (planned : PlannedShape) (index : Index) → HasRows planned.program planned.needs index →
+touched_are : (planned : PlannedShape) (index : Index) → HasCostRows planned.program planned.needs index →
     (move : Step) → (touched_pieces planned index move
     ≡ pieces_with (numbers_of (kind_of move) planned.program planned.needs) (number_of move)
     (program_pieces planned.program))
@@ -81,7 +82,7 @@ touched_are planned index is (step.Statement statement host) =
 
 -- ---- walks and other pieces
 
-one_or_other : (planned : PlannedShape) (part : Option StmtId) (piece : Piece) →
+one_or_other : (planned : PlannedShape) (part : Option StmtId) (piece : CostPiece) →
     walk_cost planned part piece + other_cost planned part piece ≡ piece_cost planned part piece
 one_or_other planned part (access weight statement field) = omega arith
 one_or_other planned part (giving weight statement x home own place) = omega arith
@@ -90,7 +91,7 @@ one_or_other planned part (calling weight statement method kept) = omega arith
 one_or_other planned part (walk weight home nested own) = omega arith
 one_or_other planned part (ending method) = omega arith
 
-both_kinds : (planned : PlannedShape) (part : Option StmtId) (pieces : List Piece) →
+both_kinds : (planned : PlannedShape) (part : Option StmtId) (pieces : List CostPiece) →
     walks_cost planned part pieces + others_cost planned part pieces ≡ pieces_cost planned part pieces
 both_kinds planned part [] = omega arith
 both_kinds planned part (piece ∷ others) =
@@ -128,7 +129,7 @@ touched_parts planned index (step.Statement statement host) =
 -- ---- costs
 
 all_small : (planned : PlannedShape) → AreHosts planned.hosts → IsWithinLimits planned.program →
-    (index : Index) → HasRows planned.program planned.needs index → (move : Step) →
+    (index : Index) → HasCostRows planned.program planned.needs index → (move : Step) →
     pieces_cost planned (moved_by move) (touched_pieces planned index move) < 2 ^ 62
 all_small planned sound sized index is move = elim (touched_are planned index is move) [
   | inl row ↦
@@ -145,7 +146,7 @@ all_small planned sound sized index is move = elim (touched_are planned index is
 ]
 
 pub others_small : (planned : PlannedShape) → AreHosts planned.hosts → IsWithinLimits planned.program →
-    (index : Index) → HasRows planned.program planned.needs index → (move : Step) → (total : ℕ) →
+    (index : Index) → HasCostRows planned.program planned.needs index → (move : Step) → (total : ℕ) →
     total ≡ capped (touched_others planned index move) →
     (total ≡ touched_others planned index move) × (total < 2 ^ 62)
 others_small planned sound sized index is move total counted =
@@ -154,7 +155,7 @@ others_small planned sound sized index is move total counted =
     (omega arith, omega arith)
 
 -- what a move changes is what it changes of that
-touched_changed : (planned : PlannedShape) (index : Index) → HasRows planned.program planned.needs index →
+touched_changed : (planned : PlannedShape) (index : Index) → HasCostRows planned.program planned.needs index →
     (move : Step) →
     cost_of planned.hosts (program_terms (under planned (moved planned.plan move)))
     + pieces_cost planned (moved_by move) (touched_pieces planned index move)
@@ -183,7 +184,7 @@ same_pieces planned index (step.Statement statement host) = refl
 
 -- the cost of a plan changes as that of walks and of other pieces does, and these changes are small
 pub walks_changed : (planned : PlannedShape) → AreHosts planned.hosts → IsWithinLimits planned.program →
-    (index : Index) → HasRows planned.program planned.needs index → (move : Step) → (change : Change) →
+    (index : Index) → HasCostRows planned.program planned.needs index → (move : Step) → (change : Change) →
     IsChange (touched_walks planned index move)
     (touched_walks (under planned (moved planned.plan move)) index move) change →
     (cost_of planned.hosts (program_terms (under planned (moved planned.plan move)))
@@ -206,7 +207,7 @@ walks_changed planned sound sized index is move change are =
 -- ---- fields
 
 -- walks don't depend on the hosts of fields
-walk_stays : (planned : PlannedShape) (field : FieldId) (host : HostId) (piece : Piece) →
+walk_stays : (planned : PlannedShape) (field : FieldId) (host : HostId) (piece : CostPiece) →
     walk_cost planned None piece
     ≡ walk_cost (under planned (moved planned.plan (step.Field field host))) None piece
 walk_stays planned field host (access weight statement other) = refl
@@ -220,7 +221,7 @@ walk_stays planned field host (walk weight home nested own) =
     (statements_stay planned field host (statements_of planned.program planned.needs (walk weight home nested own))))
 walk_stays planned field host (ending method) = refl
 
-walks_stay : (planned : PlannedShape) (field : FieldId) (host : HostId) (pieces : List Piece) →
+walks_stay : (planned : PlannedShape) (field : FieldId) (host : HostId) (pieces : List CostPiece) →
     walks_cost planned None pieces
     ≡ walks_cost (under planned (moved planned.plan (step.Field field host))) None pieces
 walks_stay planned field host [] = refl

@@ -16,7 +16,7 @@ use Rattle.msg_cost.specs.declared.piece.Piece.{Piece as Kept}
 use Rattle.msg_cost.specs.Kept.{is_trusted_from}
 use Rattle.msg_cost.specs.Moves.{PlannedShape, is_trusted_for, is_trusted_for_all}
 use Rattle.msg_cost.specs.PieceViews.{piece_shape, all_pieces}
-use Rattle.msg_cost.specs.Pieces.{Piece}
+use Rattle.msg_cost.specs.Pieces.{CostPiece}
 use Rattle.msg_cost.specs.Rows.{rows_of}
 use Rattle.msg_cost.specs.Tables.{IsTrustedSince, IsTable, HasTable, HaveTables, RowsHaveTables, AreBodies}
 use Rattle.msg_cost.specs.Views.{ids_of}
@@ -135,7 +135,7 @@ pub same_shapes : (pieces : List Kept) (place : ℕ) (piece next : Kept) → pla
     all_pieces (set pieces place next) ≡ all_pieces pieces
 same_shapes pieces place piece next within is same =
     map-set piece_shape pieces place next
-    ∙ ap (λ (one : Piece). set (all_pieces pieces) place one)
+    ∙ ap (λ (one : CostPiece). set (all_pieces pieces) place one)
     (same ∙ ap piece_shape is ∙ sym (get_or-map piece_shape pieces place piece (piece_shape piece) within))
     ∙ set-get_or (all_pieces pieces) place (piece_shape piece)
 
@@ -166,10 +166,10 @@ no_pieces items none = nil_from_length items (sym (length-map items piece_shape)
 pub empty_tables : (needs : NeedsShape) (hosts : HostsShape) (count : ℕ) (rows : List (Vec Kept)) →
     rows_of rows ≡ replicate count [] → RowsHaveTables needs hosts rows
 empty_tables needs hosts count rows is k d within =
-    let shape : Vec Kept → List Piece = λ one. all_pieces one.items in
+    let shape : Vec Kept → List CostPiece = λ one. all_pieces one.items in
     let long : length rows ≡ count = sym (length-map rows shape) ∙ ap length is ∙ length-replicate count [] in
     let none : all_pieces (get_or rows k d).items ≡ [] =
-    sym (get_or-map shape rows k d [] within) ∙ ap (λ (all : List (List Piece)). get_or all k []) is
+    sym (get_or-map shape rows k d [] within) ∙ ap (λ (all : List (List CostPiece)). get_or all k []) is
     ∙ get_or-replicate count k [] [] (omega arith) in
     All-same (HasTable needs hosts) (get_or rows k d).items [] (no_pieces (get_or rows k d).items none)
     (All-nil (HasTable needs hosts))

@@ -28,7 +28,7 @@ IsReadingWord planned x word = (host : ℕ) → host < WORD_BITS → (bit_at wor
 abbrev pub AreReadingWords : PlannedShape → ℕ → List ℕ → Type 0
 AreReadingWords planned count words = (x : VarId) → x.0 < count → IsReadingWord planned x (slice_index words x.0)
 
-pub record IsKept (planned : PlannedShape) (kept : Kept) : Type 0 where
+pub record IsCostKept (planned : PlannedShape) (kept : Kept) : Type 0 where
   pub ends : AreEnds planned kept.ends.now
   pub reading : AreReadingWords planned kept.found kept.reading.now
 

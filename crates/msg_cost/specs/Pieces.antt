@@ -34,20 +34,20 @@ pub record Given : Type 0 where
 abbrev pub given_ids : List Given → List StmtId
 given_ids own = map (λ given. given.id) own
 
-pub data Piece : Type 0 where
+pub data CostPiece : Type 0 where
   -- a statement reads or writes a field
-  access : ℕ → StmtId → FieldId → Piece
+  access : ℕ → StmtId → FieldId → CostPiece
   -- a statement gives a variable a value, at a place of these statements, which begin on the host of another one
-  giving : ℕ → StmtId → VarId → StmtId → List Given → ℕ → Piece
+  giving : ℕ → StmtId → VarId → StmtId → List Given → ℕ → CostPiece
   -- a call of a method gives a parameter a value
-  passing : ℕ → StmtId → MethodId → VarId → Piece
+  passing : ℕ → StmtId → MethodId → VarId → CostPiece
   -- a statement calls a method, and may keep its result
-  calling : ℕ → StmtId → MethodId → Bool → Piece
+  calling : ℕ → StmtId → MethodId → Bool → CostPiece
   -- the token goes over the statements of a block that begins on the host of a statement, and behind a nested block it
   -- comes back there
-  walk : ℕ → StmtId → Bool → List Given → Piece
+  walk : ℕ → StmtId → Bool → List Given → CostPiece
   -- the method at which the program began is done
-  ending : MethodId → Piece
+  ending : MethodId → CostPiece
 
 -- ---- what a moved statement touches
 
@@ -99,7 +99,7 @@ carried_at planned home own place =
     carried_to planned (spot_behind planned (on (statement_host planned.plan home)) own (suc place))
     (drop (suc place) own)
 
-abbrev pub piece_terms : PlannedShape → Option StmtId → Piece → List Term
+abbrev pub piece_terms : PlannedShape → Option StmtId → CostPiece → List Term
 piece_terms planned moved (access weight statement field) =
     exchange weight (statement_host planned.plan statement) (field_host planned.plan field) ∷ []
 piece_terms planned moved (giving weight statement x home own place) =
@@ -123,28 +123,28 @@ piece_terms planned moved (ending method) =
     let called = method_at planned.program method in
     message 1 (called_end planned called) (called_home planned called) ∷ []
 
-abbrev pub piece_cost : PlannedShape → Option StmtId → Piece → ℕ
+abbrev pub piece_cost : PlannedShape → Option StmtId → CostPiece → ℕ
 piece_cost planned moved piece = cost_of planned.hosts (piece_terms planned moved piece)
 
-abbrev pub pieces_cost : PlannedShape → Option StmtId → List Piece → ℕ
+abbrev pub pieces_cost : PlannedShape → Option StmtId → List CostPiece → ℕ
 pieces_cost planned moved pieces = sum_by (piece_cost planned moved) pieces
 
-abbrev pub is_walk : Piece → Bool
+abbrev pub is_walk : CostPiece → Bool
 is_walk (walk weight home nested own) = true
 is_walk other = false
 
 -- what a piece costs that is a walk, and nothing for any other
-abbrev pub walk_cost : PlannedShape → Option StmtId → Piece → ℕ
+abbrev pub walk_cost : PlannedShape → Option StmtId → CostPiece → ℕ
 walk_cost planned moved piece = if is_walk piece then piece_cost planned moved piece else 0
 
-abbrev pub walks_cost : PlannedShape → Option StmtId → List Piece → ℕ
+abbrev pub walks_cost : PlannedShape → Option StmtId → List CostPiece → ℕ
 walks_cost planned moved pieces = sum_by (walk_cost planned moved) pieces
 
 -- what a piece costs that is no walk, and nothing for a walk
-abbrev pub other_cost : PlannedShape → Option StmtId → Piece → ℕ
+abbrev pub other_cost : PlannedShape → Option StmtId → CostPiece → ℕ
 other_cost planned moved piece = if is_walk piece then 0 else piece_cost planned moved piece
 
-abbrev pub others_cost : PlannedShape → Option StmtId → List Piece → ℕ
+abbrev pub others_cost : PlannedShape → Option StmtId → List CostPiece → ℕ
 others_cost planned moved pieces = sum_by (other_cost planned moved) pieces
 
 -- ---- the statements of a block
@@ -166,7 +166,7 @@ given_statements (give_back heading value rest) = record { id = heading.id; give
 -- ---- the pieces of a program
 
 -- the fields that an expression reads
-abbrev pub expr_pieces : ℕ → StmtId → ExprTree → List Piece
+abbrev pub expr_pieces : ℕ → StmtId → ExprTree → List CostPiece
 expr_pieces weight id (number value) = []
 expr_pieces weight id (local x) = []
 expr_pieces weight id (scalar field) = access weight id field ∷ []
@@ -178,7 +178,7 @@ expr_pieces weight id (declassified operand label) = expr_pieces weight id opera
 expr_pieces weight id (endorsed operand label) = expr_pieces weight id operand
 
 -- arguments, each with the parameter that gets it
-abbrev pub argument_pieces : ℕ → StmtId → MethodId → List VarId → List ExprTree → List Piece
+abbrev pub argument_pieces : ℕ → StmtId → MethodId → List VarId → List ExprTree → List CostPiece
 argument_pieces weight id method params [] = []
 argument_pieces weight id method [] (argument ∷ others) =
     expr_pieces weight id argument ++ argument_pieces weight id method [] others
@@ -190,19 +190,19 @@ abbrev pub is_kept : Option VarId → Bool
 is_kept None = false
 is_kept (Some x) = true
 
-abbrev pub call_pieces : ProgramTree → ℕ → StmtId → MethodId → List ExprTree → Option VarId → List Piece
+abbrev pub call_pieces : ProgramTree → ℕ → StmtId → MethodId → List ExprTree → Option VarId → List CostPiece
 call_pieces program weight id method arguments into =
     argument_pieces weight id method (params_of (method_at program method)) arguments
     ++ calling weight id method (is_kept into) ∷ []
 
 -- what a statement gives that stands at a place of a block
-abbrev pub given_pieces : ℕ → StmtId → Option VarId → StmtId → List Given → ℕ → List Piece
+abbrev pub given_pieces : ℕ → StmtId → Option VarId → StmtId → List Given → ℕ → List CostPiece
 given_pieces weight id None home own place = []
 given_pieces weight id (Some x) home own place = giving weight id x home own place ∷ []
 
 -- The pieces of the statements from a place of a block on, without the walk over them. The block begins on the host of
 -- a statement, and these are all its statements.
-abbrev pub block_pieces : ProgramTree → ℕ → StmtId → List Given → ℕ → BlockTree → List Piece
+abbrev pub block_pieces : ProgramTree → ℕ → StmtId → List Given → ℕ → BlockTree → List CostPiece
 block_pieces program weight home own place done = []
 block_pieces program weight home own place (set_local heading x value rest) =
     (expr_pieces weight heading.id value ++ giving weight heading.id x home own place ∷ [])
@@ -231,10 +231,10 @@ block_pieces program weight home own place (call heading site method arguments i
 block_pieces program weight home own place (give_back heading value rest) =
     expr_pieces weight heading.id value ++ block_pieces program weight home own (suc place) rest
 
-abbrev pub method_pieces : ProgramTree → MethodTree → List Piece
+abbrev pub method_pieces : ProgramTree → MethodTree → List CostPiece
 method_pieces program method =
     walk 1 method.head false (given_statements method.body)
     ∷ block_pieces program 1 method.head (given_statements method.body) 0 method.body
 
-abbrev pub program_pieces : ProgramTree → List Piece
+abbrev pub program_pieces : ProgramTree → List CostPiece
 program_pieces program = flat_map (method_pieces program) program.methods ++ ending program.main ∷ []

@@ -6,7 +6,7 @@ use Rattle.jif_tree.specs.LabelRules.{method_at}
 use Rattle.jif_tree.specs.Trees.{MethodTree, ProgramTree}
 use Rattle.need_labels.specs.Needs.{NeedsShape}
 use Rattle.msg_cost.specs.Moves.{own_statements}
-use Rattle.msg_cost.specs.Pieces.{Piece, access, giving, passing, calling, walk, ending, given_ids}
+use Rattle.msg_cost.specs.Pieces.{CostPiece, access, giving, passing, calling, walk, ending, given_ids}
 
 -- the statements whose hosts say where a method begins and ends
 abbrev pub statements_of_method : Option MethodTree → List StmtId
@@ -20,7 +20,7 @@ head_of_method (Some method) = method.head ∷ []
 
 -- The statements on whose hosts a piece depends. What a statement gives depends on more of its block, but only where
 -- one of these is moved it is counted as a piece of its own.
-abbrev pub statements_of : ProgramTree → NeedsShape → Piece → List StmtId
+abbrev pub statements_of : ProgramTree → NeedsShape → CostPiece → List StmtId
 statements_of program needs (access weight statement field) = statement ∷ []
 statements_of program needs (giving weight statement x home own place) =
     statement ∷ unwrap_or (slice_get needs.readers x.0) []
@@ -32,7 +32,7 @@ statements_of program needs (walk weight home nested own) = home ∷ given_ids o
 statements_of program needs (ending method) = statements_of_method (method_at program method)
 
 -- the fields on whose hosts it depends
-abbrev pub fields_of : Piece → List FieldId
+abbrev pub fields_of : CostPiece → List FieldId
 fields_of (access weight statement field) = field ∷ []
 fields_of (giving weight statement x home own place) = []
 fields_of (passing weight statement method x) = []

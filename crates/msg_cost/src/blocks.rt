@@ -3,7 +3,7 @@
 ghost use Rattle.std.specs.Prelude.{◌≡◌, ◌++◌, [], ◌∷◌};
 ghost use Rattle.jif_tree.specs.Trees.{done, block_tree, tree_before};
 ghost use Rattle.msg_cost.specs.Cost.{cost_of};
-ghost use Rattle.msg_cost.specs.Kept.{IsKept};
+ghost use Rattle.msg_cost.specs.Kept.{IsCostKept};
 ghost use Rattle.msg_cost.specs.Moves.{on, block_end};
 ghost use Rattle.msg_cost.specs.Terms.{message, block_terms, own_terms};
 ghost use Rattle.msg_cost.specs.Views.{seated_shape, capped};
@@ -31,7 +31,7 @@ pub fn block_cost(
     home: HostId,
     block: &[Stmt],
 ) -> u64
-    requires { IsKept (seated_shape planned.now) kept.now }
+    requires { IsCostKept (seated_shape planned.now) kept.now }
     ensures { result ≡ capped (cost_of planned.now.hosts.now
         (block_terms (seated_shape planned.now) weight (on home) (block_tree block.now))) }
 {
@@ -63,7 +63,7 @@ fn nested_cost(
     host: HostId,
     block: &[Stmt],
 ) -> u64
-    requires { IsKept (seated_shape planned.now) kept.now }
+    requires { IsCostKept (seated_shape planned.now) kept.now }
     ensures { result ≡ capped (cost_of planned.now.hosts.now
         (block_terms (seated_shape planned.now) weight (on host) (block_tree block.now)
         ++ message weight (block_end (seated_shape planned.now) host (block_tree block.now)) host ∷ [])) }
@@ -77,7 +77,7 @@ fn nested_cost(
 /// next statement, since it depends on the spot of that one.
 #[cycle(blocks)]
 fn statement_cost(planned: &Seated<'_>, kept: &Kept<'_>, weight: u64, statement: &Stmt) -> u64
-    requires { IsKept (seated_shape planned.now) kept.now }
+    requires { IsCostKept (seated_shape planned.now) kept.now }
     ensures { result ≡ capped (cost_of planned.now.hosts.now
         (own_terms (seated_shape planned.now) weight (tree_before statement.now done))) }
 {

@@ -4,7 +4,7 @@ ghost use Rattle.std.specs.Prelude.{◌≡◌, map};
 ghost use Rattle.jif_tree.specs.Trees.{expr_tree, program_tree};
 ghost use Rattle.jif_tree.specs.LabelRules.{method_at};
 ghost use Rattle.msg_cost.specs.Cost.{cost_of};
-ghost use Rattle.msg_cost.specs.Kept.{IsKept};
+ghost use Rattle.msg_cost.specs.Kept.{IsCostKept};
 ghost use Rattle.msg_cost.specs.Terms.{argument_terms, result_terms, call_terms};
 ghost use Rattle.msg_cost.specs.Views.{seated_shape, capped};
 
@@ -28,7 +28,7 @@ fn argument_cost(
     params: &[VarId],
     args: &[Expr],
 ) -> u64
-    requires { IsKept (seated_shape planned.now) kept.now }
+    requires { IsCostKept (seated_shape planned.now) kept.now }
     ensures { result ≡ capped (cost_of planned.now.hosts.now
         (argument_terms (seated_shape planned.now) weight host home params.now (map expr_tree args.now))) }
 {
@@ -72,7 +72,7 @@ pub fn call_cost(
     args: &[Expr],
     into: Option<VarId>,
 ) -> u64
-    requires { IsKept (seated_shape planned.now) kept.now }
+    requires { IsCostKept (seated_shape planned.now) kept.now }
     ensures { result ≡ capped (cost_of planned.now.hosts.now (call_terms (seated_shape planned.now) weight host
         (method_at (program_tree planned.now.program.now) method) (map expr_tree args.now) into)) }
 {

@@ -7,7 +7,7 @@ ghost use Rattle.jif_tree.specs.Limits.{IsWithinLimits};
 ghost use Rattle.need_labels.specs.Labelled.{labelled_of};
 ghost use Rattle.msg_cost.specs.Cost.{cost_of, plan_cost};
 ghost use Rattle.js_base.specs.declared.limits.TheConstants.{METHODS};
-ghost use Rattle.msg_cost.specs.Kept.{IsKept};
+ghost use Rattle.msg_cost.specs.Kept.{IsCostKept};
 ghost use Rattle.msg_cost.specs.Steps.{moved};
 ghost use Rattle.msg_cost.specs.Terms.{method_terms, program_terms};
 ghost use Rattle.msg_cost.specs.Views.{seated_shape, capped};
@@ -26,7 +26,7 @@ use need_labels::{Needs, Plan};
 
 /// The cost of the bodies of all methods.
 fn bodies_cost(planned: &Seated<'_>, kept: &Kept<'_>) -> u64
-    requires { IsKept (seated_shape planned.now) kept.now }
+    requires { IsCostKept (seated_shape planned.now) kept.now }
     ensures { result ≡ capped (cost_of planned.now.hosts.now
         (flat_map (method_terms (seated_shape planned.now)) (program_tree planned.now.program.now).methods)) }
 {

@@ -7,7 +7,7 @@ use Rattle.std.specs.Option.{option_map}
 use Rattle.std.proofs.lemmas.Bool.{cases_lt}
 use Rattle.std.proofs.lemmas.Bool.Decides.{nat_tests}
 use Rattle.js_base.specs.declared.ids.HostId.{HostId}
-use Rattle.host_core.specs.Host.{HostModel, HostShape, state_of}
+use Rattle.host_core.specs.Host.{HostModel, HostState, state_of}
 use Rattle.net_world.specs.Flying.{Flight, flights_of, flights_at, pair_place}
 use Rattle.net_world.specs.World.{given, present}
 use Rattle.net_world.specs.Choice.{Runs, NoneRuns, Flies, NothingFlies, NothingFliesFrom}
@@ -26,13 +26,13 @@ below_more P n before last host lt =
           subst P same last)
     ]
 
-running_model : (o : Option HostModel) → IsSomeAnd (option_map state_of o) (λ (s : HostShape). IsSome s.running) →
+running_model : (o : Option HostModel) → IsSomeAnd (option_map state_of o) (λ (s : HostState). IsSome s.running) →
     IsSomeAnd o (λ (h : HostModel). IsSome h.running)
 running_model None runs = runs
 running_model (Some host) runs = runs
 
 running_state : (o : Option HostModel) → IsSomeAnd o (λ (h : HostModel). IsSome h.running) →
-    IsSomeAnd (option_map state_of o) (λ (s : HostShape). IsSome s.running)
+    IsSomeAnd (option_map state_of o) (λ (s : HostState). IsSome s.running)
 running_state None runs = runs
 running_state (Some host) runs = runs
 
@@ -41,12 +41,12 @@ pub runs_model : (world : WorldModel) (host : HostId) → Runs (world_of world) 
     IsSomeAnd (present world.hosts host) (λ (h : HostModel). IsSome h.running)
 runs_model world host runs =
     running_model (present world.hosts host)
-    (subst (λ o. IsSomeAnd o (λ (s : HostShape). IsSome s.running)) (present_states world.hosts host) runs)
+    (subst (λ o. IsSomeAnd o (λ (s : HostState). IsSome s.running)) (present_states world.hosts host) runs)
 
 runs_state : (world : WorldModel) (host : HostId) →
     IsSomeAnd (present world.hosts host) (λ (h : HostModel). IsSome h.running) → Runs (world_of world) host
 runs_state world host runs =
-    subst (λ o. IsSomeAnd o (λ (s : HostShape). IsSome s.running)) (sym (present_states world.hosts host))
+    subst (λ o. IsSomeAnd o (λ (s : HostState). IsSome s.running)) (sym (present_states world.hosts host))
     (running_state (present world.hosts host) runs)
 
 given_at : {X : Type 0} (hosts : List (Option X)) (i : ℕ) (d : Option X) (P : X → Type 0) → i < length hosts →

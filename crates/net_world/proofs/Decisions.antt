@@ -12,12 +12,12 @@ use Rattle.event_text.specs.declared.event.Event.TheVariants.{Take, Turn, Act}
 use Rattle.host_code.specs.Code.{CodeShape}
 use Rattle.entry_check.specs.Checks.{MaySee, label_at, label_of_host}
 use Rattle.entry_check.proofs.Decisions.{some_and, may_see}
-use Rattle.host_core.specs.Host.{HostShape}
+use Rattle.host_core.specs.Host.{HostState}
 use Rattle.host_core.specs.Turn.{label_of_turn}
 use Rattle.net_world.specs.Flying.{Flight}
 use Rattle.net_world.specs.World.{WorldShape, state_at, lacks}
 use Rattle.net_world.specs.Fits.{ShapeFits}
-use Rattle.net_world.specs.Secret.{Reads, IsReadBy, IsReadable, IsSecret, FlyOpenly, RunsOpenly, IsQuiet}
+use Rattle.net_world.specs.Secret.{IsMisbehavingReader, IsReadBy, IsReadable, IsSecret, FlyOpenly, RunsOpenly, IsQuiet}
 use Rattle.net_world.proofs.Fitting.{is_bad_host}
 use Rattle.net_world.proofs.Present.{get_lt}
 
@@ -29,8 +29,8 @@ host_of number = record { 0 = number }
 
 -- ---- labels
 
-reads : (code : CodeShape) (hosts : List (Option HostShape)) (label : ℕ) (host : HostId) →
-    Decided (Reads code hosts label host)
+reads : (code : CodeShape) (hosts : List (Option HostState)) (label : ℕ) (host : HostId) →
+    Decided (IsMisbehavingReader code hosts label host)
 reads code hosts label host =
     both _ _ (is_true (lacks hosts host)) (may_see (label_at code label) (label_of_host code host))
 
@@ -52,11 +52,11 @@ some_below (suc n) P each = elim (each n) [
 
 pub readable : (code : CodeShape) (world : WorldShape) (label : ℕ) → Decided (IsReadable code world label)
 readable code world label =
-    as_well ((k : ℕ) × (k < length world.hosts) × Reads code world.hosts label (host_of k))
+    as_well ((k : ℕ) × (k < length world.hosts) × IsMisbehavingReader code world.hosts label (host_of k))
     (IsReadable code world label)
     (λ some. (host_of some.0, some.2))
     (λ some. (some.0.0, is_bad_host world.hosts some.0.0 some.1.0, some.1))
-    (some_below (length world.hosts) (λ k. Reads code world.hosts label (host_of k))
+    (some_below (length world.hosts) (λ k. IsMisbehavingReader code world.hosts label (host_of k))
     (λ k. reads code world.hosts label (host_of k)))
 
 -- ---- events
@@ -66,7 +66,7 @@ secret code world (Take from to place) =
     some_and (λ (flight : Flight). ¬ IsReadable code world flight.label)
     (λ flight. never _ (readable code world flight.label)) (slice_get (world.flying from to) place)
 secret code world (Turn host) =
-    some_and (λ (state : HostShape).
+    some_and (λ (state : HostState).
     IsSomeAnd (label_of_turn code state) (λ label. ¬ IsReadable code world label))
     (λ state. some_and (λ label. ¬ IsReadable code world label) (λ label. never _ (readable code world label))
     (label_of_turn code state))
@@ -75,14 +75,14 @@ secret code world (Act from to made) = inr (λ never. never)
 
 -- ---- worlds
 
-runs_openly : (code : CodeShape) (world : WorldShape) (state : HostShape) → Decided (RunsOpenly code world state)
+runs_openly : (code : CodeShape) (world : WorldShape) (state : HostState) → Decided (RunsOpenly code world state)
 runs_openly code world state = of (label_of_turn code state)
   where
     of : (label : Option ℕ) → Decided (IfSome label (IsReadable code world))
     of None = inl tt
     of (Some label) = readable code world label
 
-if_there : (code : CodeShape) (world : WorldShape) (state : Option HostShape) →
+if_there : (code : CodeShape) (world : WorldShape) (state : Option HostState) →
     Decided (IfSome state (RunsOpenly code world))
 if_there code world None = inl tt
 if_there code world (Some state) = runs_openly code world state
@@ -117,14 +117,14 @@ quiet code world fits =
     told : IsQuiet code world → (k : ℕ) → IfSome (state_at world (host_of k)) (RunsOpenly code world)
     told is k = of (state_at world (host_of k)) refl
       where
-        of : (state : Option HostShape) → state_at world (host_of k) ≡ state → IfSome state (RunsOpenly code world)
+        of : (state : Option HostState) → state_at world (host_of k) ≡ state → IfSome state (RunsOpenly code world)
         of None obeys = tt
         of (Some state) obeys = is.running (host_of k) state obeys
 
-    within : AreOpenBelow code world (length code.hosts) → (host : HostId) (state : HostShape) →
+    within : AreOpenBelow code world (length code.hosts) → (host : HostId) (state : HostState) →
         state_at world host ≡ Some state → RunsOpenly code world state
     within seen host state obeys =
-        let lt = get_lt world.hosts host.0 (λ (it : HostShape). ⊤) (subst (λ (found : Option HostShape).
+        let lt = get_lt world.hosts host.0 (λ (it : HostState). ⊤) (subst (λ (found : Option HostState).
         IsSomeAnd found (λ it. ⊤)) (sym obeys) tt) in
         let same = fits.count in
-        subst (λ (found : Option HostShape). IfSome found (RunsOpenly code world)) obeys (seen.0 host.0 (omega arith))
+        subst (λ (found : Option HostState). IfSome found (RunsOpenly code world)) obeys (seen.0 host.0 (omega arith))

@@ -17,9 +17,9 @@ use Rattle.host_code.specs.declared.message.Message.{Message}
 use Rattle.host_code.specs.declared.message.Message.TheVariants as message
 use Rattle.host_code.specs.declared.instruction.Instr.{Instr}
 use Rattle.host_code.specs.Code.{CodeShape, instruction_at}
-use Rattle.host_code.specs.Sound.{IsHost, IsOther, IsLabel, IsSoundCode}
+use Rattle.host_code.specs.Sound.{IsHost, IsOther, IsLabelNumber, IsSoundCode}
 use Rattle.host_code.specs.Messages.{MessageFits}
-use Rattle.host_core.specs.Host.{HostShape, HostModel, Outcome, Letter}
+use Rattle.host_core.specs.Host.{HostState, HostModel, Outcome, Letter}
 use Rattle.host_core.specs.Fits.{SentFits, TokensFit, TokenFits}
 use Rattle.net_world.specs.Flying.{Flight, Flying, with_flights}
 use Rattle.net_world.specs.Told.{SentMessage, token_in, tokens_in, token_presented, message_made}
@@ -64,7 +64,7 @@ fits_with P flying from to flights old new i j =
 
 -- ---- the parts of a step
 
-pub mail_stepped : (code : CodeShape) (kind : HostShape → Outcome → Type 0) (before old new : WorldShape)
+pub mail_stepped : (code : CodeShape) (kind : HostState → Outcome → Type 0) (before old new : WorldShape)
     (host : HostId) (sent : Option (HostId × Message)) → old ≡ before → HasStepped kind old host sent new →
     MailFits code before →
     MailFits code new
@@ -90,7 +90,7 @@ mail_telling code world from (Some sent) fits is_host sent_fits = record {
 }
 
 mail_posting : (code : CodeShape) (world : WorldShape) (from : HostId) (letter : Letter) → MailFits code world →
-    IsHost code from → IsOther code from letter.to → MessageFits code letter.message → IsLabel code letter.label →
+    IsHost code from → IsOther code from letter.to → MessageFits code letter.message → IsLabelNumber code letter.label →
     MailFits code (after_posting world from letter)
 mail_posting code world from letter fits is_host other message label = record {
   flying = fits_with (FlightFits code) world.flying from letter.to
@@ -108,7 +108,7 @@ mail_either code false told posted told_fits posted_fits = posted_fits
 
 pub mail_sending : (code : CodeShape) (world : WorldShape) (from : HostId) (label : Option ℕ)
     (sent : Option (HostId × Message)) → MailFits code world → IsHost code from → SentFits code from sent →
-    IfSome label (IsLabel code) → MailFits code (after_sending world from (letter_of label sent))
+    IfSome label (IsLabelNumber code) → MailFits code (after_sending world from (letter_of label sent))
 mail_sending code world from None sent fits is_host sent_fits label_fits = fits
 mail_sending code world from (Some label) None fits is_host sent_fits label_fits = fits
 mail_sending code world from (Some label) (Some sent) fits is_host sent_fits label_fits =
@@ -129,7 +129,7 @@ readable_kept code before after readable same tells = record {
 }
 
 -- a step of a host that obeys leaves the same hosts misbehaving
-bad_stepped : (kind : HostShape → Outcome → Type 0) (before old new : WorldShape) (host : HostId)
+bad_stepped : (kind : HostState → Outcome → Type 0) (before old new : WorldShape) (host : HostId)
     (sent : Option (HostId × Message)) → old ≡ before → HasStepped kind old host sent new → (other : HostId) →
     misbehaves new other ≡ misbehaves before other
 bad_stepped kind before old new host sent same stepped other =
@@ -138,7 +138,7 @@ bad_stepped kind before old new host sent same stepped other =
     ∙ ap (λ (w : WorldShape). misbehaves w other) same
 
 -- a world after a step
-pub world_fits : (code : CodeShape) (kind : HostShape → Outcome → Type 0) (before reserved moved after : WorldModel)
+pub world_fits : (code : CodeShape) (kind : HostState → Outcome → Type 0) (before reserved moved after : WorldModel)
     (host : HostId) (sent : Option (HostId × Message)) → WorldFits code before → world_of reserved ≡ world_of before →
     HasStepped kind (world_of reserved) host sent (world_of moved) → HostsFit code moved.hosts →
     length moved.hosts ≡ length before.hosts → after.root ≡ before.root → after.hosts ≡ moved.hosts →
@@ -197,7 +197,7 @@ absent_present (Some None) x absent there = absurd (cc)
 absent_present (Some (Some y)) x absent there = absurd (cc)
 
 -- and is none that obeys
-pub bad_differs : (world : WorldShape) (from to : HostId) (state : HostShape) → IsTrue (misbehaves world from) →
+pub bad_differs : (world : WorldShape) (from to : HostId) (state : HostState) → IsTrue (misbehaves world from) →
     given (slice_get world.hosts to.0) ≡ Some state → from ≢ to
 bad_differs world from to state bad obeys same =
     absent_present (slice_get world.hosts from.0) state bad
@@ -290,12 +290,12 @@ made_tokens_fit code world made m count fits own is =
 -- ---- labels
 
 instruction_label : (code : CodeShape) (me : HostId) (at : ℕ) (o : Option Instr) → IsSoundCode code → IsHost code me →
-    instruction_at code me at ≡ o → IfSome o (λ instruction. IsLabel code instruction.label)
+    instruction_at code me at ≡ o → IfSome o (λ instruction. IsLabelNumber code instruction.label)
 instruction_label code me at None sound is_host there = tt
 instruction_label code me at (Some instruction) sound is_host there =
     ((sound.parts me is_host).instructions at instruction there).label
 
 pub label_fits : (code : CodeShape) (me : HostId) (at : ℕ) (instruction : Instr) → IsSoundCode code → IsHost code me →
-    instruction_at code me at ≡ Some instruction → IsLabel code instruction.label
+    instruction_at code me at ≡ Some instruction → IsLabelNumber code instruction.label
 label_fits code me at instruction sound is_host there =
     instruction_label code me at (Some instruction) sound is_host there

@@ -6,7 +6,7 @@ use Rattle.std.proofs.lemmas.Bool.Decides.{eqb_tells}
 use Rattle.js_base.specs.declared.ids.HostId.{HostId}
 use Rattle.js_base.proofs.Options.{some_same}
 use Rattle.host_code.specs.declared.message.Message.{Message}
-use Rattle.host_core.specs.Host.{HostShape, Outcome, Letter, without_message, with_message}
+use Rattle.host_core.specs.Host.{HostState, Outcome, Letter, without_message, with_message}
 use Rattle.net_world.specs.Flying.{Flying, with_flights}
 use Rattle.net_world.specs.World.{WorldShape, given, present, state_at, lacks, misbehaves, with_state}
 use Rattle.net_world.specs.World.{after_sending, after_posting, after_telling, letter_of, after_step}
@@ -15,7 +15,7 @@ use Rattle.net_world.proofs.StepLaws.{absent_set}
 
 -- ---- hosts
 
-pub record Moved (world : WorldShape) (host : HostId) (state : HostShape) (flights : Flying) (after : WorldShape) :
+pub record Moved (world : WorldShape) (host : HostId) (state : HostState) (flights : Flying) (after : WorldShape) :
     Type 0 where
   pub hosts : after.hosts ≡ slice_set world.hosts host.0 (Some state)
   pub flying : after.flying ≡ flights
@@ -24,29 +24,29 @@ there_of : {X : Type 0} (o : Option (Option X)) (x : X) → given o ≡ Some x �
 there_of None x is = absurd (cc)
 there_of (Some there) x is = ap Some is
 
-pub mover_state : (world after : WorldShape) (host : HostId) (old state : HostShape) (flying : Flying) →
+pub mover_state : (world after : WorldShape) (host : HostId) (old state : HostState) (flying : Flying) →
     state_at world host ≡ Some old → Moved world host state flying after → state_at after host ≡ Some state
 mover_state world after host old state flying obeys moved =
     ap (λ hosts. present hosts host) moved.hosts
     ∙ ap given (at_set world.hosts host.0 (Some state) (Some old) (there_of (slice_get world.hosts host.0) old obeys))
 
-pub other_state : (world after : WorldShape) (host other : HostId) (state : HostShape) (flying : Flying) →
+pub other_state : (world after : WorldShape) (host other : HostId) (state : HostState) (flying : Flying) →
     Moved world host state flying after → other.0 ≢ host.0 → state_at after other ≡ state_at world other
 other_state world after host other state flying moved apart =
     ap (λ hosts. present hosts other) moved.hosts
     ∙ ap given (get_other world.hosts host.0 other.0 (Some state) apart)
 
 -- whoever holds a state of some host after a step is that host or another
-pub record Mover (host other : HostId) (state there : HostShape) : Type 0 where
+pub record Mover (host other : HostId) (state there : HostState) : Type 0 where
   pub same : other ≡ host
   pub is : there ≡ state
 
-pub record Other (world : WorldShape) (host other : HostId) (there : HostShape) : Type 0 where
+pub record Other (world : WorldShape) (host other : HostId) (there : HostState) : Type 0 where
   pub apart : other.0 ≢ host.0
   pub obeys : state_at world other ≡ Some there
 
-pub either : (world after : WorldShape) (host : HostId) (old state : HostShape) (flying : Flying) →
-    state_at world host ≡ Some old → Moved world host state flying after → (other : HostId) (there : HostShape) →
+pub either : (world after : WorldShape) (host : HostId) (old state : HostState) (flying : Flying) →
+    state_at world host ≡ Some old → Moved world host state flying after → (other : HostId) (there : HostState) →
     state_at after other ≡ Some there → Mover host other state there ⊎ Other world host other there
 either world after host old state flying obeys moved other there is = elim (eqb_tells other.0 host.0) [
   | inl same ↦
@@ -63,7 +63,7 @@ either world after host old state flying obeys moved other there is = elim (eqb_
 ]
 
 -- the same hosts misbehave
-pub bad_moved : (world after : WorldShape) (host : HostId) (old state : HostShape) (flying : Flying) →
+pub bad_moved : (world after : WorldShape) (host : HostId) (old state : HostState) (flying : Flying) →
     state_at world host ≡ Some old → Moved world host state flying after → (other : HostId) →
     misbehaves after other ≡ misbehaves world other
 bad_moved world after host old state flying obeys moved other =
@@ -75,7 +75,7 @@ none_sent : (label : Option ℕ) → letter_of label None ≡ None
 none_sent None = refl
 none_sent (Some label) = refl
 
-silent_is : (world : WorldShape) (host : HostId) (outcome : Outcome) (state : HostShape) (label : Option ℕ)
+silent_is : (world : WorldShape) (host : HostId) (outcome : Outcome) (state : HostState) (label : Option ℕ)
     (after : WorldShape) → without_message state ≡ outcome → after_step world host outcome label ≡ after →
     with_state world host state ≡ after
 silent_is world host outcome state label after is leaves =
@@ -83,7 +83,7 @@ silent_is world host outcome state label after is leaves =
     ∙ ap (λ (o : Outcome). after_step world host o label) is ∙ leaves
 
 -- a step that sends nothing
-pub moved_silent : (world : WorldShape) (host : HostId) (outcome : Outcome) (state : HostShape) (label : Option ℕ)
+pub moved_silent : (world : WorldShape) (host : HostId) (outcome : Outcome) (state : HostState) (label : Option ℕ)
     (after : WorldShape) → without_message state ≡ outcome → after_step world host outcome label ≡ after →
     Moved world host state world.flying after
 moved_silent world host outcome state label after is leaves =
@@ -93,13 +93,13 @@ moved_silent world host outcome state label after is leaves =
       flying = ap (λ (w : WorldShape). w.flying) (sym done);
     }
 
-pub silent_sent : (world : WorldShape) (host : HostId) (outcome : Outcome) (state : HostShape) (label : Option ℕ)
+pub silent_sent : (world : WorldShape) (host : HostId) (outcome : Outcome) (state : HostState) (label : Option ℕ)
     (after : WorldShape) → without_message state ≡ outcome → after_step world host outcome label ≡ after →
     after.sent ≡ world.sent
 silent_sent world host outcome state label after is leaves =
     ap (λ (w : WorldShape). w.sent) (sym (silent_is world host outcome state label after is leaves))
 
-pub sends_to : (world : WorldShape) (host : HostId) (outcome : Outcome) (state : HostShape) (to : HostId)
+pub sends_to : (world : WorldShape) (host : HostId) (outcome : Outcome) (state : HostState) (to : HostId)
     (message : Message) (labelled : Option ℕ) (label : ℕ) (bad : Bool) (after : WorldShape) →
     misbehaves (with_state world host state) to ≡ bad → labelled ≡ Some label →
     with_message state to message ≡ outcome → after_step world host outcome labelled ≡ after →
@@ -114,17 +114,17 @@ sends_to world host outcome state to message labelled label bad after bad_is lab
     ∙ sym (ap (λ l. after_step world host (with_message state to message) l) labels)
     ∙ ap (λ (o : Outcome). after_step world host o labelled) is ∙ leaves
 
-bad_with : (world : WorldShape) (host : HostId) (old state : HostShape) (to : HostId) (bad : Bool) →
+bad_with : (world : WorldShape) (host : HostId) (old state : HostState) (to : HostId) (bad : Bool) →
     state_at world host ≡ Some old → misbehaves world to ≡ bad → misbehaves (with_state world host state) to ≡ bad
 bad_with world host old state to bad obeys is = absent_set world.hosts host.0 to.0 old state obeys ∙ is
 
 -- a step that tells a misbehaving host
-pub record Told (world : WorldShape) (host : HostId) (state : HostShape) (to : HostId) (message : Message)
+pub record Told (world : WorldShape) (host : HostId) (state : HostState) (to : HostId) (message : Message)
     (after : WorldShape) : Type 0 where
   pub moved : Moved world host state world.flying after
   pub sent : after.sent ≡ world.sent ++ (host, to, message) ∷ []
 
-pub moved_told : (world : WorldShape) (host : HostId) (outcome : Outcome) (old state : HostShape) (to : HostId)
+pub moved_told : (world : WorldShape) (host : HostId) (outcome : Outcome) (old state : HostState) (to : HostId)
     (message : Message) (labelled : Option ℕ) (label : ℕ) (after : WorldShape) → state_at world host ≡ Some old →
     misbehaves world to ≡ true → labelled ≡ Some label → with_message state to message ≡ outcome →
     after_step world host outcome labelled ≡ after → Told world host state to message after
@@ -141,14 +141,14 @@ moved_told world host outcome old state to message labelled label after obeys ba
     }
 
 -- a step that puts a message in flight to a host that obeys
-pub record Posted (world : WorldShape) (host : HostId) (state : HostShape) (to : HostId) (message : Message)
+pub record Posted (world : WorldShape) (host : HostId) (state : HostState) (to : HostId) (message : Message)
     (label : ℕ) (after : WorldShape) : Type 0 where
   pub moved : Moved world host state
       (with_flights world.flying host to (world.flying host to ++ record { message = message; label = label } ∷ []))
       after
   pub sent : after.sent ≡ world.sent
 
-pub moved_posted : (world : WorldShape) (host : HostId) (outcome : Outcome) (old state : HostShape) (to : HostId)
+pub moved_posted : (world : WorldShape) (host : HostId) (outcome : Outcome) (old state : HostState) (to : HostId)
     (message : Message) (labelled : Option ℕ) (label : ℕ) (after : WorldShape) → state_at world host ≡ Some old →
     misbehaves world to ≡ false → labelled ≡ Some label → with_message state to message ≡ outcome →
     after_step world host outcome labelled ≡ after → Posted world host state to message label after

@@ -11,7 +11,7 @@ use Rattle.event_text.specs.declared.event.Event.TheVariants.{Take, Turn, Act}
 use Rattle.host_code.specs.Code.{CodeShape}
 use Rattle.host_code.specs.Thread.{ThreadShape}
 use Rattle.host_core.specs.declared.host.TheConstants.{MOST_CALLS}
-use Rattle.host_core.specs.Host.{HostShape, HostModel, IsStopped}
+use Rattle.host_core.specs.Host.{HostState, HostModel, IsStopped}
 use Rattle.net_world.specs.Flying.{Flight}
 use Rattle.net_world.specs.declared.world.EventError.{EventError}
 use Rattle.net_world.specs.declared.world.EventError.TheVariants as answer
@@ -21,8 +21,8 @@ use Rattle.net_world.specs.Fits.{WorldModel, WorldFits, FlightFits, MailFits, Ha
 use Rattle.net_world.specs.Steps.{HasMade, HaveMade, IsStuck}
 use Rattle.net_world.specs.Choice.{IsNextEvent}
 
-there_among : (hosts : List (Option HostShape)) (place : ℕ) → place < length hosts →
-    is_absent (slice_get hosts place) ≡ false → (host : HostShape) × (given (slice_get hosts place) ≡ Some host)
+there_among : (hosts : List (Option HostState)) (place : ℕ) → place < length hosts →
+    is_absent (slice_get hosts place) ≡ false → (host : HostState) × (given (slice_get hosts place) ≡ Some host)
 there_among [] place within obeys = absurd (omega arith)
 there_among (None ∷ hosts) zero within obeys = let none : ⊥ = cc in absurd none
 there_among (Some host ∷ hosts) zero within obeys = (host, refl)
@@ -35,7 +35,7 @@ runs_through : (running : Option ThreadShape) → IsSome running →
 runs_through None some = let none : ⊥ = cc in absurd none
 runs_through (Some thread) some = refl
 
-turn_goes : (host : Option HostShape) → IsSomeAnd host (λ state. IsSome state.running) → refusal_of_turn host ≡ None
+turn_goes : (host : Option HostState) → IsSomeAnd host (λ state. IsSome state.running) → refusal_of_turn host ≡ None
 turn_goes None runs = absurd runs
 turn_goes (Some state) runs = runs_through state.running runs
 
@@ -44,7 +44,7 @@ rests_through : (running : Option ThreadShape) → ¬ IsSome running →
 rests_through None rests = refl
 rests_through (Some thread) rests = absurd (rests refl)
 
-take_goes : (found : Option Flight) (flight : Flight) (host : Option HostShape) (state : HostShape) →
+take_goes : (found : Option Flight) (flight : Flight) (host : Option HostState) (state : HostState) →
     found ≡ Some flight → host ≡ Some state → ¬ IsSomeAnd host (λ one. IsSome one.running) →
     refusal_of_take found host ≡ None
 take_goes None flight host state there obeys rests = let none : ⊥ = cc in absurd none

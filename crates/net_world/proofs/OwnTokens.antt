@@ -12,7 +12,7 @@ use Rattle.event_text.specs.declared.event.BadToken.{BadToken}
 use Rattle.event_text.specs.declared.event.BadToken.TheVariants.{Sent, Own}
 use Rattle.event_text.specs.OwnTokens.{IsOwnToken, IsOwnMessage, IsOwnEvent}
 use Rattle.host_code.specs.Code.{CodeShape}
-use Rattle.host_core.specs.Host.{HostShape}
+use Rattle.host_core.specs.Host.{HostState}
 use Rattle.host_decl.specs.Hosts as declared_hosts
 use Rattle.net_world.specs.Fits.{OwnToken, OwnTokenIn, HasOwnToken}
 use Rattle.net_world.specs.World.{AreHostsOf, named_host, is_absent, host_before, hosts_before, world_at_start}

@@ -10,10 +10,10 @@ use Rattle.js_base.specs.declared.ids.HostId.{HostId}
 use Rattle.host_decl.specs.Hosts as declared_hosts
 use Rattle.host_code.specs.Code.{CodeShape}
 use Rattle.host_core.specs.Calls.{CountsCall}
-use Rattle.host_core.specs.Host.{HostModel, HostShape, state_of}
+use Rattle.host_core.specs.Host.{HostModel, HostState, state_of}
 use Rattle.net_world.specs.World.{given, present, host_before, hosts_before}
 use Rattle.net_world.specs.Fits.{states_of}
-use Rattle.net_world.specs.Steps.{HaveMade, HasMade, HasCounted, ChangesOnly}
+use Rattle.net_world.specs.Steps.{HaveMade, HasMade, HasCountedCall, ChangesOnlyHost}
 
 -- ---- hosts and what there is of them
 
@@ -99,7 +99,7 @@ get_other (x ∷ xs) (suc i) zero y other = refl
 get_other (x ∷ xs) (suc i) (suc j) y other = get_other xs i j y (λ same. other (ap suc same))
 
 pub changes_only : (hosts : List (Option HostModel)) (host : HostId) (x : Option HostModel) →
-    ChangesOnly host hosts (slice_set hosts host.0 x)
+    ChangesOnlyHost host hosts (slice_set hosts host.0 x)
 changes_only hosts host x = record {
   count = length-set hosts host.0 x;
   others = λ other ne. get_other hosts host.0 other.0 x ne;
@@ -153,7 +153,7 @@ at_set (first ∷ xs) (suc i) x y there = at_set xs i x y there
 
 pub counted_set : (hosts : List (Option HostModel)) (host : HostId) (before after : HostModel) →
     slice_get hosts host.0 ≡ Some (Some before) → CountsCall before after →
-    HasCounted host hosts (slice_set hosts host.0 (Some after))
+    HasCountedCall host hosts (slice_set hosts host.0 (Some after))
 counted_set hosts host before after there counted = record {
   before = before;
   after = after;
@@ -164,8 +164,8 @@ counted_set hosts host before after there counted = record {
 }
 
 -- where one host has answered one more call, and no other has changed, each has made at most one more step
-pub made_counted : (number : HostId) (old new : List (Option HostModel)) → HasCounted number old new →
-    ChangesOnly number old new → (n : ℕ) → HaveMade n old → HaveMade (n + 1) new
+pub made_counted : (number : HostId) (old new : List (Option HostModel)) → HasCountedCall number old new →
+    ChangesOnlyHost number old new → (n : ℕ) → HaveMade n old → HaveMade (n + 1) new
 made_counted number old new counted changes n made host = elim (eqb_tells host.0 number.0) [
   | inl same ↦
       let was = subst (λ o. IfSome o (HasMade n)) counted.was (made number) in
@@ -187,7 +187,7 @@ pub states_same : (hosts : List (Option HostModel)) (i : ℕ) (before after : Ho
 states_same [] i before after there same = refl
 states_same (host ∷ hosts) zero before after there same =
     let is : host ≡ Some before = cc in
-    ap (λ (state : HostShape). Some state ∷ states_of hosts) same
+    ap (λ (state : HostState). Some state ∷ states_of hosts) same
     ∙ ap (λ (o : Option HostModel). option_map state_of o ∷ states_of hosts) (sym is)
 states_same (host ∷ hosts) (suc i) before after there same =
     ap (λ rest. option_map state_of host ∷ rest) (states_same hosts i before after there same)
@@ -200,6 +200,6 @@ pub states_more : (code : CodeShape) (store : List (List ℤ)) (bad : ℕ) (rows
     states_of (hosts ++ host ∷ []) ≡ hosts_before code store bad 0 (take (i + 1) rows)
 states_more code store bad rows hosts host i d lt states state =
     states_push hosts host
-    ∙ ap (λ (all : List (Option HostShape)). all ++ option_map state_of host ∷ []) states
-    ∙ ap (λ (last : Option HostShape). hosts_before code store bad 0 (take i rows) ++ last ∷ []) state
+    ∙ ap (λ (all : List (Option HostState)). all ++ option_map state_of host ∷ []) states
+    ∙ ap (λ (last : Option HostState). hosts_before code store bad 0 (take i rows) ++ last ∷ []) state
     ∙ sym (hosts_before_more code store bad rows i d lt)

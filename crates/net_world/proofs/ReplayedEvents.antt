@@ -6,10 +6,10 @@ use Rattle.event_text.specs.declared.event.Event.{Event}
 use Rattle.host_code.specs.Code.{CodeShape}
 use Rattle.net_world.specs.declared.world.EventError.{EventError}
 use Rattle.net_world.specs.declared.world.EventError.TheVariants as answer
-use Rattle.net_world.specs.World.{WorldShape, IsStep, IsRun, Refusal, not_bad, not_there, host_busy, no_such_token}
+use Rattle.net_world.specs.World.{WorldShape, IsStep, IsRun, EventRefusal, not_bad, not_there, host_busy, no_such_token}
 use Rattle.net_world.specs.World.{refusal_of}
 use Rattle.net_world.specs.declared.replaying.ReplayError.{ReplayError}
-use Rattle.net_world.specs.Replay.{events_in, IsRefusedAt, IsErrorOf, IsReplayError}
+use Rattle.net_world.specs.Replay.{events_in, IsRefusedAt, IsReplayErrorOf, IsReplayError}
 
 -- ---- one event more
 
@@ -31,7 +31,7 @@ run_more code first middle after said i d within ran step =
     (ran_more code first middle after (events_in (take i said)) (get_or said i d).1 ran step)
 
 refused_at : (code : CodeShape) (first middle : WorldShape) (said : List (ℕ × Event)) (i : ℕ) (d : ℕ × Event)
-    (why : Refusal) → i < length said → IsRun code first (events_in (take i said)) middle →
+    (why : EventRefusal) → i < length said → IsRun code first (events_in (take i said)) middle →
     refusal_of middle (get_or said i d).1 ≡ Some why → IsRefusedAt code first said (get_or said i d) why
 refused_at code first middle [] i d why within ran refused = absurd (omega arith)
 refused_at code first middle (one ∷ said) zero d why within ran refused =
@@ -44,7 +44,7 @@ pub stops : (code : CodeShape) (first middle : WorldShape) (said : List (ℕ × 
     (error : EventError) (result : ReplayError) → i < length said →
     IsRun code first (events_in (take i said)) middle →
     let event = (get_or said i d).1 in
-    IsErrorOf (get_or said i d).0 event error result →
+    IsReplayErrorOf (get_or said i d).0 event error result →
     (error ≡ answer.NotBad → refusal_of middle event ≡ Some not_bad) →
     (error ≡ answer.NotThere → refusal_of middle event ≡ Some not_there) →
     (error ≡ answer.HostBusy → refusal_of middle event ≡ Some host_busy) →

@@ -10,11 +10,12 @@ use Rattle.js_base.specs.declared.ids.HostId.{HostId}
 use Rattle.label_lattice.specs.declared.label.Label.{Label}
 use Rattle.host_code.specs.Code.{CodeShape}
 use Rattle.entry_check.specs.Checks.{MaySee, label_of_host}
-use Rattle.host_core.specs.Host.{HostShape, HostModel}
+use Rattle.host_core.specs.Host.{HostState, HostModel}
 use Rattle.net_world.specs.Flying.{Flight, flights_of, flights_at, flying_of, pair_place, may_be_seen, hidden_in}
 use Rattle.net_world.specs.World.{WorldShape, given, state_at}
 use Rattle.net_world.specs.Fits.{WorldModel, WorldFits, world_of, states_of}
-use Rattle.net_world.specs.Secret.{Reads, IsReadBy, IsReadable, FlyOpenly, RunsOpenly, AllRunOpenly, IsQuiet}
+use Rattle.net_world.specs.Secret.{IsMisbehavingReader, IsReadBy, IsReadable, FlyOpenly, RunsOpenly, AllRunOpenly}
+use Rattle.net_world.specs.Secret.{IsQuiet}
 use Rattle.net_world.proofs.Choosing.{below_more}
 use Rattle.net_world.proofs.Fitting.{is_bad_host}
 use Rattle.net_world.proofs.Counted.{each_seen, none_hidden}
@@ -38,14 +39,15 @@ denied false exact other = (λ is. other.0 (λ holds. false≢true (exact.1 hold
 
 -- ---- labels
 
-pub none_reads_more : (code : CodeShape) (hosts : List (Option HostShape)) (label n : ℕ) →
-    ((earlier : HostId) → earlier.0 < n → ¬ Reads code hosts label earlier) →
-    ¬ Reads code hosts label (record { 0 = n }) → (earlier : HostId) → earlier.0 < n + 1 →
-    ¬ Reads code hosts label earlier
-none_reads_more code hosts label n before last = below_more (λ host. ¬ Reads code hosts label host) n before last
+pub none_reads_more : (code : CodeShape) (hosts : List (Option HostState)) (label n : ℕ) →
+    ((earlier : HostId) → earlier.0 < n → ¬ IsMisbehavingReader code hosts label earlier) →
+    ¬ IsMisbehavingReader code hosts label (record { 0 = n }) → (earlier : HostId) → earlier.0 < n + 1 →
+    ¬ IsMisbehavingReader code hosts label earlier
+none_reads_more code hosts label n before last = below_more (λ host. ¬ IsMisbehavingReader code hosts label host) n
+    before last
 
 pub none_reads : (code : CodeShape) (hosts : List (Option HostModel)) (label n : ℕ) → length hosts ≤ n →
-    ((earlier : HostId) → earlier.0 < n → ¬ Reads code (states_of hosts) label earlier) →
+    ((earlier : HostId) → earlier.0 < n → ¬ IsMisbehavingReader code (states_of hosts) label earlier) →
     ¬ IsReadBy code (states_of hosts) label
 none_reads code hosts label n all before read =
     let within : read.0.0 < length (states_of hosts) = is_bad_host (states_of hosts) read.0.0 read.1.0 in
@@ -73,10 +75,10 @@ no_label (first ∷ labels) zero all = absurd (omega arith)
 no_label (first ∷ labels) (suc k) all = no_label labels k (omega arith)
 
 -- the list so far tells for each label
-abbrev pub Tells : CodeShape → List (Option HostShape) → List Bool → ℕ → Type 0
+abbrev pub Tells : CodeShape → List (Option HostState) → List Bool → ℕ → Type 0
 Tells code hosts readable label = IsTrue (may_be_seen readable label) ↔ IsReadBy code hosts label
 
-pub tells_more : (code : CodeShape) (hosts : List (Option HostShape)) (readable : List Bool) (last : Bool) (n : ℕ) →
+pub tells_more : (code : CodeShape) (hosts : List (Option HostState)) (readable : List Bool) (last : Bool) (n : ℕ) →
     length readable ≡ n → ((k : ℕ) → k < n → Tells code hosts readable k) →
     (IsTrue last ↔ IsReadBy code hosts n) → (k : ℕ) → k < n + 1 → Tells code hosts (readable ++ last ∷ []) k
 tells_more code hosts readable last n long before is k lt =
@@ -92,7 +94,7 @@ tells_more code hosts readable last n long before is k lt =
           (subst (λ (i : ℕ). IsTrue last ↔ IsReadBy code hosts i) (sym long) is))))
     ]
 
-pub tells_all : (code : CodeShape) (hosts : List (Option HostShape)) (readable : List Bool) (n : ℕ) →
+pub tells_all : (code : CodeShape) (hosts : List (Option HostState)) (readable : List Bool) (n : ℕ) →
     length readable ≡ n → length code.labels ≤ n → ((k : ℕ) → k < n → Tells code hosts readable k) → (label : ℕ) →
     Tells code hosts readable label
 tells_all code hosts readable n long all before label =

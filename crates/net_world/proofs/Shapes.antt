@@ -17,9 +17,9 @@ use Rattle.host_code.specs.declared.message.Message.{Message}
 use Rattle.event_text.specs.declared.event.Event.TheVariants.{Take, Turn, Act}
 use Rattle.host_code.specs.declared.instruction.Instr.{Instr}
 use Rattle.host_code.specs.Code.{CodeShape, instruction_at, entry_at, halt}
-use Rattle.host_code.specs.Sound.{IsHost, IsOther, IsLabel, IsSoundCode}
+use Rattle.host_code.specs.Sound.{IsHost, IsOther, IsLabelNumber, IsSoundCode}
 use Rattle.host_code.specs.Thread.{ThreadShape}
-use Rattle.host_core.specs.Host.{HostShape, HostModel, Outcome, after_push, new_token, state_of}
+use Rattle.host_core.specs.Host.{HostState, HostModel, Outcome, after_push, new_token, state_of}
 use Rattle.host_core.specs.Fits.{SentFits, TokensFit}
 use Rattle.host_core.specs.Start.{host_at_start, idle_host, root_host, main_frame, last_token}
 use Rattle.host_core.specs.Taking.{IsTaking}
@@ -54,7 +54,7 @@ pub shape_of_world : (code : CodeShape) (world : WorldModel) → WorldFits code 
 shape_of_world code world fits = record {
   count = length_states world.hosts ∙ fits.count;
   states = λ number.
-      subst (λ (o : Option HostShape). IfSome o (IsStateOf code number)) (sym (present_states world.hosts number))
+      subst (λ (o : Option HostState). IfSome o (IsStateOf code number)) (sym (present_states world.hosts number))
       (state_of_present code number (present world.hosts number) (fits.hosts number));
   mail = fits.mail;
 }
@@ -68,7 +68,7 @@ start_fits : (code : CodeShape) (store : List (List ℤ)) (key : List ℕ) (me :
 start_fits code store key me true sound is_host at =
     let number : me.0 ≡ code.root.0 = grind (arith, nat_tests) in
     let make : ℕ → HostId = λ n. record { 0 = n } in
-    let idle : HostShape = idle_host code store key me in
+    let idle : HostState = idle_host code store key me in
     record {
       me = me_entering (after_push idle halt main_frame (last_token me)) (entry_at code code.main) main_frame
           (new_token idle halt main_frame);
@@ -121,40 +121,40 @@ shape_at_start code rows bad store sound same =
 -- ---- a step
 
 label_of_found : (code : CodeShape) (me : HostId) (at : ℕ) (o : Option Instr) → IsSoundCode code → IsHost code me →
-    instruction_at code me at ≡ o → IfSome (option_and_then (λ (i : Instr). Some i.label) o) (IsLabel code)
+    instruction_at code me at ≡ o → IfSome (option_and_then (λ (i : Instr). Some i.label) o) (IsLabelNumber code)
 label_of_found code me at None sound is_host there = tt
 label_of_found code me at (Some instruction) sound is_host there =
     label_fits code me at instruction sound is_host there
 
 label_of_running : (code : CodeShape) (me : HostId) (running : Option ThreadShape) → IsSoundCode code →
-    IsHost code me → IfSome (label_of_thread code me running) (IsLabel code)
+    IsHost code me → IfSome (label_of_thread code me running) (IsLabelNumber code)
 label_of_running code me None sound is_host = tt
 label_of_running code me (Some thread) sound is_host =
     label_of_found code me thread.at (instruction_at code me thread.at) sound is_host refl
 
-shape_after : (code : CodeShape) (world after : WorldShape) (host : HostId) (state : HostShape) →
+shape_after : (code : CodeShape) (world after : WorldShape) (host : HostId) (state : HostState) →
     ShapeFits code world → after.hosts ≡ slice_set world.hosts host.0 (Some state) → IsStateOf code host state →
     MailFits code after → ShapeFits code after
 shape_after code world after host state fits puts is_state mail = record {
   count = ap length puts ∙ length-set world.hosts host.0 (Some state) ∙ fits.count;
   states =
-      subst (λ (hosts : List (Option HostShape)). (number : HostId) →
+      subst (λ (hosts : List (Option HostState)). (number : HostId) →
       IfSome (present hosts number) (IsStateOf code number))
       (sym puts) (present_set (IsStateOf code) world.hosts host state fits.states is_state);
   mail = mail;
 }
 
-the_state : (code : CodeShape) (world : WorldShape) (host : HostId) (state : HostShape) → ShapeFits code world →
+the_state : (code : CodeShape) (world : WorldShape) (host : HostId) (state : HostState) → ShapeFits code world →
     state_at world host ≡ Some state → IsStateOf code host state
 the_state code world host state fits obeys =
-    subst (λ (o : Option HostShape). IfSome o (IsStateOf code host)) obeys (fits.states host)
+    subst (λ (o : Option HostState). IfSome o (IsStateOf code host)) obeys (fits.states host)
 
 -- what taking a message leaves of its host, and sends
 record IsKept (code : CodeShape) (host : HostId) (outcome : Outcome) : Type 0 where
   state : IsStateOf code host outcome.state
   sent : SentFits code host outcome.sent
 
-kept_by_taking : (code : CodeShape) (state : HostShape) (host from : HostId) (m : Message) (outcome : Outcome) →
+kept_by_taking : (code : CodeShape) (state : HostState) (host from : HostId) (m : Message) (outcome : Outcome) →
     IsSoundCode code → IsStateOf code host state → IsOther code host from → TokensFit code m →
     IsTaking code state from m outcome → IsKept code host outcome
 kept_by_taking code state host from m outcome sound is_state other tokens takes =
@@ -166,7 +166,7 @@ kept_by_taking code state host from m outcome sound is_state other tokens takes 
       sent = subst (λ (h : HostId). SentFits code h outcome.sent) is_state.me kept.1;
     }
 
-kept_by_turn : (code : CodeShape) (state : HostShape) (host : HostId) (outcome : Outcome) → IsSoundCode code →
+kept_by_turn : (code : CodeShape) (state : HostState) (host : HostId) (outcome : Outcome) → IsSoundCode code →
     IsStateOf code host state → IsTurn code state outcome → IsKept code host outcome
 kept_by_turn code state host outcome sound is_state turns =
     let kept = turn_kept code state outcome sound is_state.fits turns in
@@ -175,10 +175,10 @@ kept_by_turn code state host outcome sound is_state turns =
       sent = subst (λ (h : HostId). SentFits code h outcome.sent) is_state.me kept.1;
     }
 
-is_host_of : (code : CodeShape) (host : HostId) (state : HostShape) → IsStateOf code host state → IsHost code host
+is_host_of : (code : CodeShape) (host : HostId) (state : HostState) → IsStateOf code host state → IsHost code host
 is_host_of code host state is_state = subst (IsHost code) is_state.me is_state.fits.me
 
-kept_mail : (code : CodeShape) (world : WorldShape) (host : HostId) (state : HostShape) → MailFits code world →
+kept_mail : (code : CodeShape) (world : WorldShape) (host : HostId) (state : HostState) → MailFits code world →
     MailFits code (with_state world host state)
 kept_mail code world host state mail = record { flying = mail.flying; sent = mail.sent }
 

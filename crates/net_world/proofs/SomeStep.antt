@@ -8,21 +8,21 @@ use Rattle.event_text.specs.declared.event.Event.TheVariants.{Take, Turn, Act}
 use Rattle.event_text.specs.declared.event.BadMessage.{BadMessage}
 use Rattle.host_code.specs.declared.message.Message.{Message}
 use Rattle.host_code.specs.Code.{CodeShape}
-use Rattle.host_core.specs.Host.{HostShape}
+use Rattle.host_core.specs.Host.{HostState}
 use Rattle.host_core.proofs.SomeOutcome.{some_taking, some_turn}
 use Rattle.net_world.specs.Flying.{Flight}
 use Rattle.net_world.specs.Told.{message_made}
-use Rattle.net_world.specs.World.{WorldShape, IsStep, Refusal, refusal_of, refusal_of_take, refusal_of_turn}
+use Rattle.net_world.specs.World.{WorldShape, IsStep, EventRefusal, refusal_of, refusal_of_take, refusal_of_turn}
 use Rattle.net_world.specs.World.{refusal_of_act, refusal_of_token, state_at, misbehaves, tokens_sent}
-use Rattle.net_world.specs.World.Refusal.{not_bad, not_there, host_busy, no_such_token}
+use Rattle.net_world.specs.World.EventRefusal.{not_bad, not_there, host_busy, no_such_token}
 
 -- the event happens, or this is why it does not
-abbrev HappensOr : CodeShape → WorldShape → Event → Option Refusal → Type 0
+abbrev HappensOr : CodeShape → WorldShape → Event → Option EventRefusal → Type 0
 HappensOr code world event refusal =
-    ((after : WorldShape) × IsStep code world event after) ⊎ ((why : Refusal) × (refusal ≡ Some why))
+    ((after : WorldShape) × IsStep code world event after) ⊎ ((why : EventRefusal) × (refusal ≡ Some why))
 
 take_or_refused : (code : CodeShape) (world : WorldShape) (from to : HostId) (place : ℕ) (flight : Option Flight)
-    (state : Option HostShape) → slice_get (world.flying from to) place ≡ flight → state_at world to ≡ state →
+    (state : Option HostState) → slice_get (world.flying from to) place ≡ flight → state_at world to ≡ state →
     HappensOr code world (Take from to place) (refusal_of_take flight state)
 take_or_refused code world from to place None state there obeys = inr (not_there, refl)
 take_or_refused code world from to place (Some flight) None there obeys = inr (not_there, refl)
@@ -45,7 +45,7 @@ take_or_refused code world from to place (Some flight) (Some state) there obeys 
   | inr runs ↦ inr (host_busy, ap (λ running. if is_some running then Some host_busy else None) runs.1)
 ]
 
-turn_or_refused : (code : CodeShape) (world : WorldShape) (host : HostId) (state : Option HostShape) →
+turn_or_refused : (code : CodeShape) (world : WorldShape) (host : HostId) (state : Option HostState) →
     state_at world host ≡ state → HappensOr code world (Turn host) (refusal_of_turn state)
 turn_or_refused code world host None obeys = inr (not_there, refl)
 turn_or_refused code world host (Some state) obeys = elim (some_or_none state.running) [
@@ -66,7 +66,7 @@ turn_or_refused code world host (Some state) obeys = elim (some_or_none state.ru
 ]
 
 -- a message that was made is taken by a host at rest
-made_or_refused : (code : CodeShape) (world : WorldShape) (from to : HostId) (made : BadMessage) (state : HostShape)
+made_or_refused : (code : CodeShape) (world : WorldShape) (from to : HostId) (made : BadMessage) (state : HostState)
     (message : Option Message) → misbehaves world from ≡ true → state_at world to ≡ Some state →
     state.running ≡ None → message_made (tokens_sent world) made ≡ message →
     HappensOr code world (Act from to made) (refusal_of_token (length (tokens_sent world)) message)
@@ -90,7 +90,7 @@ made_or_refused code world from to made state (Some message) bad obeys rests mak
     )
 
 act_or_refused : (code : CodeShape) (world : WorldShape) (from to : HostId) (made : BadMessage) (bad : Bool)
-    (state : Option HostShape) → misbehaves world from ≡ bad → state_at world to ≡ state →
+    (state : Option HostState) → misbehaves world from ≡ bad → state_at world to ≡ state →
     HappensOr code world (Act from to made)
     (refusal_of_act bad state
     (refusal_of_token (length (tokens_sent world)) (message_made (tokens_sent world) made)))

@@ -11,7 +11,7 @@ use Rattle.host_code.specs.declared.message.Message.{Message}
 use Rattle.host_code.specs.declared.instruction.Instr.{Instr}
 use Rattle.host_code.specs.Code.{CodeShape, instruction_at}
 use Rattle.host_code.specs.Thread.{ThreadShape}
-use Rattle.host_core.specs.Host.{HostShape, Outcome, Letter, with_running}
+use Rattle.host_core.specs.Host.{HostState, Outcome, Letter, with_running}
 use Rattle.host_core.specs.Taking.{IsTaking, after_taking}
 use Rattle.host_core.specs.Turn.{IsTurn, IsTurnOf, IsRunning, after_operation, label_of_turn}
 use Rattle.host_core.proofs.OneOutcome.{one_taking, one_turn_of}
@@ -34,7 +34,7 @@ one_take code world first second from to place a b =
     some_same (slice_get (world.flying from to) place) a.flight b.flight a.there b.there in
     let takes : IsTaking code b.state from b.flight.message a.outcome =
     subst (λ (f : Flight). IsTaking code b.state from f.message a.outcome) flight
-    (subst (λ (s : HostShape). IsTaking code s from a.flight.message a.outcome) state a.takes) in
+    (subst (λ (s : HostState). IsTaking code s from a.flight.message a.outcome) state a.takes) in
     let outcome : a.outcome ≡ b.outcome =
     one_taking code b.state from b.flight.message a.outcome b.outcome takes b.takes in
     let left = without_flight world from to place in
@@ -45,11 +45,11 @@ one_turn : (code : CodeShape) (world first second : WorldShape) (host : HostId) 
     IsTurnStep code world host first → IsTurnStep code world host second → first ≡ second
 one_turn code world first second host a b =
     let state : a.state ≡ b.state = some_same (state_at world host) a.state b.state a.obeys b.obeys in
-    let turns : IsTurn code b.state a.outcome = subst (λ (s : HostShape). IsTurn code s a.outcome) state a.turns in
+    let turns : IsTurn code b.state a.outcome = subst (λ (s : HostState). IsTurn code s a.outcome) state a.turns in
     let outcome : a.outcome ≡ b.outcome =
     one_turn_of code b.state b.state.running a.outcome b.outcome turns b.turns in
     sym a.leaves ∙ ap (λ (o : Outcome). after_step world host o (label_of_turn code a.state)) outcome
-    ∙ ap (λ (s : HostShape). after_step world host b.outcome (label_of_turn code s)) state ∙ b.leaves
+    ∙ ap (λ (s : HostState). after_step world host b.outcome (label_of_turn code s)) state ∙ b.leaves
 
 one_act : (code : CodeShape) (world first second : WorldShape) (from to : HostId) (made : BadMessage) →
     IsActStep code world from to made first → IsActStep code world from to made second → first ≡ second
@@ -59,7 +59,7 @@ one_act code world first second from to made a b =
     some_same (message_made (tokens_sent world) made) a.message b.message a.makes b.makes in
     let takes : IsTaking code b.state from b.message a.outcome =
     subst (λ (m : Message). IsTaking code b.state from m a.outcome) message
-    (subst (λ (s : HostShape). IsTaking code s from a.message a.outcome) state a.takes) in
+    (subst (λ (s : HostState). IsTaking code s from a.message a.outcome) state a.takes) in
     let outcome : a.outcome ≡ b.outcome = one_taking code b.state from b.message a.outcome b.outcome takes b.takes in
     sym a.leaves ∙ ap (λ (o : Outcome). after_telling (with_state world to o.state) to o.sent) outcome ∙ b.leaves
 
@@ -71,14 +71,14 @@ one_step code world first second (Act from to made) a b = one_act code world fir
 
 -- ---- it is not refused
 
-turn_not_refused : (o : Option HostShape) (state : HostShape) → o ≡ Some state → IsSome state.running →
+turn_not_refused : (o : Option HostState) (state : HostState) → o ≡ Some state → IsSome state.running →
     refusal_of_turn o ≡ None
 turn_not_refused None state obeys runs = absurd (cc)
 turn_not_refused (Some other) state obeys runs =
     let same : other ≡ state = cc in
     rw (same, runs) refl
 
-rests_at : (o : Option HostShape) (state : HostShape) → o ≡ Some state → state.running ≡ None →
+rests_at : (o : Option HostState) (state : HostState) → o ≡ Some state → state.running ≡ None →
     IsSomeAnd o (λ s. s.running ≡ None)
 rests_at None state obeys rests = absurd (cc)
 rests_at (Some other) state obeys rests =
@@ -139,8 +139,8 @@ act_puts code world after from to made step =
 
 -- a step puts a state in the place of one
 record HasPut (world : WorldShape) (host : HostId) (after : WorldShape) : Type 0 where
-  before : HostShape
-  state : HostShape
+  before : HostState
+  state : HostState
   obeys : state_at world host ≡ Some before
   puts : after.hosts ≡ slice_set world.hosts host.0 (Some state)
 

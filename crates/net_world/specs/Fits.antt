@@ -9,9 +9,9 @@ use Rattle.event_text.specs.declared.event.BadToken.TheVariants.{Own}
 use Rattle.event_text.specs.declared.event.BadMessage.{BadMessage}
 use Rattle.event_text.specs.declared.event.BadMessage.TheVariants as bad
 use Rattle.host_code.specs.Code.{CodeShape}
-use Rattle.host_code.specs.Sound.{IsHost, IsOther, IsLabel}
+use Rattle.host_code.specs.Sound.{IsHost, IsOther, IsLabelNumber}
 use Rattle.host_code.specs.Messages.{MessageFits}
-use Rattle.host_core.specs.Host.{HostShape, HostModel, state_of}
+use Rattle.host_core.specs.Host.{HostState, HostModel, state_of}
 use Rattle.host_core.specs.Fits.{HostFits, StateFits}
 use Rattle.net_world.specs.Flying.{Flight, Queue, flights_of, flying_of}
 use Rattle.net_world.specs.Told.{SentMessage, ToldShape}
@@ -27,7 +27,7 @@ pub record WorldModel : Type 0 where
   pub readable : List Bool
   pub told : ToldShape
 
-abbrev pub states_of : List (Option HostModel) → List (Option HostShape)
+abbrev pub states_of : List (Option HostModel) → List (Option HostState)
 states_of hosts = map (λ host. option_map state_of host) hosts
 
 -- the world, of which the definitions speak
@@ -48,7 +48,7 @@ pub record FlightFits (code : CodeShape) (from to : HostId) (flight : Flight) : 
   pub sender : IsHost code from
   pub target : IsOther code from to
   pub message : MessageFits code flight.message
-  pub label : IsLabel code flight.label
+  pub label : IsLabelNumber code flight.label
 
 pub record SentMessageFits (code : CodeShape) (sent : SentMessage) : Type 0 where
   pub sender : IsHost code sent.0
@@ -77,7 +77,7 @@ pub record WorldFits (code : CodeShape) (world : WorldModel) : Type 0 where
 
 -- ---- the same of the definitions alone
 
-pub record IsStateOf (code : CodeShape) (number : HostId) (state : HostShape) : Type 0 where
+pub record IsStateOf (code : CodeShape) (number : HostId) (state : HostState) : Type 0 where
   pub me : state.me ≡ number
   pub fits : StateFits code state
 

@@ -53,8 +53,8 @@ pub record Queue : Type 0 where
   pub message_room : ℕ
   pub label_room : ℕ
 
-abbrev pub IsCounted : List Bool → Queue → Type 0
-IsCounted readable queue = queue.hidden ≡ hidden_in readable queue.flights
+abbrev pub IsQueueCounted : List Bool → Queue → Type 0
+IsQueueCounted readable queue = queue.hidden ≡ hidden_in readable queue.flights
 
 -- a queue for each pair of hosts, and for each label of the code whether a misbehaving host may see it
 pub record QueuesShape : Type 0 where

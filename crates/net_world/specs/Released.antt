@@ -7,7 +7,7 @@ use Rattle.event_text.specs.declared.event.Event.{Event}
 use Rattle.event_text.specs.declared.event.Event.TheVariants.{Turn}
 use Rattle.host_code.specs.Code.{CodeShape}
 use Rattle.host_code.specs.Thread.{ThreadShape}
-use Rattle.host_core.specs.Host.{HostShape, value_in_thread}
+use Rattle.host_core.specs.Host.{HostState, value_in_thread}
 use Rattle.split_rules.specs.Releases.{ReleasesShape, operands_at}
 use Rattle.net_world.specs.Secret.{IsSecret}
 use Rattle.net_world.specs.World.{WorldShape, state_at, IsStep}
@@ -15,22 +15,22 @@ use Rattle.net_world.specs.World.{WorldShape, state_at, IsStep}
 -- ---- lists
 
 -- the second list begins with the first
-abbrev pub IsFront : {X : Type 0} → List X → List X → Type 0
-IsFront {X} front whole = (rest : List X) × (whole ≡ front ++ rest)
+abbrev pub IsListFront : {X : Type 0} → List X → List X → Type 0
+IsListFront {X} front whole = (rest : List X) × (whole ≡ front ++ rest)
 
 -- the lists are equal as far as both go
-abbrev pub AreAlike : {X : Type 0} → List X → List X → Type 0
-AreAlike one other = IsFront one other ⊎ IsFront other one
+abbrev pub OneIsFront : {X : Type 0} → List X → List X → Type 0
+OneIsFront one other = IsListFront one other ⊎ IsListFront other one
 
 -- ---- turns
 
 -- what the instruction releases that a thread runs next, from the left and inner before outer
-abbrev pub released_by_thread : ReleasesShape → HostId → HostShape → Option ThreadShape → List ℤ
+abbrev pub released_by_thread : ReleasesShape → HostId → HostState → Option ThreadShape → List ℤ
 released_by_thread table host state None = []
 released_by_thread table host state (Some thread) =
     map (value_in_thread state thread) (operands_at table host thread.at)
 
-abbrev pub released_by_host : ReleasesShape → HostId → Option HostShape → List ℤ
+abbrev pub released_by_host : ReleasesShape → HostId → Option HostState → List ℤ
 released_by_host table host None = []
 released_by_host table host (Some state) = released_by_thread table host state state.running
 

@@ -10,7 +10,8 @@ use Rattle.event_text.specs.declared.event.BadMessage.TheVariants as bad
 use Rattle.event_text.specs.declared.event.BadToken.{BadToken}
 use Rattle.event_text.specs.declared.event.BadToken.TheVariants.{Sent, Own}
 use Rattle.host_code.specs.Code.{CodeShape}
-use Rattle.net_world.specs.World.{WorldShape, Refusal, not_bad, not_there, host_busy, no_such_token, refusal_of, IsStep}
+use Rattle.net_world.specs.World.{WorldShape, EventRefusal, not_bad, not_there, host_busy, no_such_token, refusal_of}
+use Rattle.net_world.specs.World.{IsStep}
 use Rattle.net_world.specs.declared.world.EventError.{EventError}
 use Rattle.net_world.specs.declared.world.EventError.TheVariants as answer
 use Rattle.net_world.specs.declared.replaying.ReplayError.{ReplayError}
@@ -21,7 +22,7 @@ abbrev pub events_in : List (ℕ × Event) → List Event
 events_in said = map (λ one. one.1) said
 
 -- the first event that is refused is this one with its line, and those before it happen
-abbrev pub IsRefusedAt : CodeShape → WorldShape → List (ℕ × Event) → ℕ × Event → Refusal → Type 0
+abbrev pub IsRefusedAt : CodeShape → WorldShape → List (ℕ × Event) → ℕ × Event → EventRefusal → Type 0
 IsRefusedAt code world [] at why = ⊥
 IsRefusedAt code world (one ∷ said) at why =
     ((one ≡ at) × (refusal_of world one.1 ≡ Some why))
@@ -60,11 +61,11 @@ IsReplayError code world said (error.NoSuchToken line number count) =
     × (number_presented event ≡ number)
 
 -- why the event on a line did not happen, by what the world answers
-abbrev pub IsErrorOf : ℕ → Event → EventError → ReplayError → Type 0
-IsErrorOf line event answer.OutOfMemory result = result ≡ error.OutOfMemory
-IsErrorOf line event answer.NotThere result = result ≡ error.NotThere line
-IsErrorOf line event answer.HostBusy result = result ≡ error.HostBusy line
-IsErrorOf line event answer.NotBad result = result ≡ error.NotBad line
-IsErrorOf line event (answer.NoSuchToken count) result =
+abbrev pub IsReplayErrorOf : ℕ → Event → EventError → ReplayError → Type 0
+IsReplayErrorOf line event answer.OutOfMemory result = result ≡ error.OutOfMemory
+IsReplayErrorOf line event answer.NotThere result = result ≡ error.NotThere line
+IsReplayErrorOf line event answer.HostBusy result = result ≡ error.HostBusy line
+IsReplayErrorOf line event answer.NotBad result = result ≡ error.NotBad line
+IsReplayErrorOf line event (answer.NoSuchToken count) result =
     result ≡ error.NoSuchToken line (number_presented event) count
-IsErrorOf line event answer.Stopped result = ⊥
+IsReplayErrorOf line event answer.Stopped result = ⊥

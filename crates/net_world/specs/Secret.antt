@@ -6,17 +6,18 @@ use Rattle.event_text.specs.declared.event.Event.{Event}
 use Rattle.event_text.specs.declared.event.Event.TheVariants.{Take, Turn, Act}
 use Rattle.host_code.specs.Code.{CodeShape}
 use Rattle.entry_check.specs.Checks.{MaySee, label_at, label_of_host}
-use Rattle.host_core.specs.Host.{HostShape}
+use Rattle.host_core.specs.Host.{HostState}
 use Rattle.host_core.specs.Turn.{label_of_turn}
 use Rattle.net_world.specs.Flying.{may_be_seen}
 use Rattle.net_world.specs.World.{WorldShape, state_at, lacks, IsStep}
 
 -- a misbehaving host that may see the label at this place among the code's labels
-abbrev pub Reads : CodeShape → List (Option HostShape) → ℕ → HostId → Type 0
-Reads code hosts label host = IsTrue (lacks hosts host) × MaySee (label_at code label) (label_of_host code host)
+abbrev pub IsMisbehavingReader : CodeShape → List (Option HostState) → ℕ → HostId → Type 0
+IsMisbehavingReader code hosts label host = IsTrue (lacks hosts host)
+    × MaySee (label_at code label) (label_of_host code host)
 
-abbrev pub IsReadBy : CodeShape → List (Option HostShape) → ℕ → Type 0
-IsReadBy code hosts label = (host : HostId) × Reads code hosts label host
+abbrev pub IsReadBy : CodeShape → List (Option HostState) → ℕ → Type 0
+IsReadBy code hosts label = (host : HostId) × IsMisbehavingReader code hosts label host
 
 -- a label that some misbehaving host may see
 abbrev pub IsReadable : CodeShape → WorldShape → ℕ → Type 0
@@ -41,7 +42,7 @@ abbrev pub FlyOpenly : CodeShape → WorldShape → HostId → HostId → Type 0
 FlyOpenly code world from to = All (λ flight. IsReadable code world flight.label) (world.flying from to)
 
 -- the instruction that a host would run at its turn may be seen
-abbrev pub RunsOpenly : CodeShape → WorldShape → HostShape → Type 0
+abbrev pub RunsOpenly : CodeShape → WorldShape → HostState → Type 0
 RunsOpenly code world state = IfSome (label_of_turn code state) (IsReadable code world)
 
 -- and so it is of each host
@@ -51,7 +52,7 @@ AllRunOpenly code world = (host : HostId) → IfSome (state_at world host) (Runs
 -- nothing secret is in flight, and no secret thread runs
 pub record IsQuiet (code : CodeShape) (world : WorldShape) : Type 0 where
   pub flying : (from to : HostId) → FlyOpenly code world from to
-  pub running : (host : HostId) (state : HostShape) → state_at world host ≡ Some state → RunsOpenly code world state
+  pub running : (host : HostId) (state : HostState) → state_at world host ≡ Some state → RunsOpenly code world state
 
 -- of these events those that may be seen, in order, and all of them leave this world
 abbrev pub IsSeenRun : CodeShape → WorldShape → List Event → List Event → WorldShape → Type 0

@@ -5,9 +5,9 @@ use Rattle.std.specs.Prelude.{IsSomeAnd, IfSome, slice_get, slice_set, Result, O
 use Rattle.js_base.specs.declared.ids.HostId.{HostId}
 use Rattle.host_code.specs.declared.message.Message.{Message}
 use Rattle.host_code.specs.Code.{CodeShape}
-use Rattle.host_code.specs.Sound.{IsLabel, IsOther}
+use Rattle.host_code.specs.Sound.{IsLabelNumber, IsOther}
 use Rattle.host_core.specs.Fits.{TokensFit}
-use Rattle.host_core.specs.Host.{HostShape, HostModel, Outcome, state_of, IsStopped}
+use Rattle.host_core.specs.Host.{HostState, HostModel, Outcome, state_of, IsStopped}
 use Rattle.host_core.specs.Taking.{IsTaking}
 use Rattle.host_core.specs.Turn.{IsTurn, label_of_turn}
 use Rattle.event_text.specs.declared.event.Event.{Event}
@@ -22,15 +22,15 @@ use Rattle.net_world.specs.World.{present, state_at, with_state, misbehaves, tok
 use Rattle.net_world.specs.Fits.{WorldModel, world_of, host_at}
 
 -- a host that answers, and takes a message or makes a turn
-abbrev pub IsReady : HostModel → Type 0
-IsReady host = (host.running ≡ None) × ¬ IsStopped host
+abbrev pub IsReadyToTake : HostModel → Type 0
+IsReadyToTake host = (host.running ≡ None) × ¬ IsStopped host
 
 abbrev pub IsActive : HostModel → Type 0
 IsActive host = IsSome host.running × ¬ IsStopped host
 
 -- it can make the move
 abbrev pub IsMovable : Move → HostModel → Type 0
-IsMovable (move.Take from message) host = IsReady host
+IsMovable (move.Take from message) host = IsReadyToTake host
 IsMovable move.Turn host = IsActive host
 
 -- a message that is taken is from another host, and its tokens name hosts of the code
@@ -39,7 +39,7 @@ MoveFits code me (move.Take from message) = IsOther code me from × TokensFit co
 MoveFits code me move.Turn = ⊤
 
 -- this is what the move leaves and sends
-abbrev pub IsMove : CodeShape → Move → HostShape → Outcome → Type 0
+abbrev pub IsMove : CodeShape → Move → HostState → Outcome → Type 0
 IsMove code (move.Take from message) state outcome = IsTaking code state from message.now outcome
 IsMove code move.Turn state outcome = IsTurn code state outcome
 
@@ -61,16 +61,16 @@ pub record IsStuck (world : WorldModel) (event : Event) : Type 0 where
   pub stopped : HasStopped world (mover event)
 
 -- a host made a step of this kind, and this is what it sends
-pub record HasStepped (kind : HostShape → Outcome → Type 0) (old : WorldShape) (host : HostId)
+pub record HasStepped (kind : HostState → Outcome → Type 0) (old : WorldShape) (host : HostId)
     (sent : Option (HostId × Message)) (new : WorldShape) : Type 0 where
-  pub before : HostShape
-  pub after : HostShape
+  pub before : HostState
+  pub after : HostState
   pub obeys : state_at old host ≡ Some before
   pub made : kind before (record { state = after; sent = sent })
   pub leaves : with_state old host after ≡ new
 
 -- the same of the hosts alone
-pub record HasMoved (kind : HostShape → Outcome → Type 0) (old new : List (Option HostModel)) (host : HostId)
+pub record HasMoved (kind : HostState → Outcome → Type 0) (old new : List (Option HostModel)) (host : HostId)
     (sent : Option (HostId × Message)) : Type 0 where
   pub before : HostModel
   pub after : HostModel
@@ -79,7 +79,7 @@ pub record HasMoved (kind : HostShape → Outcome → Type 0) (old new : List (O
   pub leaves : slice_set old host.0 (Some after) ≡ new
 
 -- the host of the number has answered one more call, and answers on as before
-pub record HasCounted (number : HostId) (old new : List (Option HostModel)) : Type 0 where
+pub record HasCountedCall (number : HostId) (old new : List (Option HostModel)) : Type 0 where
   pub before : HostModel
   pub after : HostModel
   pub was : present old number ≡ Some before
@@ -88,7 +88,7 @@ pub record HasCounted (number : HostId) (old new : List (Option HostModel)) : Ty
   pub stopped : after.stopped ≡ before.stopped
 
 -- no host but that of the number has changed
-pub record ChangesOnly (number : HostId) (old new : List (Option HostModel)) : Type 0 where
+pub record ChangesOnlyHost (number : HostId) (old new : List (Option HostModel)) : Type 0 where
   pub count : length new ≡ length old
   pub others : (host : HostId) → host.0 ≢ number.0 → slice_get new host.0 ≡ slice_get old host.0
 
@@ -96,19 +96,19 @@ pub record ChangesOnly (number : HostId) (old new : List (Option HostModel)) : T
 pub record IsTakeable (world : WorldModel) (from to : HostId) (place : ℕ) (found : Message × ℕ) : Type 0 where
   pub there : slice_get ((world_of world).flying from to) place
       ≡ Some (record { message = found.0; label = found.1 })
-  pub host : IsSomeAnd (host_at world to) IsReady
+  pub host : IsSomeAnd (host_at world to) IsReadyToTake
 
 -- a thread of the host runs, and its instruction has this label, which is one of the code's
 abbrev pub IsRunnable : CodeShape → WorldModel → HostId → Option ℕ → Type 0
 IsRunnable code world host label =
     IsSomeAnd (host_at world host) (λ there. IsActive there × (label ≡ label_of_turn code (state_of there)))
-    × IfSome label (IsLabel code)
+    × IfSome label (IsLabelNumber code)
 
 -- a misbehaving host makes this message, and its target is ready
 pub record IsActable (world : WorldModel) (from to : HostId) (made : BadMessage) (message : Message) : Type 0 where
   pub bad : IsTrue (misbehaves (world_of world) from)
   pub makes : message_made (tokens_sent (world_of world)) made ≡ Some message
-  pub host : IsSomeAnd (host_at world to) IsReady
+  pub host : IsSomeAnd (host_at world to) IsReadyToTake
 
 -- why a host takes no message, beside that it answers no more
 abbrev pub CannotRest : Option HostModel → EventError → Type 0
@@ -122,23 +122,23 @@ abbrev pub HasNoMemory : WorldModel → Event → WorldModel → Type 0
 HasNoMemory world event after = (after.hosts ≡ world.hosts) ⊎ HasStopped after (mover event)
 
 -- an event is refused with this error
-abbrev pub IsRefused : WorldModel → Event → EventError → Type 0
-IsRefused world event answer.OutOfMemory = ⊥
-IsRefused world event answer.Stopped = IsStuck world event
-IsRefused world event answer.NotThere = refusal_of (world_of world) event ≡ Some not_there
-IsRefused world event answer.HostBusy = refusal_of (world_of world) event ≡ Some host_busy
-IsRefused world event (answer.NoSuchToken count) = refusal_of (world_of world) event ≡ Some (no_such_token count)
-IsRefused world event answer.NotBad = refusal_of (world_of world) event ≡ Some not_bad
+abbrev pub IsEventRefused : WorldModel → Event → EventError → Type 0
+IsEventRefused world event answer.OutOfMemory = ⊥
+IsEventRefused world event answer.Stopped = IsStuck world event
+IsEventRefused world event answer.NotThere = refusal_of (world_of world) event ≡ Some not_there
+IsEventRefused world event answer.HostBusy = refusal_of (world_of world) event ≡ Some host_busy
+IsEventRefused world event (answer.NoSuchToken count) = refusal_of (world_of world) event ≡ Some (no_such_token count)
+IsEventRefused world event answer.NotBad = refusal_of (world_of world) event ≡ Some not_bad
 
 -- there is such an event, and its host answers
-pub record IsDue (world : WorldModel) (event : Event) : Type 0 where
+pub record IsEventDue (world : WorldModel) (event : Event) : Type 0 where
   pub there : refusal_of (world_of world) event ≡ None
   pub answers : ¬ HasStopped world (mover event)
 
 -- an event has this answer, and leaves this world
 abbrev pub IsAnswer : CodeShape → WorldModel → Event → Result (Unit {0}) EventError → WorldModel → Type 0
 IsAnswer code world event (Ok done) after =
-    IsDue world event × IsStep code (world_of world) event (world_of after)
+    IsEventDue world event × IsStep code (world_of world) event (world_of after)
 IsAnswer code world event (Err answer.OutOfMemory) after =
-    IsDue world event × (world_of after ≡ world_of world) × HasNoMemory world event after
-IsAnswer code world event (Err error) after = IsRefused world event error × (after ≡ world)
+    IsEventDue world event × (world_of after ≡ world_of world) × HasNoMemory world event after
+IsAnswer code world event (Err error) after = IsEventRefused world event error × (after ≡ world)

@@ -17,7 +17,7 @@ use Rattle.capability.specs.declared.token.Token.{Token}
 use Rattle.host_decl.specs.Hosts as declared_hosts
 use Rattle.host_code.specs.declared.message.Message.{Message}
 use Rattle.host_code.specs.Code.{CodeShape, CodeHostShape}
-use Rattle.host_core.specs.Host.{HostShape, Outcome, Letter, with_label}
+use Rattle.host_core.specs.Host.{HostState, Outcome, Letter, with_label}
 use Rattle.host_core.specs.Start.{host_at_start}
 use Rattle.host_core.specs.Taking.{IsTaking}
 use Rattle.host_core.specs.Turn.{IsTurn, label_of_turn}
@@ -30,7 +30,7 @@ use Rattle.net_world.specs.Told.{SentMessage, tokens_in, message_made}
 -- For each host of the code its state, or nothing where it misbehaves; what is in flight between obeying hosts; and
 -- what misbehaving hosts were sent, in order.
 pub record WorldShape : Type 0 where
-  pub hosts : List (Option HostShape)
+  pub hosts : List (Option HostState)
   pub flying : Flying
   pub sent : List SentMessage
 
@@ -43,7 +43,7 @@ abbrev pub present : {X : Type 0} → List (Option X) → HostId → Option X
 present hosts host = given (slice_get hosts host.0)
 
 -- the state of an obeying host of the code
-abbrev pub state_at : WorldShape → HostId → Option HostShape
+abbrev pub state_at : WorldShape → HostId → Option HostState
 state_at world host = present world.hosts host
 
 abbrev pub is_absent : {X : Type 0} → Option (Option X) → Bool
@@ -70,7 +70,7 @@ has_halted root world = IsSomeAnd (state_at world root) (λ host. IsTrue host.ha
 
 -- ---- changes
 
-abbrev pub with_state : WorldShape → HostId → HostShape → WorldShape
+abbrev pub with_state : WorldShape → HostId → HostState → WorldShape
 with_state world host state = record world { hosts = slice_set world.hosts host.0 (Some state) }
 
 -- a message is no longer in flight
@@ -115,7 +115,7 @@ after_step world host outcome label =
 -- A host takes a message in flight, and its answer carries the label of that message.
 pub record IsTakeStep (code : CodeShape) (world : WorldShape) (from to : HostId) (place : ℕ) (after : WorldShape)
     : Type 0 where
-  pub state : HostShape
+  pub state : HostState
   pub flight : Flight
   pub outcome : Outcome
   pub there : slice_get (world.flying from to) place ≡ Some flight
@@ -126,7 +126,7 @@ pub record IsTakeStep (code : CodeShape) (world : WorldShape) (from to : HostId)
 
 -- A host runs one instruction, and what it sends carries the instruction's label.
 pub record IsTurnStep (code : CodeShape) (world : WorldShape) (host : HostId) (after : WorldShape) : Type 0 where
-  pub state : HostShape
+  pub state : HostState
   pub outcome : Outcome
   pub obeys : state_at world host ≡ Some state
   pub runs : IsSome state.running
@@ -136,7 +136,7 @@ pub record IsTurnStep (code : CodeShape) (world : WorldShape) (host : HostId) (a
 -- A misbehaving host sends an obeying host a message, which is taken at once. The answer is told to the sender.
 pub record IsActStep (code : CodeShape) (world : WorldShape) (from to : HostId) (made : BadMessage) (after : WorldShape)
     : Type 0 where
-  pub state : HostShape
+  pub state : HostState
   pub message : Message
   pub outcome : Outcome
   pub bad : IsTrue (misbehaves world from)
@@ -167,33 +167,33 @@ mover (Act from to made) = to
 -- ---- refusals
 
 -- why there is no such event, the first that holds
-pub data Refusal : Type 0 where
-  not_bad : Refusal
-  not_there : Refusal
-  host_busy : Refusal
-  no_such_token : ℕ → Refusal
+pub data EventRefusal : Type 0 where
+  not_bad : EventRefusal
+  not_there : EventRefusal
+  host_busy : EventRefusal
+  no_such_token : ℕ → EventRefusal
 
 -- with how many tokens misbehaving hosts were sent
-abbrev pub refusal_of_token : ℕ → Option Message → Option Refusal
+abbrev pub refusal_of_token : ℕ → Option Message → Option EventRefusal
 refusal_of_token count None = Some (no_such_token count)
 refusal_of_token count (Some message) = None
 
-abbrev pub refusal_of_take : Option Flight → Option HostShape → Option Refusal
+abbrev pub refusal_of_take : Option Flight → Option HostState → Option EventRefusal
 refusal_of_take None host = Some not_there
 refusal_of_take (Some flight) None = Some not_there
 refusal_of_take (Some flight) (Some host) = if is_some host.running then Some host_busy else None
 
-abbrev pub refusal_of_turn : Option HostShape → Option Refusal
+abbrev pub refusal_of_turn : Option HostState → Option EventRefusal
 refusal_of_turn None = Some not_there
 refusal_of_turn (Some host) = if is_some host.running then None else Some not_there
 
-abbrev pub refusal_of_act : Bool → Option HostShape → Option Refusal → Option Refusal
+abbrev pub refusal_of_act : Bool → Option HostState → Option EventRefusal → Option EventRefusal
 refusal_of_act false host token = Some not_bad
 refusal_of_act true None token = Some not_there
 refusal_of_act true (Some host) token = if is_some host.running then Some host_busy else token
 
 -- Why an event is refused. A host that answers no more refuses its events beside these, after all of them.
-abbrev pub refusal_of : WorldShape → Event → Option Refusal
+abbrev pub refusal_of : WorldShape → Event → Option EventRefusal
 refusal_of world (Take from to place) =
     refusal_of_take (slice_get (world.flying from to) place) (state_at world to)
 refusal_of world (Turn host) = refusal_of_turn (state_at world host)
@@ -212,13 +212,13 @@ abbrev pub AreHostsOf : CodeShape → List declared_hosts.HostShape → Type 0
 AreHostsOf code rows = map named_host rows ≡ code.hosts
 
 -- A host before the first event, with its key. Bit h of the word says that host h misbehaves.
-abbrev pub host_before : CodeShape → List (List ℤ) → ℕ → ℕ → declared_hosts.HostShape → Option HostShape
+abbrev pub host_before : CodeShape → List (List ℤ) → ℕ → ℕ → declared_hosts.HostShape → Option HostState
 host_before code store bad number row =
     if bit_at bad number == 1 then None else Some (host_at_start code store row.key (record { 0 = number }))
 
 -- the hosts from a number on
 abbrev pub hosts_before : CodeShape → List (List ℤ) → ℕ → ℕ → List declared_hosts.HostShape →
-    List (Option HostShape)
+    List (Option HostState)
 hosts_before code store bad number [] = []
 hosts_before code store bad number (row ∷ rows) =
     host_before code store bad number row ∷ hosts_before code store bad (number + 1) rows

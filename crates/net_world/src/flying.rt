@@ -5,7 +5,7 @@ ghost use Rattle.std.specs.Prelude.{length, map, remove, slice_get};
 ghost use Rattle.std.specs.Prelude.{slice_set, replicate, IfOk, OnOk, MatchOption, None, Some, IsTrue, ◌↔◌};
 ghost use Rattle.js_base.specs.declared.ids.HostId.{HostId};
 ghost use Rattle.net_world.specs.Flying.{Flight, Queue, QueueHasRoom, HasRoom, pair_place, flights_of, flights_at};
-ghost use Rattle.net_world.specs.Flying.{IsCounted, may_be_seen, one_if_hidden, hidden_in};
+ghost use Rattle.net_world.specs.Flying.{IsQueueCounted, may_be_seen, one_if_hidden, hidden_in};
 
 use host_code::Message;
 use js_base::limits::HOSTS;
@@ -101,10 +101,10 @@ impl Queue {
     #[tactic(auto, using(crate::proofs::Flights::flights))]
     fn push(&mut self, message: &Message, label: u32, readable: &[bool])
         requires room { QueueHasRoom self.old }
-        requires counted { IsCounted readable.now self.old }
+        requires counted { IsQueueCounted readable.now self.old }
         ensures flights { self.new.flights
             ≡ self.old.flights ++ record { message = message.now; label = label } ∷ [] }
-        ensures counted { IsCounted readable.now self.new }
+        ensures counted { IsQueueCounted readable.now self.new }
     {
         let pushed = self.messages.push(*message);
         prove!(pushed.is_ok());
@@ -117,10 +117,10 @@ impl Queue {
     #[tactic(auto, using(crate::proofs::Flights::flights))]
     fn remove(&mut self, place: usize, readable: &[bool])
         requires there { place < length self.old.flights }
-        requires counted { IsCounted readable.now self.old }
+        requires counted { IsQueueCounted readable.now self.old }
         ensures flights { self.new.flights ≡ remove self.old.flights place }
         ensures room { QueueHasRoom self.new }
-        ensures counted { IsCounted readable.now self.new }
+        ensures counted { IsQueueCounted readable.now self.new }
     {
         self.messages.remove(place);
         let label = self.labels.remove(place);
@@ -167,14 +167,14 @@ pub struct Flying {
 impl Model for Flying {
     ghost use Rattle.net_world.specs.declared.flying.TheConstants.{PAIRS};
     ghost use Rattle.std.specs.Prelude.{◌≡◌, All, length};
-    ghost use Rattle.net_world.specs.Flying.{QueuesShape, IsCounted};
+    ghost use Rattle.net_world.specs.Flying.{QueuesShape, IsQueueCounted};
 
     ghost Value = { QueuesShape };
 
     ghost view = { λ f. record { queues = f.queues.items; readable = f.readable.items } };
 
     ghost invariant = { λ f.
-        (length f.queues.items ≡ PAIRS) × All (IsCounted f.readable.items) f.queues.items };
+        (length f.queues.items ≡ PAIRS) × All (IsQueueCounted f.readable.items) f.queues.items };
 }
 
 fn place_of(from: HostId, to: HostId) -> usize

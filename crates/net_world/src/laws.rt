@@ -10,7 +10,7 @@ ghost use Rattle.host_decl.specs.Hosts.{HostShape};
 ghost use Rattle.net_world.specs.Fits.{WorldModel, WorldFits, ShapeFits, HasOwnToken, world_of};
 ghost use Rattle.net_world.specs.Secret.{IsReadable, IsSecret, IsQuiet};
 ghost use Rattle.net_world.specs.Told.{SentMessage};
-ghost use Rattle.net_world.specs.World.{WorldShape, IsStep, IsRun, Refusal, refusal_of, mover, misbehaves};
+ghost use Rattle.net_world.specs.World.{WorldShape, IsStep, IsRun, EventRefusal, refusal_of, mover, misbehaves};
 ghost use Rattle.net_world.specs.World.{AreHostsOf, world_at_start};
 
 /// What an event leaves is determined, and it leaves most of the world alone.
@@ -24,7 +24,7 @@ pub fn step_laws()
     // What is not refused happens.
     ensures happens_or_refused { (code : CodeShape) (world : WorldShape) (event : Event) →
         ((after : WorldShape) × IsStep code world event after)
-        ⊎ ((why : Refusal) × (refusal_of world event ≡ Some why)) }
+        ⊎ ((why : EventRefusal) × (refusal_of world event ≡ Some why)) }
     // It is the step of one host.
     ensures others { (code : CodeShape) (world after : WorldShape) (event : Event) (host : HostId) →
         IsStep code world event after → host.0 ≢ (mover event).0 →

@@ -8,7 +8,8 @@ ghost use Rattle.net_world.specs.Flying.{HasRoom, pair_place};
 ghost use Rattle.net_world.specs.Told.{ToldHasRoom};
 ghost use Rattle.net_world.specs.World.{without_flight, after_sending, after_telling, letter_of};
 ghost use Rattle.net_world.specs.Fits.{HostsFit, world_of, host_at};
-ghost use Rattle.net_world.specs.Steps.{IsMove, IsMovable, MoveFits, HasStepped, HasStopped, HasCounted, ChangesOnly};
+ghost use Rattle.net_world.specs.Steps.{IsMove, IsMovable, MoveFits, HasStepped, HasStopped, HasCountedCall};
+ghost use Rattle.net_world.specs.Steps.{ChangesOnlyHost};
 
 use crate::moves::{Move, move_at};
 use crate::world::World;
@@ -76,8 +77,8 @@ impl World {
             (world_of self.new)) }
         ensures err { OnErr result (world_of self.new ≡ world_of self.old) }
         ensures stopped { OnErr result (HasStopped self.new host) }
-        ensures counted { OnOk result (HasCounted host self.old.hosts self.new.hosts) }
-        ensures others { ChangesOnly host self.old.hosts self.new.hosts }
+        ensures counted { OnOk result (HasCountedCall host self.old.hosts self.new.hosts) }
+        ensures others { ChangesOnlyHost host self.old.hosts self.new.hosts }
         ensures fits { HostsFit code.now self.new.hosts }
         ensures sent { OnOk result (SentFits code.now host sent.new) }
         ensures mail { (self.new.queues ≡ self.old.queues) × (self.new.told ≡ self.old.told) }

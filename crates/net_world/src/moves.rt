@@ -1,14 +1,14 @@
 //! The step of one host among all.
 
 ghost use Rattle.std.specs.Prelude.{◌≡◌, None, Some, OnOk, OnErr, IfSome, IsSomeAnd};
-ghost use Rattle.host_code.specs.Sound.{IsLabel};
+ghost use Rattle.host_code.specs.Sound.{IsLabelNumber};
 ghost use Rattle.host_core.specs.Calls.{CountsCall};
 ghost use Rattle.host_core.specs.Fits.{SentFits};
 ghost use Rattle.host_core.specs.Host.{state_of, IsStopped};
 ghost use Rattle.host_core.specs.Turn.{label_of_turn};
 ghost use Rattle.net_world.specs.World.{present};
 ghost use Rattle.net_world.specs.Fits.{HostsFit, PresentFits, states_of};
-ghost use Rattle.net_world.specs.Steps.{IsMove, IsMovable, MoveFits, HasMoved, HasCounted, ChangesOnly};
+ghost use Rattle.net_world.specs.Steps.{IsMove, IsMovable, MoveFits, HasMoved, HasCountedCall, ChangesOnlyHost};
 
 use host_code::{Code, Message};
 use host_core::{Host, HostError, Sent};
@@ -18,7 +18,7 @@ use js_base::{HostId, OutOfMemory};
 pub fn label_of(host: &Host, code: &Code, me: HostId) -> Option<u32>
     requires { PresentFits code.now me host.now }
     ensures label { result ≡ label_of_turn code.now (state_of host.now) }
-    ensures fits { IfSome result (IsLabel code.now) }
+    ensures fits { IfSome result (IsLabelNumber code.now) }
 {
     let _sound = code.hosts();
     let at = host.place()?;
@@ -77,8 +77,8 @@ pub fn move_at(
     ensures ok { OnOk result (HasMoved (IsMove code.now step.entry) hosts.old.items hosts.new.items me sent.new) }
     ensures err { OnErr result (states_of hosts.new.items ≡ states_of hosts.old.items) }
     ensures stopped { OnErr result (IsSomeAnd (present hosts.new.items me) IsStopped) }
-    ensures counted { OnOk result (HasCounted me hosts.old.items hosts.new.items) }
-    ensures others { ChangesOnly me hosts.old.items hosts.new.items }
+    ensures counted { OnOk result (HasCountedCall me hosts.old.items hosts.new.items) }
+    ensures others { ChangesOnlyHost me hosts.old.items hosts.new.items }
     ensures fits { HostsFit code.now hosts.new.items }
     ensures sent { OnOk result (SentFits code.now me sent.new) }
 {

@@ -5,7 +5,7 @@ ghost use Rattle.entry_check.specs.Checks.{MaySee, label_at, label_of_host};
 ghost use Rattle.net_world.specs.Flying.{may_be_seen};
 ghost use Rattle.net_world.specs.World.{lacks};
 ghost use Rattle.net_world.specs.Fits.{states_of};
-ghost use Rattle.net_world.specs.Secret.{IsReadBy, Reads};
+ghost use Rattle.net_world.specs.Secret.{IsReadBy, IsMisbehavingReader};
 
 use host_code::Code;
 use host_core::Host;
@@ -46,7 +46,7 @@ fn is_read(code: &Code, hosts: &[Option<Host>], label: u32) -> bool
 
 /// Whether a host misbehaves and may see a label.
 fn reads(code: &Code, hosts: &[Option<Host>], label: u32, host: HostId) -> bool
-    ensures { IsTrue result ↔ Reads code.now (states_of hosts.now) label host }
+    ensures { IsTrue result ↔ IsMisbehavingReader code.now (states_of hosts.now) label host }
 {
     is_bad(hosts, host) && may_see(code, label, host)
 }

@@ -6,7 +6,7 @@ ghost use Rattle.host_core.specs.Host.{state_of};
 ghost use Rattle.host_core.specs.Turn.{label_of_turn};
 ghost use Rattle.net_world.specs.World.{misbehaves};
 ghost use Rattle.net_world.specs.Fits.{WorldFits, world_of, host_at};
-ghost use Rattle.net_world.specs.Steps.{IsActive, IsTakeable, IsActable, IsRefused, IsRunnable, CannotRest};
+ghost use Rattle.net_world.specs.Steps.{IsActive, IsTakeable, IsActable, IsEventRefused, IsRunnable, CannotRest};
 
 use crate::moves::label_of;
 use crate::readers::is_bad;
@@ -25,7 +25,7 @@ impl World {
         place: u64,
     ) -> Result<(&Message, u32), EventError>
         ensures ok { IfOk result (λ found. IsTakeable self.now from to place (found.0.now, found.1)) }
-        ensures err { IfErr result (IsRefused self.now (Event.Take from to place)) }
+        ensures err { IfErr result (IsEventRefused self.now (Event.Take from to place)) }
     {
         let Some(found) = self.flight(from, to, place) else {
             return Err(EventError::NotThere);
@@ -41,7 +41,7 @@ impl World {
     pub(crate) fn runnable(&self, code: &Code, host: HostId) -> Result<Option<u32>, EventError>
         requires fits { WorldFits code.now self.now }
         ensures ok { IfOk result (IsRunnable code.now self.now host) }
-        ensures err { IfErr result (IsRefused self.now (Event.Turn host)) }
+        ensures err { IfErr result (IsEventRefused self.now (Event.Turn host)) }
     {
         let Some(there) = self.host(host) else {
             return Err(EventError::NotThere);
@@ -63,7 +63,7 @@ impl World {
         made: &BadMessage,
     ) -> Result<Message, EventError>
         ensures ok { IfOk result (IsActable self.now from to made.now) }
-        ensures err { IfErr result (IsRefused self.now (Event.Act from to made.now)) }
+        ensures err { IfErr result (IsEventRefused self.now (Event.Act from to made.now)) }
     {
         if !self.is_bad(from) {
             return Err(EventError::NotBad);

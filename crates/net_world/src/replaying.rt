@@ -4,7 +4,7 @@ ghost use Rattle.std.specs.Prelude.{◌≡◌, All, OnOk, IfErr};
 ghost use Rattle.net_world.specs.Fits.{WorldFits, HasOwnToken, world_of};
 ghost use Rattle.net_world.specs.Steps.{HaveMade};
 ghost use Rattle.net_world.specs.World.{IsRun};
-ghost use Rattle.net_world.specs.Replay.{IsReplayError, IsErrorOf, events_in, number_presented};
+ghost use Rattle.net_world.specs.Replay.{IsReplayError, IsReplayErrorOf, events_in, number_presented};
 ghost use Rattle.net_world.specs.Replay.{number_in_message, number_in_token};
 
 use crate::laws::fits_laws;
@@ -60,7 +60,7 @@ pub fn replay(code: &Code, world: &mut World, events: &[(u32, Event)]) -> Result
 /// Why the event on a line did not happen. No host has made so many steps that it answers no more.
 pub fn refused(line: u32, event: &Event, error: EventError) -> ReplayError
     requires { error ≡ EventError.Stopped → ⊥ }
-    ensures { IsErrorOf line event.now error result }
+    ensures { IsReplayErrorOf line event.now error result }
 {
     match error {
         EventError::OutOfMemory => ReplayError::OutOfMemory,

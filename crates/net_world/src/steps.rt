@@ -3,7 +3,7 @@
 ghost use Rattle.std.specs.Prelude.{◌≡◌, ◌≢◌, ◌+◌, ◌↔◌, ℕ, Some, OnOk, OnErr, IfErr, IsErrOf};
 ghost use Rattle.net_world.specs.World.{IsStep, refusal_of, mover, not_bad, not_there, host_busy, no_such_token};
 ghost use Rattle.net_world.specs.Fits.{WorldFits, HasOwnToken, world_of};
-ghost use Rattle.net_world.specs.Steps.{HaveMade, IsStuck, HasCounted, ChangesOnly, HasNoMemory, IsAnswer};
+ghost use Rattle.net_world.specs.Steps.{HaveMade, IsStuck, HasCountedCall, ChangesOnlyHost, HasNoMemory, IsAnswer};
 
 use crate::moves::Move;
 use crate::world::{EventError, World};
@@ -41,9 +41,9 @@ impl World {
         // Where memory ran out no host has changed, or the event's host had none and answers no more.
         ensures out_of_memory { IsErrOf result EventError.OutOfMemory → HasNoMemory self.old event.now self.new }
         // No host but that of the event changes.
-        ensures others { ChangesOnly (mover event.now) self.old.hosts self.new.hosts }
+        ensures others { ChangesOnlyHost (mover event.now) self.old.hosts self.new.hosts }
         // An event is one more call of its host, which answers on as before.
-        ensures counted { OnOk result (HasCounted (mover event.now) self.old.hosts self.new.hosts) }
+        ensures counted { OnOk result (HasCountedCall (mover event.now) self.old.hosts self.new.hosts) }
         // An event is one more step, and stops no host.
         ensures made { OnOk result ((n : ℕ) → HaveMade n self.old.hosts → HaveMade (n + 1) self.new.hosts) }
         ensures fits { WorldFits code.now self.new }
@@ -59,8 +59,8 @@ impl World {
     fn take(&mut self, code: &Code, from: HostId, to: HostId, place: u64) -> Result<(), EventError>
         requires fits { WorldFits code.now self.old }
         ensures answer { IsAnswer code.now self.old (Event.Take from to place) result self.new }
-        ensures counted { OnOk result (HasCounted to self.old.hosts self.new.hosts) }
-        ensures others { ChangesOnly to self.old.hosts self.new.hosts }
+        ensures counted { OnOk result (HasCountedCall to self.old.hosts self.new.hosts) }
+        ensures others { ChangesOnlyHost to self.old.hosts self.new.hosts }
         ensures fits { WorldFits code.now self.new }
     {
         let (found, label) = self.takeable(from, to, place)?;
@@ -81,8 +81,8 @@ impl World {
     fn turn(&mut self, code: &Code, host: HostId) -> Result<(), EventError>
         requires fits { WorldFits code.now self.old }
         ensures answer { IsAnswer code.now self.old (Event.Turn host) result self.new }
-        ensures counted { OnOk result (HasCounted host self.old.hosts self.new.hosts) }
-        ensures others { ChangesOnly host self.old.hosts self.new.hosts }
+        ensures counted { OnOk result (HasCountedCall host self.old.hosts self.new.hosts) }
+        ensures others { ChangesOnlyHost host self.old.hosts self.new.hosts }
         ensures fits { WorldFits code.now self.new }
     {
         let label = self.runnable(code, host)?;
@@ -108,8 +108,8 @@ impl World {
         requires fits { WorldFits code.now self.old }
         requires own { HasOwnToken (world_of self.old) (Event.Act from to made.now) }
         ensures answer { IsAnswer code.now self.old (Event.Act from to made.now) result self.new }
-        ensures counted { OnOk result (HasCounted to self.old.hosts self.new.hosts) }
-        ensures others { ChangesOnly to self.old.hosts self.new.hosts }
+        ensures counted { OnOk result (HasCountedCall to self.old.hosts self.new.hosts) }
+        ensures others { ChangesOnlyHost to self.old.hosts self.new.hosts }
         ensures fits { WorldFits code.now self.new }
     {
         let message = self.actable(from, to, made)?;

@@ -1,5 +1,6 @@
 -- What is left of a node's world where parts are done and where one breaks.
-use Rattle.std.proofs.Common.{◌≡◌, ◌⊎◌, inl, inr, ℕ, List, [], ◌∷◌, ◌++◌, Option, Some, None, take, drop, refl, ◌∙◌, Result}
+use Rattle.std.proofs.Common.{◌≡◌, ◌⊎◌, inl, inr, ℕ, List, [], ◌∷◌, ◌++◌, Option, Some, None, take, drop, refl, ◌∙◌}
+use Rattle.std.proofs.Common.{Result}
 use Rattle.std.proofs.Common.{Ok, Err, sym, subst}
 use Rattle.std.specs.Prelude.{IfErr, IsErr}
 use Rattle.std.specs.Result.{IsErrAnd}
@@ -10,14 +11,15 @@ use Rattle.js_base.specs.Sink as sink
 use Rattle.js_base.specs.declared.ids.HostId.{HostId}
 use Rattle.js_base.specs.declared.status.Status.{Status}
 use Rattle.js_base.specs.declared.status.Status.TheVariants as status
-use Rattle.host_core.specs.Host.{HostShape}
+use Rattle.host_core.specs.Host.{HostState}
 use Rattle.node_links.specs.Links.{Gave, Took}
 use Rattle.node_engine.specs.declared.node_error.NodeError.{NodeError}
 use Rattle.node_engine.specs.declared.node_error.NodeError.TheVariants as node_error
-use Rattle.node_engine.specs.NodeWorlds.{Inside, NodeWorld, Part, Taking, Step, Line, Sending, do_part, do_all}
+use Rattle.node_engine.specs.NodeWorlds.{Inside, NodeWorld, NodePart, Taking, Step, Line, Sending, do_part, do_all}
 use Rattle.node_engine.specs.NodeWorlds.{Breaks, BreaksIn}
 use Rattle.node_engine.specs.Statuses.{status_of}
-use Rattle.node_engine.specs.Told.{LinksTold, JournalTold, Outside, Seen, Told, TellsOf, Takes, Does, Stops}
+use Rattle.node_engine.specs.Told.{LinksTold, JournalTold, Outside, Seen, IsAllTold, TellsOf, TakesFrame, PartsAreDone}
+use Rattle.node_engine.specs.Told.{Stops}
 use Rattle.node_engine.specs.Told.{Faults, Leaves, Rises}
 
 -- ---- what is left beside the world
@@ -66,25 +68,37 @@ line_leaves answer links old new faults = record { faults = faults; begun = refl
 
 pub line_done : (bytes : List ℕ) (inside : Inside) (there : LinksTold) (old new : JournalTold) →
     sink.Takes bytes old.taken new.taken → new.faults ≡ old.faults →
-    Does (Line bytes ∷ []) (record { inside = inside; outside = record { links = there; journal = old } })
+    PartsAreDone (Line bytes ∷ []) (record { inside = inside; outside = record { links = there; journal = old } })
     (record { inside = inside; outside = record { links = there; journal = new } })
 line_done bytes inside there old new takes still = record {
   after = λ world told.
       let put = rw told.journal_is at takes in
-      record { host_is = told.host_is; seals_is = told.seals_is; left_is = told.left_is; sent_is = told.sent_is; journal_is = put };
+      record {
+        host_is = told.host_is;
+        seals_is = told.seals_is;
+        left_is = told.left_is;
+        sent_is = told.sent_is;
+        journal_is = put;
+      };
   leaves = line_leaves status.Done there old new (refl, still);
 }
 
 -- a front of a line was put
 line_front : (bytes : List ℕ) (inside : Inside) (there : LinksTold) (old new : JournalTold) →
     TakesFront bytes old.taken new.taken → (world : NodeWorld) →
-    Told world (record { inside = inside; outside = record { links = there; journal = old } }) →
+    IsAllTold world (record { inside = inside; outside = record { links = there; journal = old } }) →
     TellsOf (λ after. (n : ℕ) × (after ≡ do_part (Line (take n bytes)) world))
     (record { inside = inside; outside = record { links = there; journal = new } })
 line_front bytes inside there old new front world told =
     let put = rw told.journal_is at front.1 in (
       do_part (Line (take front.0 bytes)) world,
-      record { host_is = told.host_is; seals_is = told.seals_is; left_is = told.left_is; sent_is = told.sent_is; journal_is = put },
+      record {
+        host_is = told.host_is;
+        seals_is = told.seals_is;
+        left_is = told.left_is;
+        sent_is = told.sent_is;
+        journal_is = put;
+      },
       (front.0, refl),
     )
 
@@ -136,8 +150,8 @@ pub record Sends (answer : Status) (old new : LinksTold) : Type 0 where
 
 frame_sent : (to : HostId) (bytes : List ℕ) (old new : LinksTold) (inside : Inside) (journal : JournalTold) →
     Took to bytes old.sent new.sent → new.left ≡ old.left → (world : NodeWorld) →
-    Told world (record { inside = inside; outside = record { links = old; journal = journal } }) →
-    Told (do_part (Sending to bytes) world)
+    IsAllTold world (record { inside = inside; outside = record { links = old; journal = journal } }) →
+    IsAllTold (do_part (Sending to bytes) world)
     (record { inside = inside; outside = record { links = new; journal = journal } })
 frame_sent to bytes old new inside journal took stays world told =
     let sent = rw told.sent_is at took in
@@ -151,7 +165,8 @@ frame_sent to bytes old new inside journal took stays world told =
 
 pub send_done : (to : HostId) (bytes : List ℕ) (old new : LinksTold) (inside : Inside) (journal : JournalTold) →
     Took to bytes old.sent new.sent → Sends status.Done old new →
-    Does (Sending to bytes ∷ []) (record { inside = inside; outside = record { links = old; journal = journal } })
+    PartsAreDone (Sending to bytes ∷ [])
+    (record { inside = inside; outside = record { links = old; journal = journal } })
     (record { inside = inside; outside = record { links = new; journal = journal } })
 send_done to bytes old new inside journal took sends = record {
   after = λ world told. frame_sent to bytes old new inside journal took sends.left world told;
@@ -161,7 +176,7 @@ send_done to bytes old new inside journal took sends = record {
 -- a frame was sent or not
 sent_or_not : (to : HostId) (bytes : List ℕ) (old new : LinksTold) (inside : Inside) (journal : JournalTold) →
     ((new.sent ≡ old.sent) ⊎ Took to bytes old.sent new.sent) → new.left ≡ old.left → (world : NodeWorld) →
-    Told world (record { inside = inside; outside = record { links = old; journal = journal } }) →
+    IsAllTold world (record { inside = inside; outside = record { links = old; journal = journal } }) →
     TellsOf (λ after. (after ≡ world) ⊎ (after ≡ do_part (Sending to bytes) world))
     (record { inside = inside; outside = record { links = new; journal = journal } })
 sent_or_not to bytes old new inside journal (inl same) stays world told = (
@@ -220,7 +235,7 @@ next_frame bytes left (Some rest) gave =
 
 pub frame_taken : (bytes : List ℕ) (old new : LinksTold) (inside : Inside) (journal : JournalTold) →
     Gave bytes old.left new.left → new.sent ≡ old.sent → new.begun ≡ old.begun → new.faults ≡ old.faults →
-    Takes bytes (record { inside = inside; outside = record { links = old; journal = journal } })
+    TakesFrame bytes (record { inside = inside; outside = record { links = old; journal = journal } })
     (record { inside = inside; outside = record { links = new; journal = journal } })
 frame_taken bytes old new inside journal gave same stays still = record {
   after = λ world told.
@@ -275,11 +290,11 @@ taking_without_memory = taking_stops node_error.OutOfMemory (λ world. refl)
 -- ---- parts in a row
 
 -- no part is done
-pub does_nothing : (there : Seen) → Does [] there there
+pub does_nothing : (there : Seen) → PartsAreDone [] there there
 does_nothing there = record { after = λ world told. told; leaves = leaves_all there.outside }
 
 -- it breaks as the first of several
-pub breaks_first : (error : NodeError) (part : Part) (parts : List Part) (old new : Seen) →
+pub breaks_first : (error : NodeError) (part : NodePart) (parts : List NodePart) (old new : Seen) →
     Stops error (part ∷ []) old new → Stops error (part ∷ parts) old new
 breaks_first error part parts old new stops = record {
   after = λ world told.
@@ -288,16 +303,16 @@ breaks_first error part parts old new stops = record {
   leaves = stops.leaves;
 }
 
-pub breaks_later : (error : NodeError) (part : Part) (parts : List Part) (old mid new : Seen) →
-    Does (part ∷ []) old mid → Stops error parts mid new → Stops error (part ∷ parts) old new
+pub breaks_later : (error : NodeError) (part : NodePart) (parts : List NodePart) (old mid new : Seen) →
+    PartsAreDone (part ∷ []) old mid → Stops error parts mid new → Stops error (part ∷ parts) old new
 breaks_later error part parts old mid new does stops = record {
   after = λ world told.
       let end = stops.after (do_part part world) (does.after world told) in (end.0, end.1, inr end.2);
   leaves = leaves_later (status_of error) old.outside mid.outside new.outside does.leaves stops.leaves;
 }
 
-pub done_later : (part : Part) (parts : List Part) (old mid new : Seen) →
-    Does (part ∷ []) old mid → Does parts mid new → Does (part ∷ parts) old new
+pub done_later : (part : NodePart) (parts : List NodePart) (old mid new : Seen) →
+    PartsAreDone (part ∷ []) old mid → PartsAreDone parts mid new → PartsAreDone (part ∷ parts) old new
 done_later part parts old mid new first others = record {
   after = λ world told. others.after (do_part part world) (first.after world told);
   leaves = leaves_later status.Done old.outside mid.outside new.outside first.leaves others.leaves;
@@ -305,34 +320,36 @@ done_later part parts old mid new first others = record {
 
 -- ---- parts behind others
 
-pub do_all_behind : (first others : List Part) (world : NodeWorld) →
+pub do_all_behind : (first others : List NodePart) (world : NodeWorld) →
     do_all (first ++ others) world ≡ do_all others (do_all first world)
 do_all_behind [] others world = refl
 do_all_behind (part ∷ first) others world = do_all_behind first others (do_part part world)
 
-breaks_behind : (error : NodeError) (first others : List Part) (world new : NodeWorld) →
+breaks_behind : (error : NodeError) (first others : List NodePart) (world new : NodeWorld) →
     BreaksIn error others (do_all first world) new → BreaksIn error (first ++ others) world new
 breaks_behind error [] others world new breaks = breaks
 breaks_behind error (part ∷ first) others world new breaks =
     inr (breaks_behind error first others (do_part part world) new breaks)
 
-breaks_before : (error : NodeError) (first others : List Part) (world new : NodeWorld) →
+breaks_before : (error : NodeError) (first others : List NodePart) (world new : NodeWorld) →
     BreaksIn error first world new → BreaksIn error (first ++ others) world new
 breaks_before error [] others world new breaks = absurd breaks
 breaks_before error (part ∷ first) others world new (inl breaks) = inl breaks
 breaks_before error (part ∷ first) others world new (inr breaks) =
     inr (breaks_before error first others (do_part part world) new breaks)
 
-pub all_done : (first others : List Part) (old mid new : Seen) → Does first old mid → Does others mid new →
-    Does (first ++ others) old new
+pub all_done : (first others : List NodePart) (old mid new : Seen) → PartsAreDone first old mid →
+    PartsAreDone others mid new →
+    PartsAreDone (first ++ others) old new
 all_done first others old mid new does did = record {
   after = λ world told.
-      subst (λ (there : NodeWorld). Told there new) (sym (do_all_behind first others world))
+      subst (λ (there : NodeWorld). IsAllTold there new) (sym (do_all_behind first others world))
       (did.after (do_all first world) (does.after world told));
   leaves = leaves_later status.Done old.outside mid.outside new.outside does.leaves did.leaves;
 }
 
-pub stops_behind : (error : NodeError) (first others : List Part) (old mid new : Seen) → Does first old mid →
+pub stops_behind : (error : NodeError) (first others : List NodePart) (old mid new : Seen) →
+    PartsAreDone first old mid →
     Stops error others mid new → Stops error (first ++ others) old new
 stops_behind error first others old mid new does stops = record {
   after = λ world told.
@@ -341,7 +358,7 @@ stops_behind error first others old mid new does stops = record {
   leaves = leaves_later (status_of error) old.outside mid.outside new.outside does.leaves stops.leaves;
 }
 
-pub stops_before : (error : NodeError) (first others : List Part) (old new : Seen) → Stops error first old new →
+pub stops_before : (error : NodeError) (first others : List NodePart) (old new : Seen) → Stops error first old new →
     Stops error (first ++ others) old new
 stops_before error first others old new stops = record {
   after = λ world told.
@@ -352,8 +369,8 @@ stops_before error first others old new stops = record {
 -- ---- a step of the host
 
 -- it is made, and leaves the seals and what is outside
-step_made : (before : Inside) (later : HostShape) (there : Outside) →
-    Does (Step later ∷ []) (record { inside = before; outside = there })
+step_made : (before : Inside) (later : HostState) (there : Outside) →
+    PartsAreDone (Step later ∷ []) (record { inside = before; outside = there })
     (record { inside = record before { host = later }; outside = there })
 step_made before later there = record {
   after = λ world told. record {
@@ -366,21 +383,22 @@ step_made before later there = record {
   leaves = leaves_all there;
 }
 
-pub step_does : (parts : List Part) (before : Inside) (later : HostShape) (there : Outside) (new : Seen) →
-    Does parts (record { inside = record before { host = later }; outside = there }) new →
-    Does (Step later ∷ parts) (record { inside = before; outside = there }) new
+pub step_does : (parts : List NodePart) (before : Inside) (later : HostState) (there : Outside) (new : Seen) →
+    PartsAreDone parts (record { inside = record before { host = later }; outside = there }) new →
+    PartsAreDone (Step later ∷ parts) (record { inside = before; outside = there }) new
 step_does parts before later there new does =
     done_later (Step later) parts _ _ new (step_made before later there) does
 
 -- a part behind it breaks
-pub step_then_stops : (error : NodeError) (parts : List Part) (before : Inside) (later : HostShape) (there : Outside)
+pub step_then_stops : (error : NodeError) (parts : List NodePart) (before : Inside) (later : HostState)
+    (there : Outside)
     (new : Seen) → Stops error parts (record { inside = record before { host = later }; outside = there }) new →
     Stops error (Step later ∷ parts) (record { inside = before; outside = there }) new
 step_then_stops error parts before later there new stops =
     breaks_later error (Step later) parts _ _ new (step_made before later there) stops
 
 -- it is not made
-pub step_stops : (parts : List Part) (before : Inside) (later outcome : HostShape) (there : Outside) →
+pub step_stops : (parts : List NodePart) (before : Inside) (later outcome : HostState) (there : Outside) →
     later ≡ before.host →
     Stops node_error.OutOfMemory (Step outcome ∷ parts) (record { inside = before; outside = there })
     (record { inside = record before { host = later }; outside = there })

@@ -8,7 +8,7 @@ use Rattle.wire_msg.specs.Spelling.{frame_bytes}
 use Rattle.node_engine.specs.declared.node_error.NodeError.{NodeError}
 use Rattle.node_seals.specs.Seals.{SealsShape, after_sealing}
 use Rattle.node_engine.specs.Serving.{after_telling, closing_from, telling}
-use Rattle.node_engine.specs.Told.{Seen, Does, Stops}
+use Rattle.node_engine.specs.Told.{Seen, PartsAreDone, Stops}
 use Rattle.node_engine.specs.Units.{frame_parts}
 use Rattle.node_engine.proofs.Breaking.{all_done, does_nothing, stops_before, stops_behind}
 
@@ -29,10 +29,10 @@ other_is_sealed me seals number other = elim (eqb_tells number me.0) [
 ]
 
 pub told_does : (me : HostId) (seals : SealsShape) (number : ℕ) (old new : Seen) → (number ≡ me.0 → ⊥) →
-    Does (frame_parts seals (record { 0 = number }) (frame_bytes me frame.Done)) old new →
-    Does (telling me seals number) old new
+    PartsAreDone (frame_parts seals (record { 0 = number }) (frame_bytes me frame.Done)) old new →
+    PartsAreDone (telling me seals number) old new
 told_does me seals number old new other does =
-    subst (λ parts. Does parts old new) (sym (other_is_told me seals number other)) does
+    subst (λ parts. PartsAreDone parts old new) (sym (other_is_told me seals number other)) does
 
 pub told_stops : (error : NodeError) (me : HostId) (seals : SealsShape) (number : ℕ) (old new : Seen) →
     (number ≡ me.0 → ⊥) →
@@ -43,7 +43,7 @@ told_stops error me seals number old new other stops =
 
 -- it is the node's own
 pub own_is_told : (me : HostId) (seals : SealsShape) (number : ℕ) (there : Seen) → number ≡ me.0 →
-    Does (telling me seals number) there there
+    PartsAreDone (telling me seals number) there there
 own_is_told me seals number there same = elim (eqb_tells number me.0) [
   | inl is ↦ rw is.0 (does_nothing there)
   | inr not ↦ absurd (not.1 same)
@@ -62,7 +62,8 @@ own_is_as_before me seals number same = elim (eqb_tells number me.0) [
 abbrev pub Completes : HostId → (count number : ℕ) → (start seals : SealsShape) → (first here : Seen) → Type 0
 Completes me count number start seals first here =
     (new : Seen) →
-    (Does (closing_from me seals number (count - number)) here new → Does (closing_from me start 0 count) first new)
+    (PartsAreDone (closing_from me seals number (count - number)) here new →
+    PartsAreDone (closing_from me start 0 count) first new)
     × ((error : NodeError) → Stops error (closing_from me seals number (count - number)) here new →
     Stops error (closing_from me start 0 count) first new)
 
@@ -74,7 +75,8 @@ next_host me seals count number lt =
     ap (closing_from me seals number) left
 
 pub goes_on_telling : (me : HostId) (count number : ℕ) (start seals behind : SealsShape) (first here next : Seen) →
-    number < count → Completes me count number start seals first here → Does (telling me seals number) here next →
+    number < count → Completes me count number start seals first here →
+    PartsAreDone (telling me seals number) here next →
     behind ≡ after_telling me seals number → Completes me count (number + 1) start behind first next
 goes_on_telling me count number start seals behind first here next lt completes does is =
     let others = closing_from me (after_telling me seals number) (number + 1) (count - (number + 1)) in
@@ -82,7 +84,7 @@ goes_on_telling me count number start seals behind first here next lt completes 
     subst (λ (s : SealsShape). Completes me count (number + 1) start s first next) (sym is)
     (λ new. (
       (λ rest. (completes new).0
-          (subst (λ parts. Does parts here new) (sym with_next)
+          (subst (λ parts. PartsAreDone parts here new) (sym with_next)
           (all_done (telling me seals number) others here next new does rest))),
       (λ error rest. (completes new).1 error
           (subst (λ parts. Stops error parts here new) (sym with_next)
@@ -99,8 +101,8 @@ stops_telling me count number start seals first here new error lt completes stop
 
 -- none is left
 pub all_told : (me : HostId) (count number : ℕ) (start seals : SealsShape) (first here : Seen) → count ≤ number →
-    Completes me count number start seals first here → Does (closing_from me start 0 count) first here
+    Completes me count number start seals first here → PartsAreDone (closing_from me start 0 count) first here
 all_told me count number start seals first here past completes =
     let none : count - number ≡ 0 = omega arith in
     (completes here).0
-    (subst (λ left. Does (closing_from me seals number left) here here) (sym none) (does_nothing here))
+    (subst (λ left. PartsAreDone (closing_from me seals number left) here here) (sym none) (does_nothing here))

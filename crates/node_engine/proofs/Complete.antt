@@ -6,7 +6,7 @@ use Rattle.js_base.specs.Counts.{Rose, last_count}
 use Rattle.js_base.specs.declared.status.Status.{Status}
 use Rattle.js_base.specs.declared.status.Status.TheVariants as status
 use Rattle.front_end.specs.Loads.{FilesChange, Told as TellsFile}
-use Rattle.front_end.specs.Stages.{Outcome, given, stopped}
+use Rattle.front_end.specs.Stages.{StageEnd, given, stopped}
 use Rattle.front_end.specs.Verdicts.{VerdictShape}
 use Rattle.node_engine.specs.ReadyNodes.{ReadyNode}
 use Rattle.node_engine.specs.Nodes.{End, HoldsNode, IsComplete, IsNodeDue, LoadedNode, NodeAnswer, OptionsAnswer}
@@ -14,7 +14,7 @@ use Rattle.node_engine.specs.Nodes.{HoldsKeys, TellsKeys, files_of}
 use Rattle.node_engine.specs.Options.{Asked, IsAsked}
 use Rattle.node_starts.specs.SourceNames.{name_of}
 use Rattle.node_engine.specs.Statuses.{IsEnded, IsServed}
-use Rattle.node_engine.specs.Told.{Faults, Names, NodeChange, Outside}
+use Rattle.node_engine.specs.Told.{Faults, JournalNames, NodeChange, Outside}
 use Rattle.node_engine.proofs.Ends.{node_served}
 
 served_ended : (answer : Status) → IsServed answer → (answer ≡ status.LinkFault → ⊥) → (answer ≡ status.OutFault → ⊥) →
@@ -78,7 +78,7 @@ keys_tell (Some name) keys holds held is there =
 -- what is known of nodes and of words
 abbrev pub OneLoaded : Type 0
 OneLoaded = (asked : Asked) (files : FilesChange) (holds : List ℕ → Option (List ℕ))
-    (first second : Outcome ReadyNode) → files.held ≡ Some holds → LoadedNode asked files first →
+    (first second : StageEnd ReadyNode) → files.held ≡ Some holds → LoadedNode asked files first →
     LoadedNode asked files second → first ≡ second
 
 abbrev pub OneAsked : Type 0
@@ -113,7 +113,8 @@ not_stopped one asked files holds node verdict there is stays below (inr loaded)
     let never : ⊥ = cc in never
 
 options_complete : OneLoaded → (asked : Asked) (files : FilesChange) (holds : List ℕ → Option (List ℕ))
-    (node : ReadyNode) (end : End) (change : NodeChange) (reaches : Names → Type 0) → HoldsNode asked holds node →
+    (node : ReadyNode) (end : End) (change : NodeChange) (reaches : JournalNames → Type 0) →
+    HoldsNode asked holds node →
     files.held ≡ Some holds → files.faults_after ≡ files.faults_before → files.faults_before < last_count →
     (end.status ≡ status.LinkFault → ⊥) → (end.status ≡ status.OutFault → ⊥) →
     OptionsAnswer asked files end change reaches → IsEnded end.status
@@ -125,7 +126,7 @@ options_complete one asked files holds node end change reaches there is stays be
     served_ended end.status (node_served asked.turns runs.0 end.status change reaches runs.2) linked put
 
 answer_complete : OneLoaded → OneAsked → (words : List (List ℕ)) (files : FilesChange) (end : End)
-    (change : NodeChange) (reaches : Names → Type 0) (asked : Asked) (node : ReadyNode)
+    (change : NodeChange) (reaches : JournalNames → Type 0) (asked : Asked) (node : ReadyNode)
     (holds : List ℕ → Option (List ℕ)) → NodeAnswer words files end change reaches → IsAsked words asked →
     files.held ≡ Some holds → HoldsNode asked holds node → files.faults_after ≡ files.faults_before →
     files.faults_before < last_count → (end.status ≡ status.LinkFault → ⊥) → (end.status ≡ status.OutFault → ⊥) →
@@ -154,7 +155,7 @@ journal_blamed answer old new faults is =
     counted.1.rose
 
 pub complete : OneLoaded → OneAsked → (words : List (List ℕ)) (files : FilesChange) (end : End)
-    (change : NodeChange) (reaches : Names → Type 0) → NodeAnswer words files end change reaches →
+    (change : NodeChange) (reaches : JournalNames → Type 0) → NodeAnswer words files end change reaches →
     Faults end.status change.old change.new → IsComplete words files end.status change.old change.new
 complete one once words files end change reaches answer faults asked node holds asks is there stays below still under
     quiet less =

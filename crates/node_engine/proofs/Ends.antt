@@ -12,19 +12,19 @@ use Rattle.front_end.specs.Refusals as refusal
 use Rattle.front_end.specs.Stages.{stopped}
 use Rattle.front_end.specs.Verdicts.{VerdictShape, Refuse, Print, verdict_shape}
 use Rattle.host_decl.specs.Hosts.{HostShape as HostRow}
-use Rattle.node_engine.specs.Beginnings.{Beginning, BeginsNothing, EndsUnbegun, HasBegun}
+use Rattle.node_engine.specs.Beginnings.{NodeBeginning, BeginsNothing, EndsUnbegun, HasBegun}
 use Rattle.node_engine.specs.Nodes.{End, IsEndOf, IsNodeDue, OptionsAnswer, RunsNode, beginning_of, end_of}
 use Rattle.node_engine.specs.Nodes.{inside_at_start}
 use Rattle.node_engine.specs.NodeWorlds.{Inside}
 use Rattle.node_engine.specs.Options.{Asked}
 use Rattle.node_engine.specs.ReadyNodes.{ReadyNode}
 use Rattle.node_engine.specs.Statuses.{IsServed}
-use Rattle.node_engine.specs.Told.{Faults, Leaves, Names, NodeChange, Outside, ServesFrom}
+use Rattle.node_engine.specs.Told.{Faults, Leaves, JournalNames, NodeChange, Outside, ServesFrom}
 
 -- ---- refusals
 
 pub stopped_answer : (asked : Asked) (files : FilesChange) (why : Stop) (end : End) (change : NodeChange)
-    (reaches : Names → Type 0) → StopsWith (λ verdict. IsNodeDue asked files (stopped verdict)) why →
+    (reaches : JournalNames → Type 0) → StopsWith (λ verdict. IsNodeDue asked files (stopped verdict)) why →
     IsEndOf why end → BeginsNothing change → OptionsAnswer asked files end change reaches
 stopped_answer asked files stop.OutOfMemory end change reaches stops is nothing = inl (inl is, nothing)
 stopped_answer asked files (stop.Due verdict) end change reaches stops is nothing =
@@ -70,7 +70,7 @@ stopped_calmly (stop.Due verdict) end there is =
 
 -- ---- nodes that begin
 
-served_early : (start : Beginning) (answer : Status) (change : NodeChange) → EndsUnbegun start answer change →
+served_early : (start : NodeBeginning) (answer : Status) (change : NodeChange) → EndsUnbegun start answer change →
     IsServed answer
 served_early start answer change (inl nothing) = subst IsServed (sym nothing.0) tt
 served_early start answer change (inr (inl breaks)) = elim breaks.by [
@@ -82,27 +82,29 @@ served_early start answer change (inr (inr breaks)) = elim breaks.by [
   | inr fault ↦ subst IsServed (sym fault) tt
 ]
 
-pub node_served : (turns : ℕ) (node : ReadyNode) (answer : Status) (change : NodeChange) (reaches : Names → Type 0) →
+pub node_served : (turns : ℕ) (node : ReadyNode) (answer : Status) (change : NodeChange)
+    (reaches : JournalNames → Type 0) →
     RunsNode turns node answer change reaches → IsServed answer
 node_served turns node answer change reaches (row, is, inl early) =
     served_early (beginning_of node.start row) answer change early
 node_served turns node answer change reaches (row, is, inr serves) = serves.served
 
 -- memory ran out before it was to begin
-pub never_begun : (turns : ℕ) (node : ReadyNode) (row : HostRow) (change : NodeChange) (reaches : Names → Type 0) →
+pub never_begun : (turns : ℕ) (node : ReadyNode) (row : HostRow) (change : NodeChange)
+    (reaches : JournalNames → Type 0) →
     slice_get node.start.source.hosts.hosts node.start.me.0 ≡ Some row → BeginsNothing change →
     RunsNode turns node status.NoMemory change reaches
 never_begun turns node row change reaches is nothing = (row, is, inl (inl (refl, nothing)))
 
 -- it was to begin, and broke
 pub broke_early : (turns : ℕ) (node : ReadyNode) (row : HostRow) (answer : Status) (change : NodeChange)
-    (reaches : Names → Type 0) → slice_get node.start.source.hosts.hosts node.start.me.0 ≡ Some row →
+    (reaches : JournalNames → Type 0) → slice_get node.start.source.hosts.hosts node.start.me.0 ≡ Some row →
     EndsUnbegun (beginning_of node.start row) answer change → RunsNode turns node answer change reaches
 broke_early turns node row answer change reaches is early = (row, is, inl early)
 
 -- it began, and served
 pub served_begun : (turns : ℕ) (node : ReadyNode) (row : HostRow) (answer : Status) (begun : NodeChange)
-    (new : Outside) (after : Names) (reaches : Names → Type 0) (inside later : Inside) →
+    (new : Outside) (after : JournalNames) (reaches : JournalNames → Type 0) (inside later : Inside) →
     slice_get node.start.source.hosts.hosts node.start.me.0 ≡ Some row → HasBegun (beginning_of node.start row) begun →
     reaches begun.names_after → inside ≡ inside_at_start node row →
     IsServed answer →

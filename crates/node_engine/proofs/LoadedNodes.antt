@@ -9,7 +9,7 @@ use Rattle.front_end.specs.declared.load.Loaded.{Loaded}
 use Rattle.front_end.specs.declared.stop.Stop.{Stop}
 use Rattle.front_end.specs.Loading.{EndsAs, IsLoaded, StopsWith}
 use Rattle.front_end.specs.Loads.{FilesChange, LoadsWell}
-use Rattle.front_end.specs.Stages.{Outcome, Then, given, stopped}
+use Rattle.front_end.specs.Stages.{StageEnd, Then, given, stopped}
 use Rattle.front_end.proofs.LoadedFiles.{given_file}
 use Rattle.front_end.proofs.Stages.{stops_weaker}
 use Rattle.front_end.proofs.Stops.{GivesAsked}
@@ -29,8 +29,8 @@ use Rattle.node_starts.specs.SourceNames.{name_of}
 
 -- ---- files that were loaded
 
-ends_wider : (P Q : Outcome ReadyNode → Type 0) (result : Result native_ready.ReadyNode Stop) →
-    ((end : Outcome ReadyNode) → P end → Q end) → EndsAs ready_node P result → EndsAs ready_node Q result
+ends_wider : (P Q : StageEnd ReadyNode → Type 0) (result : Result native_ready.ReadyNode Stop) →
+    ((end : StageEnd ReadyNode) → P end → Q end) → EndsAs ready_node P result → EndsAs ready_node Q result
 ends_wider P Q (Ok node) wider ends = wider (given (ready_node node)) ends
 ends_wider P Q (Err why) wider ends =
     stops_weaker (λ verdict. P (stopped verdict)) (λ verdict. Q (stopped verdict)) why

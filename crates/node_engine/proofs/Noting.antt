@@ -9,18 +9,20 @@ use Rattle.js_base.specs.declared.status.Status.{Status}
 use Rattle.host_code.specs.declared.message.Message.{Message}
 use Rattle.host_code.specs.Code.{CodeShape}
 use Rattle.host_code.specs.Thread.{ThreadShape}
-use Rattle.host_core.specs.Host.{HostShape, Outcome}
+use Rattle.host_core.specs.Host.{HostState, Outcome}
 use Rattle.node_seals.specs.declared.arrivals.Arrival.{Arrival}
 use Rattle.node_seals.specs.declared.arrivals.Arrival.TheVariants as arrival
 use Rattle.node_engine.specs.declared.node_error.NodeError.{NodeError}
 use Rattle.node_engine.specs.declared.node_error.NodeError.TheVariants as node_error
 use Rattle.node_engine.specs.JournalLines.{turn_line}
-use Rattle.node_engine.specs.NodeWorlds.{Inside, NodeWorld, Part, Taking, Opening, Step, Hearing, Line, Sealing}
+use Rattle.node_engine.specs.NodeWorlds.{Inside, NodeWorld, NodePart, Taking, Opening, Step, Hearing, Line, Sealing}
 use Rattle.node_engine.specs.NodeWorlds.{Sending, do_part, do_all, Breaks, BreaksIn, inside_of}
-use Rattle.node_engine.specs.Notes.{HostStep, IsHostStep, IsNoted, IsPartOfLine, Makes, Note, note_line, note_lines}
+use Rattle.node_engine.specs.Notes.{HostStep, IsNodeStep, IsNoted, IsPartOfLine, MakesHostSteps, Note, note_line}
+use Rattle.node_engine.specs.Notes.{note_lines}
 use Rattle.node_engine.specs.Notes.{done, dropped, sent, steps_told, step_told, take_from, took, turn, turned}
 use Rattle.node_seals.specs.Seals.{Opened, SealsShape, as_they_are, refused, unsealed, string_for}
-use Rattle.node_engine.specs.Serving.{Closes, EndsAt, Serves, Stage, after_telling, closing_from, closing_parts, stage_of}
+use Rattle.node_engine.specs.Serving.{Closes, EndsAt, Serves, Stage, after_telling, closing_from, closing_parts}
+use Rattle.node_engine.specs.Serving.{stage_of}
 use Rattle.node_engine.specs.Serving.{is_told, halts, goes_on, telling}
 use Rattle.node_engine.specs.Units.{AreArrivalParts, AreTakingParts, AreUnitPartsOf}
 use Rattle.node_engine.specs.Units.{frame_parts, opening_parts, out_parts, sending_parts, step_parts}
@@ -40,9 +42,11 @@ steps_append (note ∷ first) others =
     ap (λ (rest : List HostStep). step_told note ++ rest) (steps_append first others)
     ∙ sym (append_assoc (step_told note) (steps_told first) (steps_told others))
 
-makes_append : (code : CodeShape) (first others : List HostStep) (host mid later : HostShape) →
-    Makes code host first mid → Makes code mid others later → Makes code host (first ++ others) later
-makes_append code [] others host mid later one two = subst (λ (h : HostShape). Makes code h others later) one two
+makes_append : (code : CodeShape) (first others : List HostStep) (host mid later : HostState) →
+    MakesHostSteps code host first mid → MakesHostSteps code mid others later →
+    MakesHostSteps code host (first ++ others) later
+makes_append code [] others host mid later one two = subst (λ (h : HostState). MakesHostSteps code h others later) one
+    two
 makes_append code (step ∷ first) others host mid later one two =
     (one.0, one.1, makes_append code first others one.0.state mid later one.2 two)
 
@@ -53,12 +57,12 @@ nothing_cut code = (turned, 0, omega arith, refl)
 -- ---- between two moments
 
 -- the journal took these lines and nothing else, and the host made the steps that they tell
-record IsExact (code : CodeShape) (host later : HostShape) (before after : List ℕ) : Type 0 where
+record IsExact (code : CodeShape) (host later : HostState) (before after : List ℕ) : Type 0 where
   notes : List Note
   journal_is : after ≡ before ++ note_lines code notes
-  made : Makes code host (steps_told notes) later
+  made : MakesHostSteps code host (steps_told notes) later
 
-exact_then : (code : CodeShape) (host mid later : HostShape) (before between after : List ℕ) →
+exact_then : (code : CodeShape) (host mid later : HostState) (before between after : List ℕ) →
     IsExact code host mid before between → IsNoted code mid later between after →
     IsNoted code host later before after
 exact_then code host mid later before between after one two = record {
@@ -86,7 +90,7 @@ exact_then code host mid later before between after one two = record {
 }
 
 -- nothing more was done
-noted_nothing : (code : CodeShape) (host later : HostShape) (before after : List ℕ) → later ≡ host → after ≡ before →
+noted_nothing : (code : CodeShape) (host later : HostState) (before after : List ℕ) → later ≡ host → after ≡ before →
     IsNoted code host later before after
 noted_nothing code host later before after same still = record {
   notes = [];
@@ -101,7 +105,7 @@ noted_nothing code host later before after same still = record {
 -- ---- parts without a step
 
 -- none of the parts is a step, and their lines have these notes, which tell none
-abbrev IsPlain : CodeShape → List Part → List Note → Type 0
+abbrev IsPlain : CodeShape → List NodePart → List Note → Type 0
 IsPlain code [] notes = notes ≡ []
 IsPlain code (Taking ∷ parts) notes = IsPlain code parts notes
 IsPlain code (Opening from ∷ parts) notes = IsPlain code parts notes
@@ -180,7 +184,7 @@ line_at node_error.OutOfMemory bytes world new at = at
 line_at node_error.LinkFault bytes world new at = absurd at
 line_at node_error.OutFault bytes world new at = at
 
-step_at : (error : NodeError) (host : HostShape) (world new : NodeWorld) → Breaks error (Step host) world new →
+step_at : (error : NodeError) (host : HostState) (world new : NodeWorld) → Breaks error (Step host) world new →
     new ≡ world
 step_at node_error.OutOfMemory host world new at = at
 step_at node_error.LinkFault host world new at = absurd at
@@ -231,7 +235,7 @@ sent_still code to bytes world new (inr same) = (
   adds_nothing code world.journal new.journal (ap (λ (it : NodeWorld). it.journal) same),
 )
 
-plain_breaks : (code : CodeShape) (error : NodeError) (parts : List Part) (notes : List Note) →
+plain_breaks : (code : CodeShape) (error : NodeError) (parts : List NodePart) (notes : List Note) →
     IsPlain code parts notes → (world new : NodeWorld) → BreaksIn error parts world new → IsStill code world new
 plain_breaks code error [] notes plain world new breaks = absurd breaks
 plain_breaks code error (Taking ∷ parts) notes plain world new (inl at) =
@@ -266,7 +270,7 @@ plain_breaks code error (Sending to bytes ∷ parts) notes plain world new (inr 
     plain_breaks code error parts notes plain (do_part (Sending to bytes) world) new later
 
 -- all of them are done
-plain_done : (code : CodeShape) (parts : List Part) (notes : List Note) → IsPlain code parts notes →
+plain_done : (code : CodeShape) (parts : List NodePart) (notes : List Note) → IsPlain code parts notes →
     (world : NodeWorld) →
     ((do_all parts world).host ≡ world.host)
     × ((do_all parts world).journal ≡ world.journal ++ note_lines code notes) × (steps_told notes ≡ [])
@@ -300,28 +304,28 @@ plain_done code (Sending to bytes ∷ parts) notes plain world =
 -- ---- parts with a step, which has its line
 
 -- the parts are a step with its line, and plain ones behind it
-record IsStepped (code : CodeShape) (host : HostShape) (parts : List Part) : Type 0 where
+record IsStepped (code : CodeShape) (host : HostState) (parts : List NodePart) : Type 0 where
   note : Note
   step : HostStep
   outcome : Outcome
-  others : List Part
+  others : List NodePart
   notes : List Note
   parts_are : parts ≡ Step outcome.state ∷ Line (note_line code note) ∷ others
   tells : step_told note ≡ step ∷ []
-  made : IsHostStep code host step outcome
+  made : IsNodeStep code host step outcome
   plain : IsPlain code others notes
 
-abbrev IsKnown : CodeShape → HostShape → List Part → Type 0
+abbrev IsKnown : CodeShape → HostState → List NodePart → Type 0
 IsKnown code host parts = ((notes : List Note) × IsPlain code parts notes) ⊎ IsStepped code host parts
 
-one_step : (code : CodeShape) (host : HostShape) (step : HostStep) (outcome : Outcome) (later : HostShape) →
-    IsHostStep code host step outcome → later ≡ outcome.state → Makes code host (step ∷ []) later
+one_step : (code : CodeShape) (host : HostState) (step : HostStep) (outcome : Outcome) (later : HostState) →
+    IsNodeStep code host step outcome → later ≡ outcome.state → MakesHostSteps code host (step ∷ []) later
 one_step code host step outcome later made same = (outcome, made, same)
 
-stepped_exact : (code : CodeShape) (parts : List Part) (world : NodeWorld) → IsStepped code world.host parts →
+stepped_exact : (code : CodeShape) (parts : List NodePart) (world : NodeWorld) → IsStepped code world.host parts →
     IsExact code world.host (do_all parts world).host world.journal (do_all parts world).journal
 stepped_exact code parts world known =
-    subst (λ (them : List Part).
+    subst (λ (them : List NodePart).
     IsExact code world.host (do_all them world).host world.journal (do_all them world).journal)
     (sym known.parts_are)
     (let behind : NodeWorld =
@@ -334,13 +338,14 @@ stepped_exact code parts world known =
       notes = known.note ∷ known.notes;
       journal_is = others.1
           ∙ append_assoc world.journal (note_line code known.note) (note_lines code known.notes);
-      made = subst (λ (them : List HostStep). Makes code world.host them (do_all known.others behind).host) (sym steps)
+      made = subst (λ (them : List HostStep). MakesHostSteps code world.host them (do_all known.others behind).host)
+          (sym steps)
           (one_step code world.host known.step known.outcome (do_all known.others behind).host known.made others.0);
     })
 
 -- the line of the step broke: it was put whole, or it tells one step too few
-cut_noted : (code : CodeShape) (note : Note) (step : HostStep) (outcome : Outcome) (host later : HostShape) (n : ℕ)
-    (before after : List ℕ) → step_told note ≡ step ∷ [] → IsHostStep code host step outcome →
+cut_noted : (code : CodeShape) (note : Note) (step : HostStep) (outcome : Outcome) (host later : HostState) (n : ℕ)
+    (before after : List ℕ) → step_told note ≡ step ∷ [] → IsNodeStep code host step outcome →
     later ≡ outcome.state → after ≡ before ++ take n (note_line code note) →
     IsNoted code host later before after
 cut_noted code note step outcome host later n before after tells made same is = elim (part_or_all code note n) [
@@ -367,8 +372,8 @@ cut_noted code note step outcome host later n before after tells made same is = 
 ]
 
 -- something behind the line of the step broke
-behind_noted : (code : CodeShape) (note : Note) (step : HostStep) (outcome : Outcome) (host later : HostShape)
-    (before after : List ℕ) → step_told note ≡ step ∷ [] → IsHostStep code host step outcome →
+behind_noted : (code : CodeShape) (note : Note) (step : HostStep) (outcome : Outcome) (host later : HostState)
+    (before after : List ℕ) → step_told note ≡ step ∷ [] → IsNodeStep code host step outcome →
     later ≡ outcome.state → AddsLines code (before ++ note_line code note) after →
     IsNoted code host later before after
 behind_noted code note step outcome host later before after tells made same adds = record {
@@ -387,8 +392,8 @@ behind_noted code note step outcome host later before after tells made same adds
 }
 
 stepped_breaks : (code : CodeShape) (error : NodeError) (note : Note) (step : HostStep) (outcome : Outcome)
-    (others : List Part) (notes : List Note) (world new : NodeWorld) → step_told note ≡ step ∷ [] →
-    IsHostStep code world.host step outcome → IsPlain code others notes →
+    (others : List NodePart) (notes : List Note) (world new : NodeWorld) → step_told note ≡ step ∷ [] →
+    IsNodeStep code world.host step outcome → IsPlain code others notes →
     BreaksIn error (Step outcome.state ∷ Line (note_line code note) ∷ others) world new →
     IsNoted code world.host new.host world.journal new.journal
 stepped_breaks code error note step outcome others notes world new tells made plain (inl at) =
@@ -406,14 +411,15 @@ stepped_breaks code error note step outcome others notes world new tells made pl
 
 -- ---- parts that are known
 
-known_exact : (code : CodeShape) (parts : List Part) (world : NodeWorld) → IsKnown code world.host parts →
+known_exact : (code : CodeShape) (parts : List NodePart) (world : NodeWorld) → IsKnown code world.host parts →
     IsExact code world.host (do_all parts world).host world.journal (do_all parts world).journal
 known_exact code parts world (inl plain) =
     let all = plain_done code parts plain.0 plain.1 world in
     record {
       notes = plain.0;
       journal_is = all.1;
-      made = subst (λ (them : List HostStep). Makes code world.host them (do_all parts world).host) (sym all.2) all.0;
+      made = subst (λ (them : List HostStep). MakesHostSteps code world.host them (do_all parts world).host) (sym all.2)
+          all.0;
     }
 known_exact code parts world (inr stepped) = stepped_exact code parts world stepped
 
@@ -429,14 +435,14 @@ still_noted code world new still = record {
   told = inl (sym still.1.none);
 }
 
-known_breaks : (code : CodeShape) (error : NodeError) (parts : List Part) (world new : NodeWorld) →
+known_breaks : (code : CodeShape) (error : NodeError) (parts : List NodePart) (world new : NodeWorld) →
     IsKnown code world.host parts → BreaksIn error parts world new →
     IsNoted code world.host new.host world.journal new.journal
 known_breaks code error parts world new (inl plain) breaks =
     still_noted code world new (plain_breaks code error parts plain.0 plain.1 world new breaks)
 known_breaks code error parts world new (inr known) breaks =
     stepped_breaks code error known.note known.step known.outcome known.others known.notes world new known.tells
-    known.made known.plain (subst (λ (them : List Part). BreaksIn error them world new) known.parts_are breaks)
+    known.made known.plain (subst (λ (them : List NodePart). BreaksIn error them world new) known.parts_are breaks)
 
 -- ---- the parts of a unit
 
@@ -458,7 +464,7 @@ sending_plain code me seals (Some it) =
     (sent it.0 it.1 ∷ [], frame_plain code seals it.0 _ (sent it.0 it.1) refl)
 
 step_known : (code : CodeShape) (me : HostId) (inside : Inside) (note : Note) (step : HostStep) (outcome : Outcome)
-    (parts : List Part) → step_told note ≡ step ∷ [] → IsHostStep code inside.host step outcome →
+    (parts : List NodePart) → step_told note ≡ step ∷ [] → IsNodeStep code inside.host step outcome →
     parts ≡ step_parts code me inside.seals (note_line code note) outcome → IsStepped code inside.host parts
 step_known code me inside note step outcome parts tells made is =
     let plain = sending_plain code me inside.seals outcome.sent in
@@ -479,25 +485,25 @@ hearing_plain : (code : CodeShape) (from : HostId) (is_root : Bool) →
 hearing_plain code from true = (done from, [], refl, refl, refl, refl)
 hearing_plain code from false = (done from, [], refl, refl, refl, refl)
 
-arrival_known : (code : CodeShape) (me : HostId) (inside : Inside) (it : Arrival) (parts : List Part) →
+arrival_known : (code : CodeShape) (me : HostId) (inside : Inside) (it : Arrival) (parts : List NodePart) →
     AreArrivalParts code me inside it parts → IsKnown code inside.host parts
 arrival_known code me inside (arrival.Dropped why) parts are =
     inl (
       dropped why ∷ [],
-      subst (λ (them : List Part). IsPlain code them (dropped why ∷ [])) (sym are)
+      subst (λ (them : List NodePart). IsPlain code them (dropped why ∷ [])) (sym are)
           (dropped why, [], refl, refl, refl, refl),
     )
 arrival_known code me inside (arrival.Done from) parts are =
     inl (
       done from ∷ [],
-      subst (λ (them : List Part). IsPlain code them (done from ∷ [])) (sym are)
+      subst (λ (them : List NodePart). IsPlain code them (done from ∷ [])) (sym are)
           (hearing_plain code from (from.0 == code.root.0)),
     )
 arrival_known code me inside (arrival.Taken from message) parts are =
     inr (step_known code me inside (took from message) (take_from from message) are.0 parts refl are.1 are.2)
 
 -- what was taken is opened first
-opened_exact : (code : CodeShape) (opened : Opened) (others : List Part) (world : NodeWorld) →
+opened_exact : (code : CodeShape) (opened : Opened) (others : List NodePart) (world : NodeWorld) →
     IsKnown code world.host others →
     let after = do_all (opening_parts opened ++ others) world in
     IsExact code world.host after.host world.journal after.journal
@@ -506,11 +512,12 @@ opened_exact code refused others world known = known_exact code others world kno
 opened_exact code (unsealed from frame) others world known =
     known_exact code others (do_part (Opening from) world) known
 
-opened_breaks : (code : CodeShape) (error : NodeError) (opened : Opened) (others : List Part)
+opened_breaks : (code : CodeShape) (error : NodeError) (opened : Opened) (others : List NodePart)
     (world new : NodeWorld) → IsKnown code world.host others →
     BreaksIn error (opening_parts opened ++ others) world new →
     IsNoted code world.host new.host world.journal new.journal
-opened_breaks code error as_they_are others world new known breaks = known_breaks code error others world new known breaks
+opened_breaks code error as_they_are others world new known breaks = known_breaks code error others world new known
+    breaks
 opened_breaks code error refused others world new known breaks = known_breaks code error others world new known breaks
 opened_breaks code error (unsealed from frame) others world new known (inl at) =
     still_noted code world new (same_still code world new (opening_at error from world new at))
@@ -518,19 +525,20 @@ opened_breaks code error (unsealed from frame) others world new known (inr later
     known_breaks code error others (do_part (Opening from) world) new known later
 
 -- the parts are a taking, and behind it an opening and parts that are known
-abbrev IsTaken : CodeShape → HostShape → List Part → Type 0
+abbrev IsTaken : CodeShape → HostState → List NodePart → Type 0
 IsTaken code host parts =
-    (opened : Opened) × (others : List Part) × IsKnown code host others
+    (opened : Opened) × (others : List NodePart) × IsKnown code host others
     × (parts ≡ Taking ∷ (opening_parts opened ++ others))
 
-taking_exact : (code : CodeShape) (parts : List Part) (world : NodeWorld) → IsTaken code world.host parts →
+taking_exact : (code : CodeShape) (parts : List NodePart) (world : NodeWorld) → IsTaken code world.host parts →
     IsExact code world.host (do_all parts world).host world.journal (do_all parts world).journal
 taking_exact code parts world (opened, others, known, is) =
-    subst (λ (them : List Part).
+    subst (λ (them : List NodePart).
     IsExact code world.host (do_all them world).host world.journal (do_all them world).journal) (sym is)
     (opened_exact code opened others (do_part Taking world) known)
 
-after_taking : (code : CodeShape) (error : NodeError) (opened : Opened) (others : List Part) (world new : NodeWorld) →
+after_taking : (code : CodeShape) (error : NodeError) (opened : Opened) (others : List NodePart)
+    (world new : NodeWorld) →
     IsKnown code world.host others → BreaksIn error (Taking ∷ (opening_parts opened ++ others)) world new →
     IsNoted code world.host new.host world.journal new.journal
 after_taking code error opened others world new known (inl at) =
@@ -538,27 +546,28 @@ after_taking code error opened others world new known (inl at) =
 after_taking code error opened others world new known (inr later) =
     opened_breaks code error opened others (do_part Taking world) new known later
 
-taking_breaks : (code : CodeShape) (error : NodeError) (parts : List Part) (world new : NodeWorld) →
+taking_breaks : (code : CodeShape) (error : NodeError) (parts : List NodePart) (world new : NodeWorld) →
     IsTaken code world.host parts → BreaksIn error parts world new →
     IsNoted code world.host new.host world.journal new.journal
 taking_breaks code error parts world new (opened, others, known, is) breaks =
     after_taking code error opened others world new known
-    (subst (λ (them : List Part). BreaksIn error them world new) is breaks)
+    (subst (λ (them : List NodePart). BreaksIn error them world new) is breaks)
 
 -- the parts where no thread runs
-are_taken : (code : CodeShape) (me : HostId) (inside : Inside) (left : List (List ℕ)) (parts : List Part) →
+are_taken : (code : CodeShape) (me : HostId) (inside : Inside) (left : List (List ℕ)) (parts : List NodePart) →
     AreTakingParts code me inside left parts → IsTaken code inside.host parts
 are_taken code me inside [] parts are = (as_they_are, [], inl ([], refl), are)
 are_taken code me inside (bytes ∷ left) parts are =
     (_, are.1, arrival_known code me _ are.0 are.1 are.3, are.4)
 
-turn_known : (code : CodeShape) (me : HostId) (inside : Inside) (parts : List Part) (outcome : Outcome) →
-    IsHostStep code inside.host turn outcome → parts ≡ step_parts code me inside.seals turn_line outcome →
+turn_known : (code : CodeShape) (me : HostId) (inside : Inside) (parts : List NodePart) (outcome : Outcome) →
+    IsNodeStep code inside.host turn outcome → parts ≡ step_parts code me inside.seals turn_line outcome →
     IsKnown code inside.host parts
 turn_known code me inside parts outcome made is =
     inr (step_known code me inside turned turn outcome parts refl made is)
 
-unit_exact : (code : CodeShape) (me : HostId) (world : NodeWorld) (running : Option ThreadShape) (parts : List Part) →
+unit_exact : (code : CodeShape) (me : HostId) (world : NodeWorld) (running : Option ThreadShape)
+    (parts : List NodePart) →
     AreUnitPartsOf code me world running parts →
     IsExact code world.host (do_all parts world).host world.journal (do_all parts world).journal
 unit_exact code me world None parts are =
@@ -567,7 +576,7 @@ unit_exact code me world (Some thread) parts are =
     known_exact code parts world (turn_known code me (inside_of world) parts are.0 are.1 are.2)
 
 unit_breaks : (code : CodeShape) (me : HostId) (error : NodeError) (world new : NodeWorld)
-    (running : Option ThreadShape) (parts : List Part) → AreUnitPartsOf code me world running parts →
+    (running : Option ThreadShape) (parts : List NodePart) → AreUnitPartsOf code me world running parts →
     BreaksIn error parts world new → IsNoted code world.host new.host world.journal new.journal
 unit_breaks code me error world new None parts are breaks =
     taking_breaks code error parts world new (are_taken code me (inside_of world) world.left parts are) breaks
@@ -576,7 +585,7 @@ unit_breaks code me error world new (Some thread) parts are breaks =
 
 -- ---- the closing frames
 
-plain_append : (code : CodeShape) (first others : List Part) → IsPlain code first [] → IsPlain code others [] →
+plain_append : (code : CodeShape) (first others : List NodePart) → IsPlain code first [] → IsPlain code others [] →
     IsPlain code (first ++ others) []
 plain_append code [] others one two = two
 plain_append code (Taking ∷ first) others one two = plain_append code first others one two

@@ -4,7 +4,7 @@ use Rattle.std.proofs.Common.{sym, ◌∙◌}
 use Rattle.std.proofs.Common.{subst, None, Result, Ok, Err}
 use Rattle.js_base.proofs.Options.{some_same}
 use Rattle.front_end.specs.Loads.{FilesChange, Told}
-use Rattle.front_end.specs.Stages.{Outcome}
+use Rattle.front_end.specs.Stages.{StageEnd}
 use Rattle.front_end.proofs.Stages.{IsOne, one_then}
 use Rattle.node_seals.specs.declared.seals_file.SealsError.{SealsError}
 use Rattle.node_seals.specs.declared.seals_file.SealsError.TheVariants as error
@@ -70,7 +70,7 @@ keys_once holds held None first second is one two = one ∙ sym two
 keys_once holds held (Some name) first second is one two = told_once holds held name first second is one two
 
 pub loaded_once : OneSources → (asked : Asked) (files : FilesChange) (holds : List ℕ → Option (List ℕ))
-    (first second : Outcome ReadyNode) → files.held ≡ Some holds → LoadedNode asked files first →
+    (first second : StageEnd ReadyNode) → files.held ≡ Some holds → LoadedNode asked files first →
     LoadedNode asked files second → first ≡ second
 loaded_once laws asked files holds first second is one two =
     let source = told_once holds files.held (name_of asked.source) one.source two.source is one.source_told

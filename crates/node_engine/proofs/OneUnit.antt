@@ -13,7 +13,7 @@ use Rattle.node_seals.specs.declared.arrivals.Arrival.{Arrival}
 use Rattle.node_seals.specs.declared.arrivals.Arrival.TheVariants as arrival
 use Rattle.node_seals.specs.Arrivals.{ArrivesAs, ArrivesFrom, ArrivesOpened}
 use Rattle.node_engine.specs.JournalLines.{take_line, turn_line}
-use Rattle.node_engine.specs.NodeWorlds.{Inside, NodeWorld, Part, Taking, inside_of}
+use Rattle.node_engine.specs.NodeWorlds.{Inside, NodeWorld, NodePart, Taking, inside_of}
 use Rattle.node_seals.specs.Seals.{Opened, as_they_are, refused, unsealed, opened_of}
 use Rattle.node_engine.specs.Units.{AreArrivalParts, AreTakingParts, AreTurnParts, AreUnitParts, AreUnitPartsOf}
 use Rattle.node_engine.specs.Units.{inside_opened, opening_parts, step_parts}
@@ -48,7 +48,7 @@ one_arrival code me bytes (unsealed from frame) first second one two =
 
 -- ---- parts
 
-one_of_arrival : (code : CodeShape) (me : HostId) (inside : Inside) (it : Arrival) (first second : List Part) →
+one_of_arrival : (code : CodeShape) (me : HostId) (inside : Inside) (it : Arrival) (first second : List NodePart) →
     AreArrivalParts code me inside it first → AreArrivalParts code me inside it second → first ≡ second
 one_of_arrival code me inside (arrival.Dropped why) first second one two = one ∙ sym two
 one_of_arrival code me inside (arrival.Done from) first second one two = one ∙ sym two
@@ -58,7 +58,8 @@ one_of_arrival code me inside (arrival.Taken from message) first second one two 
     (one_taking code inside.host from message one.0 two.0 one.1 two.1)
     ∙ sym two.2
 
-one_of_taking : (code : CodeShape) (me : HostId) (inside : Inside) (left : List (List ℕ)) (first second : List Part) →
+one_of_taking : (code : CodeShape) (me : HostId) (inside : Inside) (left : List (List ℕ))
+    (first second : List NodePart) →
     AreTakingParts code me inside left first → AreTakingParts code me inside left second → first ≡ second
 one_of_taking code me inside [] first second one two = one ∙ sym two
 one_of_taking code me inside (bytes ∷ left) first second one two =
@@ -67,22 +68,24 @@ one_of_taking code me inside (bytes ∷ left) first second one two =
     let same : one.0 ≡ two.0 = one_arrival code me bytes opened one.0 two.0 one.2 two.2 in
     let others = one_of_arrival code me behind two.0 one.1 two.1
     (subst (λ it. AreArrivalParts code me behind it one.1) same one.3) two.3 in
-    one.4 ∙ ap (λ (parts : List Part). Taking ∷ (opening_parts opened ++ parts)) others ∙ sym two.4
+    one.4 ∙ ap (λ (parts : List NodePart). Taking ∷ (opening_parts opened ++ parts)) others ∙ sym two.4
 
-one_of_turn : (code : CodeShape) (me : HostId) (inside : Inside) (first second : List Part) →
+one_of_turn : (code : CodeShape) (me : HostId) (inside : Inside) (first second : List NodePart) →
     AreTurnParts code me inside first → AreTurnParts code me inside second → first ≡ second
 one_of_turn code me inside first second one two =
     one.2
-    ∙ ap (step_parts code me inside.seals turn_line) (one_turn_of code inside.host inside.host.running one.0 two.0 one.1 two.1)
+    ∙ ap (step_parts code me inside.seals turn_line)
+    (one_turn_of code inside.host inside.host.running one.0 two.0 one.1 two.1)
     ∙ sym two.2
 
 one_of_unit : (code : CodeShape) (me : HostId) (world : NodeWorld) (running : Option ThreadShape)
-    (first second : List Part) → AreUnitPartsOf code me world running first →
+    (first second : List NodePart) → AreUnitPartsOf code me world running first →
     AreUnitPartsOf code me world running second → first ≡ second
 one_of_unit code me world None first second one two =
     one_of_taking code me (inside_of world) world.left first second one two
-one_of_unit code me world (Some thread) first second one two = one_of_turn code me (inside_of world) first second one two
+one_of_unit code me world (Some thread) first second one two = one_of_turn code me (inside_of world) first second one
+    two
 
-pub one_parts : (code : CodeShape) (me : HostId) (world : NodeWorld) (first second : List Part) →
+pub one_parts : (code : CodeShape) (me : HostId) (world : NodeWorld) (first second : List NodePart) →
     AreUnitParts code me world first → AreUnitParts code me world second → first ≡ second
 one_parts code me world first second one two = one_of_unit code me world world.host.running first second one two

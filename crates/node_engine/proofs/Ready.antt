@@ -4,7 +4,7 @@ use Rattle.host_code.specs.Code.{CodeShape}
 use Rattle.host_core.specs.Fits.{HostFits}
 use Rattle.host_core.specs.Host.{HostModel}
 use Rattle.node_engine.specs.declared.node.Node.{Node}
-use Rattle.node_engine.specs.Told.{HasSameHost, IsReady, IsSameNode}
+use Rattle.node_engine.specs.Told.{HasSameHost, IsNodeReady, IsSameNode}
 
 pub same_later : {L R : Type 0} (old mid new : Node L R) → IsSameNode old mid → IsSameNode mid new →
     IsSameNode old new
@@ -25,7 +25,7 @@ same_host_later old mid new one two = record {
 }
 
 -- a node is ready yet whose host did not change
-pub ready_later : {L R : Type 0} (mid new : Node L R) → HasSameHost mid new → IsReady mid → IsReady new
+pub ready_later : {L R : Type 0} (mid new : Node L R) → HasSameHost mid new → IsNodeReady mid → IsNodeReady new
 ready_later mid new same ready = record {
   fits = subst (λ (code : CodeShape). HostFits code new.host.now) (sym same.node.code)
       (subst (λ (host : HostModel). HostFits mid.code.now host) (sym same.host_is) ready.fits);

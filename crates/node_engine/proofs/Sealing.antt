@@ -1,25 +1,25 @@
 -- What is left of a node where frames are sealed and opened.
 use Rattle.std.proofs.Common.{◌≡◌, ◌∙◌, ℕ, List, [], ◌∷◌, Some, None, inl, refl, sym, ap, subst}
 use Rattle.js_base.specs.declared.ids.HostId.{HostId}
-use Rattle.host_core.specs.Host.{HostShape}
+use Rattle.host_core.specs.Host.{HostState}
 use Rattle.node_engine.specs.declared.node_error.NodeError.{NodeError}
 use Rattle.node_engine.specs.declared.node_error.NodeError.TheVariants as node_error
 use Rattle.node_engine.specs.NodeWorlds.{NodeWorld, Sending, do_all}
 use Rattle.node_seals.specs.Seals.{Opened, SealsShape, as_they_are, refused, unsealed, after_opened}
 use Rattle.node_seals.specs.Seals.{after_opening, after_sealing}
 use Rattle.node_seals.specs.Seals.{string_for}
-use Rattle.node_engine.specs.Told.{Does, Outside, Seen, Stops}
+use Rattle.node_engine.specs.Told.{PartsAreDone, Outside, Seen, Stops}
 use Rattle.node_engine.specs.Units.{frame_parts, opening_parts, out_parts, sealing_parts}
 use Rattle.node_engine.proofs.Breaking.{all_done, does_nothing, leaves_all, leaves_without_memory, stops_behind}
 
 -- a node with this host and these seals
-abbrev with_seals : HostShape → SealsShape → Outside → Seen
+abbrev with_seals : HostState → SealsShape → Outside → Seen
 with_seals host seals there = record { inside = record { host = host; seals = seals }; outside = there }
 
 -- ---- sealing
 
-sealing_made : (seals : SealsShape) (to : HostId) (host : HostShape) (there : Outside) →
-    Does (sealing_parts seals to) (with_seals host seals there) (with_seals host (after_sealing to seals) there)
+sealing_made : (seals : SealsShape) (to : HostId) (host : HostState) (there : Outside) →
+    PartsAreDone (sealing_parts seals to) (with_seals host seals there) (with_seals host (after_sealing to seals) there)
 sealing_made None to host there = does_nothing (with_seals host None there)
 sealing_made (Some links) to host there = record {
   after = λ world told. record {
@@ -33,19 +33,19 @@ sealing_made (Some links) to host there = record {
 }
 
 -- what goes out for a frame is sent
-pub frame_does : (seals after : SealsShape) (to : HostId) (frame bytes : List ℕ) (host : HostShape) (there : Outside)
+pub frame_does : (seals after : SealsShape) (to : HostId) (frame bytes : List ℕ) (host : HostState) (there : Outside)
     (new : Seen) → after ≡ after_sealing to seals → Some bytes ≡ string_for seals to frame →
-    Does (Sending to bytes ∷ []) (with_seals host after there) new →
-    Does (frame_parts seals to frame) (with_seals host seals there) new
+    PartsAreDone (Sending to bytes ∷ []) (with_seals host after there) new →
+    PartsAreDone (frame_parts seals to frame) (with_seals host seals there) new
 frame_does seals after to frame bytes host there new raised is does =
     all_done (sealing_parts seals to) (out_parts to (string_for seals to frame)) _
     (with_seals host (after_sealing to seals) there) new (sealing_made seals to host there)
-    (subst (λ out. Does (out_parts to out) (with_seals host (after_sealing to seals) there) new) is
-    (subst (λ s. Does (Sending to bytes ∷ []) (with_seals host s there) new) raised does))
+    (subst (λ out. PartsAreDone (out_parts to out) (with_seals host (after_sealing to seals) there) new) is
+    (subst (λ s. PartsAreDone (Sending to bytes ∷ []) (with_seals host s there) new) raised does))
 
 -- or breaks
 pub frame_stops : (error : NodeError) (seals after : SealsShape) (to : HostId) (frame bytes : List ℕ)
-    (host : HostShape) (there : Outside) (new : Seen) → after ≡ after_sealing to seals →
+    (host : HostState) (there : Outside) (new : Seen) → after ≡ after_sealing to seals →
     Some bytes ≡ string_for seals to frame →
     Stops error (Sending to bytes ∷ []) (with_seals host after there) new →
     Stops error (frame_parts seals to frame) (with_seals host seals there) new
@@ -56,19 +56,20 @@ frame_stops error seals after to frame bytes host there new raised is stops =
     (subst (λ s. Stops error (Sending to bytes ∷ []) (with_seals host s there) new) raised stops))
 
 -- nothing goes out for it
-pub frame_kept : (seals after : SealsShape) (to : HostId) (frame : List ℕ) (host : HostShape) (there : Outside) →
+pub frame_kept : (seals after : SealsShape) (to : HostId) (frame : List ℕ) (host : HostState) (there : Outside) →
     after ≡ after_sealing to seals → None ≡ string_for seals to frame →
-    Does (frame_parts seals to frame) (with_seals host seals there) (with_seals host after there)
+    PartsAreDone (frame_parts seals to frame) (with_seals host seals there) (with_seals host after there)
 frame_kept seals after to frame host there raised is =
-    subst (λ s. Does (frame_parts seals to frame) (with_seals host seals there) (with_seals host s there)) (sym raised)
+    subst (λ s. PartsAreDone (frame_parts seals to frame) (with_seals host seals there) (with_seals host s there))
+    (sym raised)
     (all_done (sealing_parts seals to) (out_parts to (string_for seals to frame)) _
     (with_seals host (after_sealing to seals) there) _ (sealing_made seals to host there)
     (subst (λ out.
-    Does (out_parts to out) (with_seals host (after_sealing to seals) there)
+    PartsAreDone (out_parts to out) (with_seals host (after_sealing to seals) there)
     (with_seals host (after_sealing to seals) there)) is (does_nothing _)))
 
 -- it is not made, or not sealed
-pub frame_unmade : (seals : SealsShape) (to : HostId) (frame : List ℕ) (host : HostShape) (there : Outside) →
+pub frame_unmade : (seals : SealsShape) (to : HostId) (frame : List ℕ) (host : HostState) (there : Outside) →
     Stops node_error.OutOfMemory (frame_parts seals to frame) (with_seals host seals there)
     (with_seals host seals there)
 frame_unmade None to frame host there = record {
@@ -80,7 +81,7 @@ frame_unmade (Some links) to frame host there = record {
   leaves = leaves_without_memory there;
 }
 
-pub frame_unsealed : (seals after : SealsShape) (to : HostId) (frame : List ℕ) (host : HostShape) (there : Outside) →
+pub frame_unsealed : (seals after : SealsShape) (to : HostId) (frame : List ℕ) (host : HostState) (there : Outside) →
     after ≡ seals →
     Stops node_error.OutOfMemory (frame_parts seals to frame) (with_seals host seals there)
     (with_seals host after there)
@@ -91,8 +92,9 @@ frame_unsealed seals after to frame host there same =
 
 -- ---- opening
 
-opening_made : (opened : Opened) (seals : SealsShape) (host : HostShape) (there : Outside) →
-    Does (opening_parts opened) (with_seals host seals there) (with_seals host (after_opened opened seals) there)
+opening_made : (opened : Opened) (seals : SealsShape) (host : HostState) (there : Outside) →
+    PartsAreDone (opening_parts opened) (with_seals host seals there)
+    (with_seals host (after_opened opened seals) there)
 opening_made as_they_are seals host there = does_nothing (with_seals host seals there)
 opening_made refused seals host there = does_nothing (with_seals host seals there)
 opening_made (unsealed from frame) seals host there = record {
@@ -106,14 +108,14 @@ opening_made (unsealed from frame) seals host there = record {
   leaves = leaves_all there;
 }
 
-pub opening_does : (opened : Opened) (seals after : SealsShape) (host : HostShape) (there : Outside) →
+pub opening_does : (opened : Opened) (seals after : SealsShape) (host : HostState) (there : Outside) →
     after ≡ after_opened opened seals →
-    Does (opening_parts opened) (with_seals host seals there) (with_seals host after there)
+    PartsAreDone (opening_parts opened) (with_seals host seals there) (with_seals host after there)
 opening_does opened seals after host there is =
-    subst (λ s. Does (opening_parts opened) (with_seals host seals there) (with_seals host s there)) (sym is)
+    subst (λ s. PartsAreDone (opening_parts opened) (with_seals host seals there) (with_seals host s there)) (sym is)
     (opening_made opened seals host there)
 
-pub opening_stops : (opened : Opened) (from : HostId) (frame : List ℕ) (seals after : SealsShape) (host : HostShape)
+pub opening_stops : (opened : Opened) (from : HostId) (frame : List ℕ) (seals after : SealsShape) (host : HostState)
     (there : Outside) → opened ≡ unsealed from frame → after ≡ seals →
     Stops node_error.OutOfMemory (opening_parts opened) (with_seals host seals there) (with_seals host after there)
 opening_stops opened from frame seals after host there is same =

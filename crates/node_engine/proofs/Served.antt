@@ -7,11 +7,11 @@ use Rattle.js_base.specs.declared.status.Status.{Status}
 use Rattle.js_base.specs.declared.status.Status.TheVariants as status
 use Rattle.host_code.specs.Code.{CodeShape}
 use Rattle.node_engine.specs.declared.node_error.NodeError.{NodeError}
-use Rattle.node_engine.specs.NodeWorlds.{NodeWorld, Part, do_all, BreaksIn}
+use Rattle.node_engine.specs.NodeWorlds.{NodeWorld, NodePart, do_all, BreaksIn}
 use Rattle.node_engine.specs.Statuses.{status_of}
 use Rattle.node_engine.specs.Serving.{Closes, EndsAt, Serves, StopsIn, has_ended, stage_by, stage_of}
 use Rattle.node_engine.specs.Serving.{is_told, halts, goes_on}
-use Rattle.node_engine.specs.Told.{Seen, Told, TellsOf}
+use Rattle.node_engine.specs.Told.{Seen, IsAllTold, TellsOf}
 use Rattle.node_engine.specs.Units.{AreUnitParts, IsUnit}
 
 -- ---- how it ends
@@ -21,7 +21,7 @@ NoUnits answer world new = (answer ≡ status.Spent) × (new ≡ world)
 
 abbrev MoreUnits : CodeShape → HostId → ℕ → Status → NodeWorld → NodeWorld → Type 0
 MoreUnits code me units answer world new =
-    (parts : List Part) × AreUnitParts code me world parts
+    (parts : List NodePart) × AreUnitParts code me world parts
     × (StopsIn answer parts world new ⊎ (IsUnit world × Serves code me units answer (do_all parts world) new))
 
 ends_halted : (code : CodeShape) (me : HostId) (answer : Status) (world new : NodeWorld) (Otherwise : Type 0) →
@@ -50,14 +50,14 @@ serves_spent code me world stage =
     (refl, refl)
 
 serves_broken : (code : CodeShape) (me : HostId) (units : ℕ) (answer : Status) (world new : NodeWorld)
-    (parts : List Part) → stage_of code me world ≡ goes_on → AreUnitParts code me world parts →
+    (parts : List NodePart) → stage_of code me world ≡ goes_on → AreUnitParts code me world parts →
     StopsIn answer parts world new → Serves code me (suc units) answer world new
 serves_broken code me units answer world new parts stage are stops =
     subst (λ it. EndsAt code me it answer world new (MoreUnits code me units answer world new)) (sym stage)
     (parts, are, inl stops)
 
 serves_more : (code : CodeShape) (me : HostId) (units : ℕ) (answer : Status) (world new : NodeWorld)
-    (parts : List Part) → stage_of code me world ≡ goes_on → AreUnitParts code me world parts → IsUnit world →
+    (parts : List NodePart) → stage_of code me world ≡ goes_on → AreUnitParts code me world parts → IsUnit world →
     Serves code me units answer (do_all parts world) new → Serves code me (suc units) answer world new
 serves_more code me units answer world new parts stage are unit serves =
     subst (λ it. EndsAt code me it answer world new (MoreUnits code me units answer world new)) (sym stage)
@@ -66,7 +66,7 @@ serves_more code me units answer world new parts stage are unit serves =
 -- ---- the stage of a world that is told
 
 stage_is : (code : CodeShape) (me : HostId) (world : NodeWorld) (there : Seen) (ended : Bool) →
-    Told world there → world.ended ≡ false → ended ≡ has_ended code me there.inside.host →
+    IsAllTold world there → world.ended ≡ false → ended ≡ has_ended code me there.inside.host →
     stage_of code me world ≡ stage_by false ended
 stage_is code me world there ended told not_yet is =
     ap₂ stage_by not_yet (ap (has_ended code me) (sym told.host_is) ∙ sym is)
@@ -76,26 +76,26 @@ stage_is code me world there ended told not_yet is =
 -- Whatever follows from here in the units that are left follows in all of them from the start.
 abbrev pub ServesOn : CodeShape → HostId → (units done : ℕ) → (old here : Seen) → Type 0
 ServesOn code me units done old here =
-    (world : NodeWorld) → Told world old → world.ended ≡ false →
-    (now : NodeWorld) × Told now here × (now.ended ≡ false)
+    (world : NodeWorld) → IsAllTold world old → world.ended ≡ false →
+    (now : NodeWorld) × IsAllTold now here × (now.ended ≡ false)
     × ((answer : Status) (new : NodeWorld) → Serves code me (units - done) answer now new →
     Serves code me units answer world new)
 
 -- what a unit leaves, and what breaks one
 abbrev UnitDone : CodeShape → HostId → (here there : Seen) → Bool → Type 0
 UnitDone code me here there ended =
-    (world : NodeWorld) → Told world here → world.ended ≡ false →
-    (parts : List Part) × AreUnitParts code me world parts × IsUnit world × Told (do_all parts world) there
+    (world : NodeWorld) → IsAllTold world here → world.ended ≡ false →
+    (parts : List NodePart) × AreUnitParts code me world parts × IsUnit world × IsAllTold (do_all parts world) there
     × ((do_all parts world).ended ≡ ended)
 
 abbrev UnitBroken : CodeShape → HostId → (here there : Seen) → NodeError → Type 0
 UnitBroken code me here there error =
-    (world : NodeWorld) → Told world here →
-    (parts : List Part) × AreUnitParts code me world parts × TellsOf (BreaksIn error parts world) there
+    (world : NodeWorld) → IsAllTold world here →
+    (parts : List NodePart) × AreUnitParts code me world parts × TellsOf (BreaksIn error parts world) there
 
 abbrev Ends : CodeShape → HostId → ℕ → Status → (old there : Seen) → Type 0
 Ends code me units answer old there =
-    (world : NodeWorld) → Told world old → world.ended ≡ false → TellsOf (Serves code me units answer world) there
+    (world : NodeWorld) → IsAllTold world old → world.ended ≡ false → TellsOf (Serves code me units answer world) there
 
 -- of the code and the number of a node that are the same yet
 pub same_unit : (code own : CodeShape) (me my : HostId) (here there : Seen) (ended : Bool) → own ≡ code → my ≡ me →
@@ -165,7 +165,7 @@ ends_broken code me units done old here there error answer lt on goes is unit wo
 -- the closing frames, of the node's code and number
 abbrev Closing : CodeShape → HostId → Status → (here there : Seen) → Type 0
 Closing code me answer here there =
-    (world : NodeWorld) → Told world here → TellsOf (Closes code me answer world) there
+    (world : NodeWorld) → IsAllTold world here → TellsOf (Closes code me answer world) there
 
 pub same_closing : (code own : CodeShape) (me my : HostId) (answer : Status) (here there : Seen) → own ≡ code →
     my ≡ me → Closing own my answer here there → Closing code me answer here there

@@ -13,7 +13,7 @@ use Rattle.host_code.specs.Messages.{AreOfCode, MessageFits}
 use Rattle.host_code.specs.Riders.{Rider}
 use Rattle.host_code.specs.Sound.{IsOther}
 use Rattle.host_code.specs.Thread.{ThreadShape}
-use Rattle.host_core.specs.Host.{HostShape, Outcome}
+use Rattle.host_core.specs.Host.{HostState, Outcome}
 use Rattle.host_core.specs.Taking.{IsTaking}
 use Rattle.host_core.specs.Turn.{IsTurn}
 use Rattle.wire_msg.specs.declared.error.WireError.{WireError}
@@ -28,12 +28,12 @@ use Rattle.node_engine.specs.declared.node_error.NodeError.{NodeError}
 use Rattle.node_seals.specs.declared.arrivals.DropReason.TheVariants as dropped
 use Rattle.node_seals.specs.Arrivals.{IsForNode, Arrives, ArrivesAs, ArrivesFrom, ArrivesOpened, arrival_of}
 use Rattle.node_engine.specs.JournalLines.{turn_line, take_line, send_line, done_line, drop_line}
-use Rattle.node_engine.specs.NodeWorlds.{Inside, NodeWorld, Part, Taking, Hearing, Line, Sealing, do_part, do_all}
+use Rattle.node_engine.specs.NodeWorlds.{Inside, NodeWorld, NodePart, Taking, Hearing, Line, Sealing, do_part, do_all}
 use Rattle.node_engine.specs.NodeWorlds.{inside_of}
 use Rattle.node_seals.specs.Seals.{Opened, SealsShape, as_they_are, refused, unsealed, opened_of, string_for}
 use Rattle.node_engine.specs.declared.node.Node.{Node}
 use Rattle.node_engine.specs.Statuses.{status_of}
-use Rattle.node_engine.specs.Told.{Seen, Told, Takes, Does, DoesUnit, Stops, StopsUnit}
+use Rattle.node_engine.specs.Told.{Seen, IsAllTold, TakesFrame, PartsAreDone, DoesUnit, Stops, StopsUnit}
 use Rattle.node_engine.specs.Units.{AreUnitParts, AreUnitPartsOf, AreTurnParts, AreTakingParts, AreArrivalParts}
 use Rattle.node_engine.specs.Units.{IsUnit}
 use Rattle.node_engine.specs.Units.{frame_parts, hearing_parts, inside_opened, opening_parts, out_parts}
@@ -61,18 +61,18 @@ sending_keeps code me seals (Some sent) world =
     frame_keeps seals sent.0 (frame_bytes me (frame.Message sent.1)) (send_line code sent.0 sent.1) world
 
 pub step_keeps : (code : CodeShape) (me : HostId) (seals : SealsShape) (line : List ℕ) (outcome : Outcome)
-    (parts : List Part) (world : NodeWorld) → parts ≡ step_parts code me seals line outcome →
+    (parts : List NodePart) (world : NodeWorld) → parts ≡ step_parts code me seals line outcome →
     (do_all parts world).ended ≡ world.ended
 step_keeps code me seals line outcome parts world is =
     rw is (sending_keeps code me seals outcome.sent
     (record world { host = outcome.state; journal = world.journal ++ line }))
 
 -- the word of a host that may be the root's
-abbrev hearing : Bool → List ℕ → List Part
+abbrev hearing : Bool → List ℕ → List NodePart
 hearing is_root line = (if is_root then Hearing ∷ [] else []) ++ Line line ∷ []
 
 -- a world is told alike once the root's word is heard
-heard_alike : (world : NodeWorld) (there : Seen) → Told world there → Told (do_part Hearing world) there
+heard_alike : (world : NodeWorld) (there : Seen) → IsAllTold world there → IsAllTold (do_part Hearing world) there
 heard_alike world there told = record {
   host_is = told.host_is;
   seals_is = told.seals_is;
@@ -81,8 +81,8 @@ heard_alike world there told = record {
   journal_is = told.journal_is;
 }
 
-pub heard_does : (is_root : Bool) (line : List ℕ) (old new : Seen) → Does (Line line ∷ []) old new →
-    Does (hearing is_root line) old new
+pub heard_does : (is_root : Bool) (line : List ℕ) (old new : Seen) → PartsAreDone (Line line ∷ []) old new →
+    PartsAreDone (hearing is_root line) old new
 heard_does true line old new does = record {
   after = λ world told. does.after (do_part Hearing world) (heard_alike world old told);
   leaves = does.leaves;
@@ -116,41 +116,41 @@ a_thread (Some thread) runs = refl
 same_inside : (there : Inside) (world : NodeWorld) → there.host ≡ world.host → there.seals ≡ world.seals →
     there ≡ inside_of world
 same_inside there world host seals =
-    ap₂ (λ (h : HostShape) (s : SealsShape). record { host = h; seals = s }) host seals
+    ap₂ (λ (h : HostState) (s : SealsShape). record { host = h; seals = s }) host seals
 
-unit_of_taking : (code : CodeShape) (me : HostId) (world : NodeWorld) (there : Inside) (parts : List Part) →
+unit_of_taking : (code : CodeShape) (me : HostId) (world : NodeWorld) (there : Inside) (parts : List NodePart) →
     there.host ≡ world.host → there.seals ≡ world.seals → there.host.running ≡ None →
     AreTakingParts code me there world.left parts → AreUnitParts code me world parts
 unit_of_taking code me world there parts same seals rests are =
-    let none : world.host.running ≡ None = ap (λ (h : HostShape). h.running) (sym same) ∙ rests in
+    let none : world.host.running ≡ None = ap (λ (h : HostState). h.running) (sym same) ∙ rests in
     let inside : there ≡ inside_of world = same_inside there world same seals in
     subst (λ running. AreUnitPartsOf code me world running parts) (sym none)
     (subst (λ it. AreTakingParts code me it world.left parts) inside are)
 
-turn_of : (code : CodeShape) (me : HostId) (world : NodeWorld) (running : Option ThreadShape) (parts : List Part) →
+turn_of : (code : CodeShape) (me : HostId) (world : NodeWorld) (running : Option ThreadShape) (parts : List NodePart) →
     world.host.running ≡ running → IsSome running → AreTurnParts code me (inside_of world) parts →
     AreUnitParts code me world parts
 turn_of code me world None parts is some are = absurd (false≢true some)
 turn_of code me world (Some thread) parts is some are =
     subst (λ running. AreUnitPartsOf code me world running parts) (sym is) are
 
-unit_of_turn : (code : CodeShape) (me : HostId) (world : NodeWorld) (there : Inside) (parts : List Part) →
+unit_of_turn : (code : CodeShape) (me : HostId) (world : NodeWorld) (there : Inside) (parts : List NodePart) →
     there.host ≡ world.host → there.seals ≡ world.seals → IsSome there.host.running →
     AreTurnParts code me there parts → AreUnitParts code me world parts
 unit_of_turn code me world there parts same seals runs are =
     let inside : there ≡ inside_of world = same_inside there world same seals in
-    turn_of code me world there.host.running parts (ap (λ (h : HostShape). h.running) (sym same)) runs
+    turn_of code me world there.host.running parts (ap (λ (h : HostState). h.running) (sym same)) runs
     (subst (λ it. AreTurnParts code me it parts) inside are)
 
-runs_is_unit : (world : NodeWorld) (host : HostShape) → host ≡ world.host → IsSome host.running → IsUnit world
+runs_is_unit : (world : NodeWorld) (host : HostState) → host ≡ world.host → IsSome host.running → IsUnit world
 runs_is_unit world host same runs none =
-    let nothing : host.running ≡ None = ap (λ (h : HostShape). h.running) same ∙ none in
+    let nothing : host.running ≡ None = ap (λ (h : HostState). h.running) same ∙ none in
     absurd (false≢true (subst IsSome nothing runs))
 
 -- a thread runs, and its instruction is done
-pub turn_does : {L R : Type 0} (node : Node L R) (parts : List Part) (outcome : Outcome) (old new : Seen) →
+pub turn_does : {L R : Type 0} (node : Node L R) (parts : List NodePart) (outcome : Outcome) (old new : Seen) →
     IsSome old.inside.host.running → IsTurn node.code.now old.inside.host outcome →
-    parts ≡ step_parts node.code.now node.me old.inside.seals turn_line outcome → Does parts old new →
+    parts ≡ step_parts node.code.now node.me old.inside.seals turn_line outcome → PartsAreDone parts old new →
     DoesUnit false node old new
 turn_does node parts outcome old new runs turn is does = record {
   after = λ world told not_yet. (
@@ -164,7 +164,7 @@ turn_does node parts outcome old new runs turn is does = record {
 }
 
 -- or breaks
-pub turn_stops : {L R : Type 0} (error : NodeError) (node : Node L R) (parts : List Part) (outcome : Outcome)
+pub turn_stops : {L R : Type 0} (error : NodeError) (node : Node L R) (parts : List NodePart) (outcome : Outcome)
     (old new : Seen) → IsSome old.inside.host.running → IsTurn node.code.now old.inside.host outcome →
     parts ≡ step_parts node.code.now node.me old.inside.seals turn_line outcome → Stops error parts old new →
     StopsUnit error node old new
@@ -180,11 +180,11 @@ turn_stops error node parts outcome old new runs turn is stops = record {
 -- ---- a frame that is taken
 
 -- the parts of a unit that takes these bytes and does so behind the opening
-abbrev taken_parts : SealsShape → List ℕ → List Part → List Part
+abbrev taken_parts : SealsShape → List ℕ → List NodePart → List NodePart
 taken_parts seals bytes parts = Taking ∷ (opening_parts (opened_of seals bytes) ++ parts)
 
 -- they are the parts of the unit
-are_taken : (code : CodeShape) (me : HostId) (bytes : List ℕ) (it : Arrival) (there : Inside) (parts : List Part)
+are_taken : (code : CodeShape) (me : HostId) (bytes : List ℕ) (it : Arrival) (there : Inside) (parts : List NodePart)
     (world : NodeWorld) (rest : List (List ℕ)) → there.host ≡ world.host → there.seals ≡ world.seals →
     there.host.running ≡ None → world.left ≡ bytes ∷ rest → Arrives code me there.seals bytes it →
     AreArrivalParts code me (inside_opened (opened_of there.seals bytes) there) it parts →
@@ -196,11 +196,11 @@ are_taken code me bytes it there parts world rest host seals rests left arrives 
 
 -- what comes of them is told of the node as it was before the taking, which left what is inside
 pub record IsOpened {L R : Type 0} (node : Node L R) (bytes : List ℕ) (it : Arrival) (old mid opened : Seen)
-    (parts : List Part) : Type 0 where
+    (parts : List NodePart) : Type 0 where
   pub rests : old.inside.host.running ≡ None
-  pub takes : Takes bytes old mid
+  pub takes : TakesFrame bytes old mid
   pub same : mid.inside ≡ old.inside
-  pub opens : Does (opening_parts (opened_of mid.inside.seals bytes)) mid opened
+  pub opens : PartsAreDone (opening_parts (opened_of mid.inside.seals bytes)) mid opened
   pub arrives : Arrives node.code.now node.me mid.inside.seals bytes it
   pub inside : opened.inside ≡ inside_opened (opened_of mid.inside.seals bytes) mid.inside
   pub are : AreArrivalParts node.code.now node.me opened.inside it parts
@@ -210,7 +210,7 @@ same_opened : (bytes : List ℕ) (old mid : Seen) → mid.inside ≡ old.inside 
 same_opened bytes old mid same = ap (λ (i : Inside). opened_of i.seals bytes) same
 
 opened_parts : {L R : Type 0} (node : Node L R) (bytes : List ℕ) (it : Arrival) (old mid opened : Seen)
-    (parts : List Part) → IsOpened node bytes it old mid opened parts → (world : NodeWorld) → Told world old →
+    (parts : List NodePart) → IsOpened node bytes it old mid opened parts → (world : NodeWorld) → IsAllTold world old →
     AreUnitParts node.code.now node.me world (taken_parts old.inside.seals bytes parts)
 opened_parts node bytes it old mid opened parts is world told =
     let left = (is.takes.after world told).1 in
@@ -221,11 +221,13 @@ opened_parts node bytes it old mid opened parts is world told =
     (subst (λ (i : Inside). AreArrivalParts node.code.now node.me i it parts) inside is.are)
 
 pub taking_does : {L R : Type 0} (node : Node L R) (bytes : List ℕ) (it : Arrival) (old mid opened new : Seen)
-    (parts : List Part) (ended : Bool) → IsOpened node bytes it old mid opened parts → Does parts opened new →
+    (parts : List NodePart) (ended : Bool) → IsOpened node bytes it old mid opened parts →
+    PartsAreDone parts opened new →
     ((world : NodeWorld) → world.ended ≡ false → (do_all parts world).ended ≡ ended) → DoesUnit ended node old new
 taking_does node bytes it old mid opened new parts ended is does hears =
     let first = opening_parts (opened_of old.inside.seals bytes) in
-    let opens = subst (λ (o : Opened). Does (opening_parts o) mid opened) (same_opened bytes old mid is.same) is.opens
+    let opens = subst (λ (o : Opened). PartsAreDone (opening_parts o) mid opened) (same_opened bytes old mid is.same)
+    is.opens
     in
     record {
       after = λ world told not_yet.
@@ -234,7 +236,7 @@ taking_does node bytes it old mid opened new parts ended is does hears =
             taken_parts old.inside.seals bytes parts,
             opened_parts node bytes it old mid opened parts is world told,
             (λ none empty. let left = taken.1.1 in let never : ⊥ = cc in never),
-            subst (λ (after : NodeWorld). Told after new) (sym behind)
+            subst (λ (after : NodeWorld). IsAllTold after new) (sym behind)
                 (does.after (do_all first (do_part Taking world)) (opens.after (do_part Taking world) taken.0)),
             ap (λ (after : NodeWorld). after.ended) behind
                 ∙ hears (do_all first (do_part Taking world))
@@ -246,11 +248,12 @@ taking_does node bytes it old mid opened new parts ended is does hears =
 
 -- what is done behind the opening breaks
 pub taking_stops_later : {L R : Type 0} (error : NodeError) (node : Node L R) (bytes : List ℕ) (it : Arrival)
-    (old mid opened new : Seen) (parts : List Part) → IsOpened node bytes it old mid opened parts →
+    (old mid opened new : Seen) (parts : List NodePart) → IsOpened node bytes it old mid opened parts →
     Stops error parts opened new → StopsUnit error node old new
 taking_stops_later error node bytes it old mid opened new parts is stops =
     let first = opening_parts (opened_of old.inside.seals bytes) in
-    let opens = subst (λ (o : Opened). Does (opening_parts o) mid opened) (same_opened bytes old mid is.same) is.opens
+    let opens = subst (λ (o : Opened). PartsAreDone (opening_parts o) mid opened) (same_opened bytes old mid is.same)
+    is.opens
     in
     let all = stops_behind error first parts mid opened new opens stops in
     record {
@@ -265,7 +268,7 @@ taking_stops_later error node bytes it old mid opened new parts is stops =
 
 -- the opening breaks
 pub opening_stops : {L R : Type 0} (error : NodeError) (node : Node L R) (bytes : List ℕ) (it : Arrival)
-    (old mid new : Seen) (parts : List Part) → old.inside.host.running ≡ None → Takes bytes old mid →
+    (old mid new : Seen) (parts : List NodePart) → old.inside.host.running ≡ None → TakesFrame bytes old mid →
     mid.inside ≡ old.inside → Stops error (opening_parts (opened_of mid.inside.seals bytes)) mid new →
     Arrives node.code.now node.me old.inside.seals bytes it →
     AreArrivalParts node.code.now node.me (inside_opened (opened_of old.inside.seals bytes) old.inside) it parts →
@@ -291,7 +294,7 @@ opening_stops error node bytes it old mid new parts rests takes same stops arriv
 pub taking_stops_first : {L R : Type 0} (error : NodeError) (node : Node L R) (old new : Seen) →
     old.inside.host.running ≡ None → Stops error (Taking ∷ []) old new →
     ((left : List (List ℕ)) →
-    (others : List Part) × AreTakingParts node.code.now node.me old.inside left (Taking ∷ others)) →
+    (others : List NodePart) × AreTakingParts node.code.now node.me old.inside left (Taking ∷ others)) →
     StopsUnit error node old new
 taking_stops_first error node old new rests stops some = record {
   after = λ world told.
@@ -366,14 +369,14 @@ some_arrival code me seals bytes = arrives_opened code me bytes (opened_of seals
 
 -- from any state taking any message leaves something, and so does a turn
 abbrev TakingLeaves : Type 0
-TakingLeaves = (code : CodeShape) (state : HostShape) (from : HostId) (message : Message) →
+TakingLeaves = (code : CodeShape) (state : HostState) (from : HostId) (message : Message) →
     (outcome : Outcome) × IsTaking code state from message outcome
 
 abbrev TurnLeaves : Type 0
-TurnLeaves = (code : CodeShape) (state : HostShape) → (outcome : Outcome) × IsTurn code state outcome
+TurnLeaves = (code : CodeShape) (state : HostState) → (outcome : Outcome) × IsTurn code state outcome
 
 pub arrival_parts : TakingLeaves → (code : CodeShape) (me : HostId) (inside : Inside) (it : Arrival) →
-    (parts : List Part) × AreArrivalParts code me inside it parts
+    (parts : List NodePart) × AreArrivalParts code me inside it parts
 arrival_parts leaves code me inside (arrival.Dropped why) = (Line (drop_line why) ∷ [], refl)
 arrival_parts leaves code me inside (arrival.Done from) =
     (hearing_parts code from ++ Line (done_line code from) ∷ [], refl)
@@ -382,7 +385,7 @@ arrival_parts leaves code me inside (arrival.Taken from message) =
     (step_parts code me inside.seals (take_line code from message) some.0, (some.0, some.1, refl))
 
 pub some_taking : TakingLeaves → (code : CodeShape) (me : HostId) (inside : Inside) (left : List (List ℕ)) →
-    (others : List Part) × AreTakingParts code me inside left (Taking ∷ others)
+    (others : List NodePart) × AreTakingParts code me inside left (Taking ∷ others)
 some_taking leaves code me inside [] = ([], refl)
 some_taking leaves code me inside (bytes ∷ left) =
     let opened = opened_of inside.seals bytes in
@@ -392,7 +395,7 @@ some_taking leaves code me inside (bytes ∷ left) =
 
 parts_of : TakingLeaves → TurnLeaves → (code : CodeShape) (me : HostId) (world : NodeWorld)
     (running : Option ThreadShape) → world.host.running ≡ running →
-    (parts : List Part) × AreUnitParts code me world parts
+    (parts : List NodePart) × AreUnitParts code me world parts
 parts_of takes turns code me world None is =
     let some = some_taking takes code me (inside_of world) world.left in (
       Taking ∷ some.0,
@@ -406,5 +409,5 @@ parts_of takes turns code me world (Some thread) is =
     )
 
 pub some_parts : TakingLeaves → TurnLeaves → (code : CodeShape) (me : HostId) (world : NodeWorld) →
-    (parts : List Part) × AreUnitParts code me world parts
+    (parts : List NodePart) × AreUnitParts code me world parts
 some_parts takes turns code me world = parts_of takes turns code me world world.host.running refl

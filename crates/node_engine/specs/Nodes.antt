@@ -10,12 +10,12 @@ use Rattle.front_end.specs.declared.stop.Stop.{Stop}
 use Rattle.front_end.specs.declared.stop.Stop.TheVariants as stop
 use Rattle.front_end.specs.Loading.{StopsLoading}
 use Rattle.front_end.specs.Loads.{FilesChange, LoadsWell, Told as TellsFile}
-use Rattle.front_end.specs.Stages.{Outcome, given, stopped}
+use Rattle.front_end.specs.Stages.{StageEnd, given, stopped}
 use Rattle.front_end.specs.Refusals.{RefusalShape, refusal_shape, refusal_status}
 use Rattle.front_end.specs.Verdicts.{VerdictShape, Refuse, Print, verdict_shape}
-use Rattle.node_links.specs.Journals.{Named}
+use Rattle.node_links.specs.Journals.{JournalIsNamed}
 use Rattle.node_engine.specs.declared.node_end.NodeEnd as native
-use Rattle.node_engine.specs.Beginnings.{Beginning, BeginsNothing, EndsUnbegun, LinksBegan}
+use Rattle.node_engine.specs.Beginnings.{NodeBeginning, BeginsNothing, EndsUnbegun, LinksBegan}
 use Rattle.node_starts.specs.NodeSources.{NodeStart}
 use Rattle.node_engine.specs.ReadyNodes.{ReadyNode, ReadyNodes}
 use Rattle.node_engine.specs.NodeWorlds.{Inside, NodeWorld}
@@ -23,7 +23,7 @@ use Rattle.node_engine.specs.Options.{Asked, IsAsked}
 use Rattle.node_starts.specs.SourceNames.{name_of}
 use Rattle.node_engine.specs.Serving.{Serves}
 use Rattle.node_engine.specs.Statuses.{IsEnded, IsServed}
-use Rattle.node_engine.specs.Told.{Names, NodeChange, Outside, Told, TellsOf}
+use Rattle.node_engine.specs.Told.{JournalNames, NodeChange, Outside, IsAllTold, TellsOf}
 
 -- ---- files
 
@@ -32,7 +32,7 @@ abbrev pub files_of : Asked → List (List ℕ)
 files_of asked = name_of asked.source ∷ asked.hosts ∷ asked.start ∷ option_to_list asked.seals
 
 -- one of them was not loaded
-abbrev pub NotLoaded : Asked → FilesChange → Outcome ReadyNode → Type 0
+abbrev pub NotLoaded : Asked → FilesChange → StageEnd ReadyNode → Type 0
 NotLoaded asked files (given node) = ⊥
 NotLoaded asked files (stopped verdict) = StopsLoading (files_of asked) files verdict
 
@@ -42,7 +42,7 @@ TellsKeys held None keys = keys ≡ []
 TellsKeys held (Some name) keys = TellsFile held name (Some keys)
 
 -- all were, and hold bytes that give this node or are refused
-pub record LoadedNode (asked : Asked) (files : FilesChange) (end : Outcome ReadyNode) : Type 0 where
+pub record LoadedNode (asked : Asked) (files : FilesChange) (end : StageEnd ReadyNode) : Type 0 where
   pub loads : LoadsWell (length (files_of asked)) files
   pub source : List ℕ
   pub hosts : List ℕ
@@ -55,7 +55,7 @@ pub record LoadedNode (asked : Asked) (files : FilesChange) (end : Outcome Ready
   pub starts : ReadyNodes asked source hosts start keys end
 
 -- the node that is asked for, or what is due where there is none
-abbrev pub IsNodeDue : Asked → FilesChange → Outcome ReadyNode → Type 0
+abbrev pub IsNodeDue : Asked → FilesChange → StageEnd ReadyNode → Type 0
 IsNodeDue asked files end = NotLoaded asked files end ⊎ LoadedNode asked files end
 
 -- ---- ends
@@ -84,7 +84,7 @@ end_shape end = record { status = end.status; refusal = option_map refusal_shape
 -- ---- the run
 
 -- with what the node of a row begins
-abbrev pub beginning_of : NodeStart → declared_hosts.HostShape → Beginning
+abbrev pub beginning_of : NodeStart → declared_hosts.HostShape → NodeBeginning
 beginning_of node row = record {
   me = node.me;
   paths = map (λ (other : declared_hosts.HostShape). other.path) node.source.hosts.hosts;
@@ -103,21 +103,21 @@ inside_at_start node row = record {
 -- before the first put. Links keep as whom they began.
 pub record ServesNode
     (turns : ℕ) (node : ReadyNode) (row : declared_hosts.HostShape) (answer : Status) (change : NodeChange)
-    (reaches : Names → Type 0) : Type 0 where
+    (reaches : JournalNames → Type 0) : Type 0 where
   pub links : LinksBegan (beginning_of node.start row) change
-  pub names : Names
-  pub named : Named row.name change.names_before names
+  pub names : JournalNames
+  pub named : JournalIsNamed row.name change.names_before names
   pub reached : reaches names
   pub served : IsServed answer
   pub runs : (world : NodeWorld) →
-      Told world
+      IsAllTold world
       (record { inside = inside_at_start node row; outside = change.old }) →
       world.ended ≡ false →
       (later : Inside) × TellsOf (Serves node.start.source.code node.start.me turns answer world)
       (record { inside = later; outside = change.new })
 
 -- a node of a row of the host file does not come to its first unit, or serves
-abbrev pub RunsNode : ℕ → ReadyNode → Status → NodeChange → (Names → Type 0) → Type 0
+abbrev pub RunsNode : ℕ → ReadyNode → Status → NodeChange → (JournalNames → Type 0) → Type 0
 RunsNode turns node answer change reaches =
     (row : declared_hosts.HostShape) × (slice_get node.start.source.hosts.hosts node.start.me.0 ≡ Some row)
     × (EndsUnbegun (beginning_of node.start row) answer change ⊎ ServesNode turns node row answer change reaches)
@@ -125,7 +125,7 @@ RunsNode turns node answer change reaches =
 -- ---- answers
 
 -- a node that is asked for: it is refused or memory runs out before it begins; or it runs
-abbrev pub OptionsAnswer : Asked → FilesChange → End → NodeChange → (Names → Type 0) → Type 0
+abbrev pub OptionsAnswer : Asked → FilesChange → End → NodeChange → (JournalNames → Type 0) → Type 0
 OptionsAnswer asked files end change reaches =
     (((end ≡ without_refusal status.NoMemory)
     ⊎ ((verdict : VerdictShape) × IsNodeDue asked files (stopped verdict) × (end ≡ end_of verdict)))
@@ -134,14 +134,14 @@ OptionsAnswer asked files end change reaches =
     × RunsNode asked.turns node end.status change reaches × (end.refusal ≡ None))
 
 -- words ask for a node, or they ask for none, or memory ran out
-abbrev pub NodeAnswer : List (List ℕ) → FilesChange → End → NodeChange → (Names → Type 0) → Type 0
+abbrev pub NodeAnswer : List (List ℕ) → FilesChange → End → NodeChange → (JournalNames → Type 0) → Type 0
 NodeAnswer words files end change reaches =
     ((end ≡ without_refusal status.NoMemory) × BeginsNothing change)
     ⊎ ((end ≡ without_refusal status.Usage) × ((asked : Asked) → ¬ IsAsked words asked) × BeginsNothing change)
     ⊎ ((asked : Asked) × IsAsked words asked × OptionsAnswer asked files end change reaches)
 
 -- of the status alone
-abbrev pub NodeAnswers : List (List ℕ) → FilesChange → Status → NodeChange → (Names → Type 0) → Type 0
+abbrev pub NodeAnswers : List (List ℕ) → FilesChange → Status → NodeChange → (JournalNames → Type 0) → Type 0
 NodeAnswers words files answer change reaches =
     (refusal : Option RefusalShape)
     × NodeAnswer words files (record { status = answer; refusal = refusal }) change reaches

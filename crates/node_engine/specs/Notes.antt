@@ -3,7 +3,7 @@ use Rattle.std.specs.Prelude.{◌≡◌, ◌⊎◌, ℕ, ◌<◌, List, [], ◌�
 use Rattle.js_base.specs.declared.ids.HostId.{HostId}
 use Rattle.host_code.specs.declared.message.Message.{Message}
 use Rattle.host_code.specs.Code.{CodeShape}
-use Rattle.host_core.specs.Host.{HostShape, Outcome}
+use Rattle.host_core.specs.Host.{HostState, Outcome}
 use Rattle.host_core.specs.Taking.{IsTaking}
 use Rattle.host_core.specs.Turn.{IsTurn}
 use Rattle.node_seals.specs.declared.arrivals.DropReason.{DropReason}
@@ -43,15 +43,15 @@ pub data HostStep : Type 0 where
   turn : HostStep
   take_from : HostId → Message → HostStep
 
-abbrev pub IsHostStep : CodeShape → HostShape → HostStep → Outcome → Type 0
-IsHostStep code host turn outcome = IsTurn code host outcome
-IsHostStep code host (take_from from message) outcome = IsTaking code host from message outcome
+abbrev pub IsNodeStep : CodeShape → HostState → HostStep → Outcome → Type 0
+IsNodeStep code host turn outcome = IsTurn code host outcome
+IsNodeStep code host (take_from from message) outcome = IsTaking code host from message outcome
 
 -- it makes these steps, one after the other
-abbrev pub Makes : CodeShape → HostShape → List HostStep → HostShape → Type 0
-Makes code host [] later = later ≡ host
-Makes code host (step ∷ steps) later =
-    (outcome : Outcome) × IsHostStep code host step outcome × Makes code outcome.state steps later
+abbrev pub MakesHostSteps : CodeShape → HostState → List HostStep → HostState → Type 0
+MakesHostSteps code host [] later = later ≡ host
+MakesHostSteps code host (step ∷ steps) later =
+    (outcome : Outcome) × IsNodeStep code host step outcome × MakesHostSteps code outcome.state steps later
 
 -- the step that a line tells: `turn` and `take` tell one
 abbrev pub step_told : Note → List HostStep
@@ -68,11 +68,11 @@ steps_told (note ∷ notes) = step_told note ++ steps_told notes
 
 -- The journal took these lines whole and no more than a part of another, and the host made the steps that the whole
 -- lines tell, or these and one more.
-pub record IsNoted (code : CodeShape) (host later : HostShape) (before after : List ℕ) : Type 0 where
+pub record IsNoted (code : CodeShape) (host later : HostState) (before after : List ℕ) : Type 0 where
   pub notes : List Note
   pub front : List ℕ
   pub journal_is : after ≡ before ++ (note_lines code notes ++ front)
   pub cut : IsPartOfLine code front
   pub steps : List HostStep
-  pub made : Makes code host steps later
+  pub made : MakesHostSteps code host steps later
   pub told : (steps ≡ steps_told notes) ⊎ ((last : HostStep) × (steps ≡ steps_told notes ++ last ∷ []))

@@ -5,23 +5,23 @@ use Rattle.js_base.specs.declared.ids.HostId.{HostId}
 use Rattle.js_base.specs.declared.status.Status.{Status}
 use Rattle.js_base.specs.declared.status.Status.TheVariants as status
 use Rattle.host_code.specs.Code.{CodeShape}
-use Rattle.host_core.specs.Host.{HostShape}
+use Rattle.host_core.specs.Host.{HostState}
 use Rattle.wire_msg.specs.declared.frame.Frame.TheVariants as frame
 use Rattle.wire_msg.specs.Spelling.{frame_bytes}
 use Rattle.node_engine.specs.declared.node_error.NodeError.{NodeError}
-use Rattle.node_engine.specs.NodeWorlds.{NodeWorld, Part, do_all, BreaksIn}
+use Rattle.node_engine.specs.NodeWorlds.{NodeWorld, NodePart, do_all, BreaksIn}
 use Rattle.node_seals.specs.Seals.{SealsShape, after_sealing}
 use Rattle.node_engine.specs.Statuses.{status_of}
 use Rattle.node_engine.specs.Units.{AreUnitParts, IsUnit, frame_parts}
 
 -- parts break, by an error of this status
-abbrev pub StopsIn : Status → List Part → NodeWorld → NodeWorld → Type 0
+abbrev pub StopsIn : Status → List NodePart → NodeWorld → NodeWorld → Type 0
 StopsIn answer parts world new = (error : NodeError) × (answer ≡ status_of error) × BreaksIn error parts world new
 
 -- ---- the end of the program
 
 -- a host is told that the program is done, unless it is the node's own
-abbrev pub telling : HostId → SealsShape → ℕ → List Part
+abbrev pub telling : HostId → SealsShape → ℕ → List NodePart
 telling me seals number =
     if number == me.0 then [] else frame_parts seals (record { 0 = number }) (frame_bytes me frame.Done)
 
@@ -30,13 +30,13 @@ abbrev pub after_telling : HostId → SealsShape → ℕ → SealsShape
 after_telling me seals number = if number == me.0 then seals else after_sealing (record { 0 = number }) seals
 
 -- so many hosts are told, from some number on
-abbrev pub closing_from : HostId → SealsShape → ℕ → ℕ → List Part
+abbrev pub closing_from : HostId → SealsShape → ℕ → ℕ → List NodePart
 closing_from me seals number zero = []
 closing_from me seals number (suc left) =
     telling me seals number ++ closing_from me (after_telling me seals number) (number + 1) left
 
 -- the closing frames: each other host is told
-abbrev pub closing_parts : CodeShape → HostId → SealsShape → List Part
+abbrev pub closing_parts : CodeShape → HostId → SealsShape → List NodePart
 closing_parts code me seals = closing_from me seals 0 (length code.hosts)
 
 -- the closing frames are sent, or some of them are and one breaks
@@ -46,7 +46,7 @@ Closes code me answer world new =
     ⊎ StopsIn answer (closing_parts code me world.seals) world new
 
 -- the node is the root's, and its host has halted
-abbrev pub has_ended : CodeShape → HostId → HostShape → Bool
+abbrev pub has_ended : CodeShape → HostId → HostState → Bool
 has_ended code me host = (me.0 == code.root.0) && host.halted
 
 -- How far the program is for a node: the root said that it is done; the node is the root's, and it has halted; or it
@@ -79,5 +79,5 @@ Serves code me zero answer world new =
     EndsAt code me (stage_of code me world) answer world new ((answer ≡ status.Spent) × (new ≡ world))
 Serves code me (suc units) answer world new =
     EndsAt code me (stage_of code me world) answer world new
-    ((parts : List Part) × AreUnitParts code me world parts
+    ((parts : List NodePart) × AreUnitParts code me world parts
     × (StopsIn answer parts world new ⊎ (IsUnit world × Serves code me units answer (do_all parts world) new)))

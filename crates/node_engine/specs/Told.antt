@@ -12,7 +12,7 @@ use Rattle.host_core.specs.Host.{state_of}
 use Rattle.node_links.specs.declared.links.Links as links
 use Rattle.node_engine.specs.declared.node.Node.{Node}
 use Rattle.node_engine.specs.declared.node_error.NodeError.{NodeError}
-use Rattle.node_engine.specs.NodeWorlds.{Inside, NodeWorld, Part, Taking, do_part, do_all, BreaksIn}
+use Rattle.node_engine.specs.NodeWorlds.{Inside, NodeWorld, NodePart, Taking, do_part, do_all, BreaksIn}
 use Rattle.node_engine.specs.Serving.{Serves}
 use Rattle.node_engine.specs.Statuses.{status_of}
 use Rattle.node_engine.specs.Units.{AreUnitParts, IsUnit}
@@ -47,21 +47,21 @@ outside of to there journal = record {
 }
 
 -- the names of the hosts whose journal a journal was said to be, where it tells
-abbrev pub Names : Type 0
-Names = Option (List (List ℕ))
+abbrev pub JournalNames : Type 0
+JournalNames = Option (List (List ℕ))
 
 -- at some moment a journal that tells its names so tells these
-abbrev pub Reaches : {R : Type 0} → (R → Names) → Names → Type 0
+abbrev pub Reaches : {R : Type 0} → (R → JournalNames) → JournalNames → Type 0
 Reaches {R} named names = (there : R) × (named there ≡ names)
 
 -- what is told before and after a call, with the names of the journal
 pub record NodeChange : Type 0 where
   pub old : Outside
   pub new : Outside
-  pub names_before : Names
-  pub names_after : Names
+  pub names_before : JournalNames
+  pub names_after : JournalNames
 
-abbrev pub node_change : {L R : Type 0} → links.Ghosts L → sink.Ghosts R → (named : R → Names) →
+abbrev pub node_change : {L R : Type 0} → links.Ghosts L → sink.Ghosts R → (named : R → JournalNames) →
     (before after : L) → (journal later : R) → NodeChange
 node_change of to named before after journal later = record {
   old = outside of to before journal;
@@ -87,7 +87,7 @@ seen of to node = record {
 }
 
 -- all is told, and makes this world
-pub record Told (world : NodeWorld) (there : Seen) : Type 0 where
+pub record IsAllTold (world : NodeWorld) (there : Seen) : Type 0 where
   pub host_is : there.inside.host ≡ world.host
   pub seals_is : there.inside.seals ≡ world.seals
   pub left_is : there.outside.links.left ≡ Some world.left
@@ -96,7 +96,7 @@ pub record Told (world : NodeWorld) (there : Seen) : Type 0 where
 
 -- it makes some world of which this is so
 abbrev pub TellsOf : (NodeWorld → Type 0) → Seen → Type 0
-TellsOf P there = (world : NodeWorld) × Told world there × P world
+TellsOf P there = (world : NodeWorld) × IsAllTold world there × P world
 
 -- ---- faults
 
@@ -120,38 +120,38 @@ pub record Leaves (answer : Status) (old new : Outside) : Type 0 where
 -- ---- between two moments, whatever the world was
 
 -- this frame was taken
-pub record Takes (bytes : List ℕ) (old new : Seen) : Type 0 where
-  pub after : (world : NodeWorld) → Told world old →
-      Told (do_part Taking world) new × ((rest : List (List ℕ)) × (world.left ≡ bytes ∷ rest))
+pub record TakesFrame (bytes : List ℕ) (old new : Seen) : Type 0 where
+  pub after : (world : NodeWorld) → IsAllTold world old →
+      IsAllTold (do_part Taking world) new × ((rest : List (List ℕ)) × (world.left ≡ bytes ∷ rest))
   pub leaves : Leaves status.Done old.outside new.outside
 
 -- these parts were done
-pub record Does (parts : List Part) (old new : Seen) : Type 0 where
-  pub after : (world : NodeWorld) → Told world old → Told (do_all parts world) new
+pub record PartsAreDone (parts : List NodePart) (old new : Seen) : Type 0 where
+  pub after : (world : NodeWorld) → IsAllTold world old → IsAllTold (do_all parts world) new
   pub leaves : Leaves status.Done old.outside new.outside
 
 -- or this error broke one of them
-pub record Stops (error : NodeError) (parts : List Part) (old new : Seen) : Type 0 where
-  pub after : (world : NodeWorld) → Told world old → TellsOf (BreaksIn error parts world) new
+pub record Stops (error : NodeError) (parts : List NodePart) (old new : Seen) : Type 0 where
+  pub after : (world : NodeWorld) → IsAllTold world old → TellsOf (BreaksIn error parts world) new
   pub leaves : Leaves (status_of error) old.outside new.outside
 
 -- a unit of a node was done, after which the root did or did not say that the program is done
 pub record DoesUnit {L R : Type 0} (ended : Bool) (node : Node L R) (old new : Seen) : Type 0 where
-  pub after : (world : NodeWorld) → Told world old → world.ended ≡ false →
-      (parts : List Part) × AreUnitParts node.code.now node.me world parts × IsUnit world
-      × Told (do_all parts world) new × ((do_all parts world).ended ≡ ended)
+  pub after : (world : NodeWorld) → IsAllTold world old → world.ended ≡ false →
+      (parts : List NodePart) × AreUnitParts node.code.now node.me world parts × IsUnit world
+      × IsAllTold (do_all parts world) new × ((do_all parts world).ended ≡ ended)
   pub leaves : Leaves status.Done old.outside new.outside
 
 -- or this error broke it
 pub record StopsUnit {L R : Type 0} (error : NodeError) (node : Node L R) (old new : Seen) : Type 0 where
-  pub after : (world : NodeWorld) → Told world old →
-      (parts : List Part) × AreUnitParts node.code.now node.me world parts
+  pub after : (world : NodeWorld) → IsAllTold world old →
+      (parts : List NodePart) × AreUnitParts node.code.now node.me world parts
       × TellsOf (BreaksIn error parts world) new
   pub leaves : Leaves (status_of error) old.outside new.outside
 
 -- so many units at most were done, and it ended with this answer
 pub record ServesFrom (code : CodeShape) (me : HostId) (units : ℕ) (answer : Status) (old new : Seen) : Type 0 where
-  pub after : (world : NodeWorld) → Told world old → world.ended ≡ false →
+  pub after : (world : NodeWorld) → IsAllTold world old → world.ended ≡ false →
       TellsOf (Serves code me units answer world) new
 
 -- ---- a node and what it is lent
@@ -176,6 +176,6 @@ pub record HasSameInside {L R : Type 0} (old new : Node L R) : Type 0 where
   pub seals_is : new.seals.now ≡ old.seals.now
 
 -- its host fits the code and has the node's number
-pub record IsReady {L R : Type 0} (node : Node L R) : Type 0 where
+pub record IsNodeReady {L R : Type 0} (node : Node L R) : Type 0 where
   pub fits : HostFits node.code.now node.host.now
   pub me : node.host.now.me ≡ node.me

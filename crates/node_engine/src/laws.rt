@@ -12,7 +12,7 @@ ghost use Rattle.node_seals.specs.declared.arrivals.Arrival.{Arrival};
 ghost use Rattle.node_seals.specs.declared.arrivals.Arrival.TheVariants as arrival;
 ghost use Rattle.node_seals.specs.declared.arrivals.DropReason.TheVariants as dropped;
 ghost use Rattle.node_seals.specs.Arrivals.{Arrives};
-ghost use Rattle.node_engine.specs.NodeWorlds.{Inside, NodeWorld, Part, Taking, Line, Sending};
+ghost use Rattle.node_engine.specs.NodeWorlds.{Inside, NodeWorld, NodePart, Taking, Line, Sending};
 ghost use Rattle.node_engine.specs.Notes.{IsNoted};
 ghost use Rattle.node_seals.specs.Seals.{SealsShape};
 ghost use Rattle.node_engine.specs.Serving.{Serves, closing_from};
@@ -32,12 +32,12 @@ pub fn unit_laws()
 
     // In every world a unit has parts, and one that takes a frame has them whatever is left.
     ensures some_taking { (code : CodeShape) (me : HostId) (inside : Inside) (left : List (List ℕ)) →
-        (others : List Part) × AreTakingParts code me inside left (Taking ∷ others) }
+        (others : List NodePart) × AreTakingParts code me inside left (Taking ∷ others) }
     ensures some_parts { (code : CodeShape) (me : HostId) (world : NodeWorld) →
-        (parts : List Part) × AreUnitParts code me world parts }
+        (parts : List NodePart) × AreUnitParts code me world parts }
 
     // And only these.
-    ensures one_parts { (code : CodeShape) (me : HostId) (world : NodeWorld) (first second : List Part) →
+    ensures one_parts { (code : CodeShape) (me : HostId) (world : NodeWorld) (first second : List NodePart) →
         AreUnitParts code me world first → AreUnitParts code me world second → first ≡ second }
 
     // However a node ends, the whole lines of its journal tell the steps that its host made, or all but the last.
@@ -47,7 +47,7 @@ pub fn unit_laws()
     // Worked: no bytes are dropped as a frame that is too short, and have one line in the journal.
     ensures worked_short { (code : CodeShape) (me : HostId) →
         Arrives code me None [] (arrival.Dropped (dropped.Frame wire_error.Short)) }
-    ensures worked_line { (code : CodeShape) (me : HostId) (inside : Inside) (parts : List Part) →
+    ensures worked_line { (code : CodeShape) (me : HostId) (inside : Inside) (parts : List NodePart) →
         AreArrivalParts code me inside (arrival.Dropped (dropped.Frame wire_error.Short)) parts →
         parts ≡ Line (codes "bad short" ++ LINE_FEED ∷ []) ∷ [] }
 

@@ -16,10 +16,13 @@ ghost use Rattle.node_engine.specs.Options.{asked_shape};
 ghost use Rattle.node_starts.specs.SourceNames.{name_of, source_name};
 
 use crate::options::Options;
-use front_end::{Asked as File, LineCause, Loaded, Refusal, Stop, Verdict, load_all, stopped};
+use front_end::{
+    Asked as File, LineCause, Loaded, Refusal, Stop, Verdict, host_file, load_all, script_file,
+    stopped,
+};
 use host_code::{Code, host_name};
 use js_base::Files;
-use js_base::limits::{HOSTS_BYTES, PROGRAM_BYTES, SCRIPT_BYTES, SPLIT_FILE_BYTES};
+use js_base::limits::{PROGRAM_BYTES, SPLIT_FILE_BYTES};
 use node_seals::{SEALS_BYTES, Seals, SealsError};
 use node_starts::{
     NodeSource, NodeStart, SourceWord, code_source, copies, of_host, part_checked, program_source,
@@ -75,7 +78,7 @@ fn plain_node<F: Files>(
     let asked = [
         source_file(options.source),
         host_file(options.hosts),
-        start_file(options.start),
+        script_file(options.start),
     ];
     let loaded = load_all(alloc, files, &asked)?;
     let [source, hosts, start] = loaded.as_slice() else {
@@ -101,7 +104,7 @@ fn sealed_node<F: Files>(
     let asked = [
         source_file(options.source),
         host_file(options.hosts),
-        start_file(options.start),
+        script_file(options.start),
         key_file(name),
     ];
     let loaded = load_all(alloc, files, &asked)?;
@@ -119,28 +122,6 @@ fn source_name(source: SourceWord<'_>) -> &str
     match source {
         SourceWord::Program(name) => name,
         SourceWord::Code(name) => name,
-    }
-}
-
-/// A host file.
-fn host_file(name: &str) -> File<'_>
-    ensures name { result.name.now ≡ name.now }
-    ensures most { result.most ≡ HOSTS_BYTES }
-{
-    File {
-        name,
-        most: HOSTS_BYTES,
-    }
-}
-
-/// A file of starting values.
-fn start_file(name: &str) -> File<'_>
-    ensures name { result.name.now ≡ name.now }
-    ensures most { result.most ≡ SCRIPT_BYTES }
-{
-    File {
-        name,
-        most: SCRIPT_BYTES,
     }
 }
 
@@ -187,7 +168,8 @@ fn sealed_of_loaded(
     ensures due { (c h s k : List ℕ) → IsLoaded (most_of (source_name options.now.source)) c source.now →
         IsLoaded HOSTS_BYTES h hosts.now → IsLoaded SCRIPT_BYTES s start.now →
         IsLoaded SEALS_BYTES k keys.entry.loaded.now →
-        EndsAs ready_node (Then (NodeStarts (asked_shape options.now) c h s) (Sealed (Some keys.entry.name.now) k)) result }
+        EndsAs ready_node (Then (NodeStarts (asked_shape options.now) c h s) (Sealed (Some keys.entry.name.now) k))
+        result }
     ensures started { IfOk result (λ node. IsStarted node.start) }
 {
     let start = node_of_loaded(alloc, options, source, hosts, start)?;

@@ -5,7 +5,7 @@ ghost use Rattle.wire_msg.specs.Frames.{NamesHosts};
 ghost use Rattle.wire_msg.specs.Spelling.{frame_bytes};
 ghost use Rattle.node_engine.specs.NodeWorlds.{Taking, Line, Sending};
 ghost use Rattle.node_seals.specs.Seals.{after_sealing};
-ghost use Rattle.node_engine.specs.Told.{Does, HasSameHost, HasSameInside, Stops, Takes, seen};
+ghost use Rattle.node_engine.specs.Told.{PartsAreDone, HasSameHost, HasSameInside, Stops, TakesFrame, seen};
 ghost use Rattle.node_engine.specs.Units.{frame_parts};
 
 use crate::node::Node;
@@ -18,7 +18,7 @@ impl<L: Links, R: Sink> Node<'_, '_, L, R> {
     /// The next frame is taken from the links.
     pub(crate) fn taken(&mut self) -> Result<Arrived, NodeError>
         ensures ok { IfOk result (λ arrived.
-            Takes arrived.bytes.items (seen L.Links R.Sink self.old) (seen L.Links R.Sink self.new)) }
+            TakesFrame arrived.bytes.items (seen L.Links R.Sink self.old) (seen L.Links R.Sink self.new)) }
         ensures err { IfErr result (λ error.
             Stops error (Taking ∷ []) (seen L.Links R.Sink self.old) (seen L.Links R.Sink self.new)) }
         ensures same { HasSameInside self.old self.new }
@@ -33,7 +33,7 @@ impl<L: Links, R: Sink> Node<'_, '_, L, R> {
     /// A line of the journal is put.
     pub(crate) fn noted(&mut self, line: &str) -> Result<(), NodeError>
         ensures ok { OnOk result
-            (Does (Line line.now ∷ []) (seen L.Links R.Sink self.old) (seen L.Links R.Sink self.new)) }
+            (PartsAreDone (Line line.now ∷ []) (seen L.Links R.Sink self.old) (seen L.Links R.Sink self.new)) }
         ensures err { IfErr result (λ error.
             Stops error (Line line.now ∷ []) (seen L.Links R.Sink self.old) (seen L.Links R.Sink self.new)) }
         ensures same { HasSameInside self.old self.new }
@@ -48,7 +48,7 @@ impl<L: Links, R: Sink> Node<'_, '_, L, R> {
     /// A string is sent to a host.
     fn put_out(&mut self, to: HostId, bytes: &[u8]) -> Result<(), NodeError>
         ensures ok { OnOk result
-            (Does (Sending to bytes.now ∷ []) (seen L.Links R.Sink self.old) (seen L.Links R.Sink self.new)) }
+            (PartsAreDone (Sending to bytes.now ∷ []) (seen L.Links R.Sink self.old) (seen L.Links R.Sink self.new)) }
         ensures err { IfErr result (λ error.
             Stops error (Sending to bytes.now ∷ []) (seen L.Links R.Sink self.old) (seen L.Links R.Sink self.new)) }
         ensures same { HasSameInside self.old self.new }
@@ -63,7 +63,7 @@ impl<L: Links, R: Sink> Node<'_, '_, L, R> {
     /// A frame is sent to a host, under the node's seals.
     pub(crate) fn sent(&mut self, to: HostId, frame: &Frame) -> Result<(), NodeError>
         requires { NamesHosts self.old.me frame.now }
-        ensures ok { OnOk result (Does (frame_parts self.old.seals.now to (frame_bytes self.old.me frame.now))
+        ensures ok { OnOk result (PartsAreDone (frame_parts self.old.seals.now to (frame_bytes self.old.me frame.now))
             (seen L.Links R.Sink self.old) (seen L.Links R.Sink self.new)) }
         ensures raised { OnOk result (self.new.seals.now ≡ after_sealing to self.old.seals.now) }
         ensures err { IfErr result (λ error. Stops error

@@ -9,7 +9,7 @@ ghost use Rattle.link_seal.specs.Links.{CanSeal, LinkShape, next_sealed};
 ghost use Rattle.node_seals.specs.declared.arrivals.Arrival.TheVariants as arrival;
 ghost use Rattle.node_seals.specs.declared.arrivals.DropReason.TheVariants as dropped;
 ghost use Rattle.node_seals.specs.Arrivals.{Arrives};
-ghost use Rattle.node_engine.specs.NodeWorlds.{Inside, Part, Line, Sealing, Sending};
+ghost use Rattle.node_engine.specs.NodeWorlds.{Inside, NodePart, Line, Sealing, Sending};
 ghost use Rattle.node_seals.specs.Seals.{SealedLinks, SealsShape, after_opening, link_of, opened_of};
 ghost use Rattle.node_seals.specs.Seals.{refused, string_for, unsealed};
 ghost use Rattle.node_seals.specs.SealsFile.{lacks, seals_of};
@@ -47,7 +47,7 @@ pub fn sealing_laws()
     // Worked: under seals no bytes are dropped for their seal, and have one line in the journal.
     ensures worked_seal { (code : CodeShape) (me : HostId) (links : SealedLinks) →
         Arrives code me (Some links) [] (arrival.Dropped dropped.Seal) }
-    ensures worked_seal_line { (code : CodeShape) (me : HostId) (inside : Inside) (parts : List Part) →
+    ensures worked_seal_line { (code : CodeShape) (me : HostId) (inside : Inside) (parts : List NodePart) →
         AreArrivalParts code me inside (arrival.Dropped dropped.Seal) parts →
         parts ≡ Line (codes "bad seal" ++ LINE_FEED ∷ []) ∷ [] }
 

@@ -8,7 +8,8 @@ ghost use Rattle.host_core.specs.Host.{state_of};
 ghost use Rattle.node_engine.specs.NodeWorlds.{NodeWorld};
 ghost use Rattle.node_engine.specs.Serving.{Closes, after_telling, closing_parts, has_ended, telling};
 ghost use Rattle.node_engine.specs.Statuses.{IsServed};
-ghost use Rattle.node_engine.specs.Told.{Does, HasSameHost, IsReady, IsSameNode, Leaves, ServesFrom, Stops, Told};
+ghost use Rattle.node_engine.specs.Told.{PartsAreDone, HasSameHost, IsNodeReady, IsSameNode, Leaves, ServesFrom, Stops};
+ghost use Rattle.node_engine.specs.Told.{IsAllTold};
 ghost use Rattle.node_engine.specs.Told.{TellsOf, outside, seen};
 
 use crate::laws::unit_laws;
@@ -74,13 +75,13 @@ pub fn serve<L: Links, R: Sink>(
 impl<L: Links, R: Sink> Node<'_, '_, L, R> {
     /// At most so many units.
     fn serves(&mut self, units: u64) -> Status
-        requires { IsReady self.old }
+        requires { IsNodeReady self.old }
         ensures serves { ServesFrom self.old.code.now self.old.me units result (seen L.Links R.Sink self.old)
             (seen L.Links R.Sink self.new) }
         ensures answers { IsServed result }
         ensures leaves { Leaves result (seen L.Links R.Sink self.old).outside
             (seen L.Links R.Sink self.new).outside }
-        ensures ready { IsReady self.new }
+        ensures ready { IsNodeReady self.new }
         ensures same { IsSameNode self.old self.new }
     {
         unit_laws();
@@ -110,7 +111,7 @@ impl<L: Links, R: Sink> Node<'_, '_, L, R> {
     /// Each other host is told that the program is done.
     fn closed(&mut self) -> Status
         requires { IsHost self.old.code.now self.old.me }
-        ensures closes { (world : NodeWorld) → Told world (seen L.Links R.Sink self.old) →
+        ensures closes { (world : NodeWorld) → IsAllTold world (seen L.Links R.Sink self.old) →
             TellsOf (Closes self.old.code.now self.old.me result world) (seen L.Links R.Sink self.new) }
         ensures answers { IsServed result }
         ensures leaves { Leaves result (seen L.Links R.Sink self.old).outside
@@ -126,7 +127,7 @@ impl<L: Links, R: Sink> Node<'_, '_, L, R> {
     /// Sends each other host the frame of one that is done.
     fn close(&mut self) -> Result<(), NodeError>
         requires { IsHost self.old.code.now self.old.me }
-        ensures ok { OnOk result (Does (closing_parts self.old.code.now self.old.me self.old.seals.now)
+        ensures ok { OnOk result (PartsAreDone (closing_parts self.old.code.now self.old.me self.old.seals.now)
             (seen L.Links R.Sink self.old) (seen L.Links R.Sink self.new)) }
         ensures err { IfErr result (λ error.
             Stops error (closing_parts self.old.code.now self.old.me self.old.seals.now)
@@ -144,7 +145,7 @@ impl<L: Links, R: Sink> Node<'_, '_, L, R> {
     /// Sends a host the frame of one that is done, unless it is the node's own.
     fn tell(&mut self, to: HostId) -> Result<(), NodeError>
         requires { self.old.me.0 < HOSTS }
-        ensures ok { OnOk result (Does (telling self.old.me self.old.seals.now to.0)
+        ensures ok { OnOk result (PartsAreDone (telling self.old.me self.old.seals.now to.0)
             (seen L.Links R.Sink self.old) (seen L.Links R.Sink self.new)) }
         ensures raised { OnOk result (self.new.seals.now
             ≡ after_telling self.old.me self.old.seals.now to.0) }

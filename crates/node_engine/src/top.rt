@@ -136,12 +136,12 @@ fn asked<F: Files, L: Links, R: Journal>(
             status: run_node(alloc, node, options.turns, links, journal),
             refusal: None,
         },
-        Err(stop) => ended(stop),
+        Err(stop) => node_end(stop),
     }
 }
 
 /// The end of a node that goes no further.
-fn ended(stop: Stop) -> NodeEnd
+fn node_end(stop: Stop) -> NodeEnd
     ensures { IsEndOf stop (end_shape result) }
 {
     match stop {

@@ -6,9 +6,10 @@ ghost use Rattle.host_code.specs.Messages.{MessageFits};
 ghost use Rattle.host_core.specs.Fits.{SentFits};
 ghost use Rattle.node_seals.specs.Arrivals.{ArrivalFits, Arrives};
 ghost use Rattle.node_engine.specs.JournalLines as lines;
-ghost use Rattle.node_engine.specs.NodeWorlds.{NodeWorld, Part, Line, do_all};
+ghost use Rattle.node_engine.specs.NodeWorlds.{NodeWorld, NodePart, Line, do_all};
 ghost use Rattle.node_seals.specs.Seals.{after_opened, opened_of};
-ghost use Rattle.node_engine.specs.Told.{Does, DoesUnit, HasSameHost, HasSameInside, IsReady, IsSameNode, Stops};
+ghost use Rattle.node_engine.specs.Told.{PartsAreDone, DoesUnit, HasSameHost, HasSameInside, IsNodeReady, IsSameNode};
+ghost use Rattle.node_engine.specs.Told.{Stops};
 ghost use Rattle.node_engine.specs.Told.{StopsUnit, inside, seen};
 ghost use Rattle.node_engine.specs.Units.{AreArrivalParts, AreDeliveryParts, opening_parts, posting_parts};
 ghost use Rattle.node_engine.specs.Units.{sending_parts};
@@ -31,12 +32,12 @@ impl<L: Links, R: Sink> Node<'_, '_, L, R> {
     /// # Errors
     /// The unit broke at one of its parts.
     pub(crate) fn unit(&mut self) -> Result<bool, NodeError>
-        requires { IsReady self.old }
+        requires { IsNodeReady self.old }
         ensures ok { IfOk result (λ ended.
             DoesUnit ended self.old (seen L.Links R.Sink self.old) (seen L.Links R.Sink self.new)) }
         ensures err { IfErr result (λ error.
             StopsUnit error self.old (seen L.Links R.Sink self.old) (seen L.Links R.Sink self.new)) }
-        ensures ready { IsReady self.new }
+        ensures ready { IsNodeReady self.new }
         ensures same { IsSameNode self.old self.new }
     {
         if self.host.rest() {
@@ -49,12 +50,12 @@ impl<L: Links, R: Sink> Node<'_, '_, L, R> {
     /// An instruction of the running thread.
     fn turn_unit(&mut self) -> Result<(), NodeError>
         requires runs { IsSome self.old.host.now.running }
-        requires ready { IsReady self.old }
+        requires ready { IsNodeReady self.old }
         ensures ok { OnOk result
             (DoesUnit false self.old (seen L.Links R.Sink self.old) (seen L.Links R.Sink self.new)) }
         ensures err { IfErr result (λ error.
             StopsUnit error self.old (seen L.Links R.Sink self.old) (seen L.Links R.Sink self.new)) }
-        ensures ready { IsReady self.new }
+        ensures ready { IsNodeReady self.new }
         ensures same { IsSameNode self.old self.new }
     {
         step_laws();
@@ -68,12 +69,12 @@ impl<L: Links, R: Sink> Node<'_, '_, L, R> {
     /// A frame that is taken. It answers whether the root said that the program is done.
     fn take_unit(&mut self) -> Result<bool, NodeError>
         requires rest { self.old.host.now.running ≡ None }
-        requires ready { IsReady self.old }
+        requires ready { IsNodeReady self.old }
         ensures ok { IfOk result (λ ended.
             DoesUnit ended self.old (seen L.Links R.Sink self.old) (seen L.Links R.Sink self.new)) }
         ensures err { IfErr result (λ error.
             StopsUnit error self.old (seen L.Links R.Sink self.old) (seen L.Links R.Sink self.new)) }
-        ensures ready { IsReady self.new }
+        ensures ready { IsNodeReady self.new }
         ensures same { IsSameNode self.old self.new }
     {
         step_laws();
@@ -88,7 +89,7 @@ impl<L: Links, R: Sink> Node<'_, '_, L, R> {
         ensures arrives { IfOk result (λ arrival.
             Arrives self.old.code.now self.old.me self.old.seals.now bytes.now arrival) }
         ensures fits { IfOk result (λ arrival. ArrivalFits self.old.code.now self.old.me arrival) }
-        ensures ok { OnOk result (Does (opening_parts (opened_of self.old.seals.now bytes.now))
+        ensures ok { OnOk result (PartsAreDone (opening_parts (opened_of self.old.seals.now bytes.now))
             (seen L.Links R.Sink self.old) (seen L.Links R.Sink self.new)) }
         ensures opened { OnOk result (self.new.seals.now
             ≡ after_opened (opened_of self.old.seals.now bytes.now) self.old.seals.now) }
@@ -103,16 +104,16 @@ impl<L: Links, R: Sink> Node<'_, '_, L, R> {
     /// What is done with a frame that was taken. It answers whether the root said that the program is done.
     fn handled(&mut self, arrival: &Arrival) -> Result<bool, NodeError>
         requires rest { self.old.host.now.running ≡ None }
-        requires ready { IsReady self.old }
+        requires ready { IsNodeReady self.old }
         requires arrival { ArrivalFits self.old.code.now self.old.me arrival.now }
-        ensures ok { IfOk result (λ ended. (parts : List Part) ×
+        ensures ok { IfOk result (λ ended. (parts : List NodePart) ×
             AreArrivalParts self.old.code.now self.old.me (inside self.old) arrival.now parts
-            × Does parts (seen L.Links R.Sink self.old) (seen L.Links R.Sink self.new)
+            × PartsAreDone parts (seen L.Links R.Sink self.old) (seen L.Links R.Sink self.new)
             × ((world : NodeWorld) → world.ended ≡ false → (do_all parts world).ended ≡ ended)) }
-        ensures err { IfErr result (λ error. (parts : List Part) ×
+        ensures err { IfErr result (λ error. (parts : List NodePart) ×
             AreArrivalParts self.old.code.now self.old.me (inside self.old) arrival.now parts
             × Stops error parts (seen L.Links R.Sink self.old) (seen L.Links R.Sink self.new)) }
-        ensures ready { IsReady self.new }
+        ensures ready { IsNodeReady self.new }
         ensures same { IsSameNode self.old self.new }
     {
         match arrival {
@@ -133,7 +134,7 @@ impl<L: Links, R: Sink> Node<'_, '_, L, R> {
 
     /// The line of a host that said that it is done.
     fn heard(&mut self, from: HostId) -> Result<(), NodeError>
-        ensures ok { OnOk result (Does (Line (lines.done_line self.old.code.now from) ∷ [])
+        ensures ok { OnOk result (PartsAreDone (Line (lines.done_line self.old.code.now from) ∷ [])
             (seen L.Links R.Sink self.old) (seen L.Links R.Sink self.new)) }
         ensures err { IfErr result (λ error. Stops error (Line (lines.done_line self.old.code.now from) ∷ [])
             (seen L.Links R.Sink self.old) (seen L.Links R.Sink self.new)) }
@@ -146,16 +147,16 @@ impl<L: Links, R: Sink> Node<'_, '_, L, R> {
     /// A message that the host takes.
     fn delivered(&mut self, from: HostId, message: &Message) -> Result<(), NodeError>
         requires rest { self.old.host.now.running ≡ None }
-        requires ready { IsReady self.old }
+        requires ready { IsNodeReady self.old }
         requires from { IsOther self.old.code.now self.old.me from }
         requires message { MessageFits self.old.code.now message.now }
-        ensures ok { OnOk result ((parts : List Part) × AreDeliveryParts self.old.code.now self.old.me
+        ensures ok { OnOk result ((parts : List NodePart) × AreDeliveryParts self.old.code.now self.old.me
             (inside self.old) from message.now parts
-            × Does parts (seen L.Links R.Sink self.old) (seen L.Links R.Sink self.new)) }
-        ensures err { IfErr result (λ error. (parts : List Part) × AreDeliveryParts self.old.code.now self.old.me
+            × PartsAreDone parts (seen L.Links R.Sink self.old) (seen L.Links R.Sink self.new)) }
+        ensures err { IfErr result (λ error. (parts : List NodePart) × AreDeliveryParts self.old.code.now self.old.me
             (inside self.old) from message.now parts
             × Stops error parts (seen L.Links R.Sink self.old) (seen L.Links R.Sink self.new)) }
-        ensures ready { IsReady self.new }
+        ensures ready { IsNodeReady self.new }
         ensures same { IsSameNode self.old self.new }
     {
         step_laws();
@@ -172,7 +173,7 @@ impl<L: Links, R: Sink> Node<'_, '_, L, R> {
         requires me { IsHost self.old.code.now self.old.me }
         requires sent { SentFits self.old.code.now self.old.me sent.now }
         ensures ok { OnOk result
-            (Does (Line line.now ∷ sending_parts self.old.code.now self.old.me self.old.seals.now sent.now)
+            (PartsAreDone (Line line.now ∷ sending_parts self.old.code.now self.old.me self.old.seals.now sent.now)
             (seen L.Links R.Sink self.old) (seen L.Links R.Sink self.new)) }
         ensures err { IfErr result (λ error.
             Stops error (Line line.now ∷ sending_parts self.old.code.now self.old.me self.old.seals.now sent.now)
@@ -190,7 +191,8 @@ impl<L: Links, R: Sink> Node<'_, '_, L, R> {
     fn posted(&mut self, to: HostId, message: &Message) -> Result<(), NodeError>
         requires me { IsHost self.old.code.now self.old.me }
         requires message { MessageFits self.old.code.now message.now }
-        ensures ok { OnOk result (Does (posting_parts self.old.code.now self.old.me self.old.seals.now to message.now)
+        ensures ok { OnOk result (PartsAreDone
+            (posting_parts self.old.code.now self.old.me self.old.seals.now to message.now)
             (seen L.Links R.Sink self.old) (seen L.Links R.Sink self.new)) }
         ensures err { IfErr result (λ error.
             Stops error (posting_parts self.old.code.now self.old.me self.old.seals.now to message.now)

@@ -4,8 +4,8 @@ use Rattle.js_base.specs.MemSink.{SinkInMemory}
 use Rattle.node_links.specs.Links.{OneMore}
 
 -- it was told that it is the journal of a host of this name
-abbrev pub Named : List ℕ → Option (List (List ℕ)) → Option (List (List ℕ)) → Type 0
-Named name old new = OneMore name old new
+abbrev pub JournalIsNamed : List ℕ → Option (List (List ℕ)) → Option (List (List ℕ)) → Type 0
+JournalIsNamed name old new = OneMore name old new
 
 -- the sink that takes the lines, and the names that were told
 pub record JournalInMemory : Type 0 where

@@ -2,7 +2,7 @@
 
 ghost use Rattle.std.specs.Prelude.{◌≡◌, ◌≤◌, ◌⊎◌, ℕ, List, Option, IsErrOf, OnErr, OnOk, Some, None, Ok};
 ghost use Rattle.js_base.specs.Counts.{Rose};
-ghost use Rattle.node_links.specs.Journals.{Named};
+ghost use Rattle.node_links.specs.Journals.{JournalIsNamed};
 
 use js_base::{MemSink, PutError, Sink};
 use std::alloc::Global;
@@ -15,9 +15,9 @@ pub trait Journal: Sink {
     /// Says the name of the host whose journal it is. It is called once, before the first put, and puts nothing. After
     /// an error the name was taken or it was not.
     fn begin(&mut self, alloc: Global, name: &str) -> Result<(), PutError>
-        ensures ok { OnOk result (Named name.now (named self.old) (named self.new)) }
+        ensures ok { OnOk result (JournalIsNamed name.now (named self.old) (named self.new)) }
         ensures err { OnErr result ((named self.new ≡ named self.old)
-            ⊎ Named name.now (named self.old) (named self.new)) }
+            ⊎ JournalIsNamed name.now (named self.old) (named self.new)) }
         ensures taken { Self.taken self.new ≡ Self.taken self.old }
         ensures faults { Self.faults self.old ≤ Self.faults self.new }
         ensures no_fault { IsErrOf result PutError.Failed ⊎ (Self.faults self.new ≡ Self.faults self.old) }
@@ -30,9 +30,9 @@ impl Journal for MemSink {
 
     /// In memory there is nothing to begin, and the call is not numbered among those that may fail.
     fn begin(&mut self, _alloc: Global, _name: &str) -> Result<(), PutError>
-        ensures ok { OnOk result (Named _name.now None None) }
+        ensures ok { OnOk result (JournalIsNamed _name.now None None) }
         ensures err { let none : Option (List (List ℕ)) = None in
-            OnErr result ((none ≡ none) ⊎ Named _name.now none none) }
+            OnErr result ((none ≡ none) ⊎ JournalIsNamed _name.now none none) }
         ensures taken { Some self.new.taken ≡ Some self.old.taken }
         ensures faults { self.old.faults ≤ self.new.faults }
         ensures no_fault { IsErrOf result PutError.Failed ⊎ (self.new.faults ≡ self.old.faults) }

@@ -4,7 +4,7 @@ ghost use Rattle.std.specs.Prelude.{◌≡◌, ◌≤◌, ◌⊎◌, [], Some, I
 ghost use Rattle.js_base.specs.Counts.{Rose};
 ghost use Rattle.js_base.specs.Sink.{Takes, TakesFront};
 ghost use Rattle.js_base.specs.MemSink.{IsListed, after_call, after_fault, with_bytes};
-ghost use Rattle.node_links.specs.Journals.{Named, after_name};
+ghost use Rattle.node_links.specs.Journals.{JournalIsNamed, after_name};
 
 use crate::journal::Journal;
 use js_base::{MemSink, PutError, Sink};
@@ -97,9 +97,9 @@ impl Journal for MemJournal {
 
     /// In memory the call is not numbered among those that may fail: it wants memory, and else it answers `Ok`.
     fn begin(&mut self, alloc: Global, name: &str) -> Result<(), PutError>
-        ensures ok { OnOk result (Named name.now (Some self.old.named) (Some self.new.named)) }
+        ensures ok { OnOk result (JournalIsNamed name.now (Some self.old.named) (Some self.new.named)) }
         ensures err { OnErr result ((Some self.new.named ≡ Some self.old.named)
-            ⊎ Named name.now (Some self.old.named) (Some self.new.named)) }
+            ⊎ JournalIsNamed name.now (Some self.old.named) (Some self.new.named)) }
         ensures taken { Some self.new.sink.taken ≡ Some self.old.sink.taken }
         ensures faults { self.old.sink.faults ≤ self.new.sink.faults }
         ensures no_fault { IsErrOf result PutError.Failed ⊎ (self.new.sink.faults ≡ self.old.sink.faults) }

@@ -14,7 +14,7 @@ use Rattle.host_decl.specs.Hosts.{HostsShape, HostShape}
 use Rattle.event_text.specs.Settings.{form_of}
 use Rattle.part_verify.specs.declared.errors.VerifyError.{VerifyError}
 use Rattle.part_verify.specs.declared.errors.VerifyError.TheVariants as unsound
-use Rattle.part_verify.specs.Refusing.{IsRefusedFor}
+use Rattle.part_verify.specs.Refusing.{IsPartRefusedFor}
 use Rattle.part_verify.specs.SoundPart.{IsSoundPart}
 use Rattle.split_file.specs.declared.error.SplitError.{SplitError}
 use Rattle.split_file.specs.File.{file_code}
@@ -26,7 +26,7 @@ use Rattle.front_end.specs.Starting.{StartingValues}
 use Rattle.front_end.specs.Verdicts.{VerdictShape, too_long}
 use Rattle.front_end.proofs.OneStart.{start_once}
 use Rattle.front_end.proofs.Stages.{IsOne, give, one_then, stop_with}
-use Rattle.node_starts.specs.NodeSources.{AreHostsOf, CodeRead, IsNamed, NodeSource, NodeSources, NodeStart}
+use Rattle.node_starts.specs.NodeSources.{AreHostsOf, CodeRead, IsHostNamed, NodeSource, NodeSources, NodeStart}
 use Rattle.node_starts.specs.NodeSources.{OfHost, PartChecked, PartRefused, PlacedNode}
 use Rattle.node_starts.specs.NodeSources.{Valued, bad_code, no_host, other_hosts}
 use Rattle.node_starts.specs.SourceNames.{SourceName, Program as from_program, Code as from_code}
@@ -37,9 +37,9 @@ pub record OneSources : Type 0 where
   pub hosts : (bytes : List ℕ) → IsOne (HostsRead bytes)
   pub one_refusal : (code : CodeShape) (me : HostId) (first second : VerifyError) →
       first ≢ unsound.OutOfMemory → second ≢ unsound.OutOfMemory →
-      IsRefusedFor code me first → IsRefusedFor code me second → first ≡ second
+      IsPartRefusedFor code me first → IsPartRefusedFor code me second → first ≡ second
   pub never_both : (code : CodeShape) (me : HostId) (why : VerifyError) → IsSoundPart code me →
-      IsRefusedFor code me why → why ≡ unsound.OutOfMemory
+      IsPartRefusedFor code me why → why ≡ unsound.OutOfMemory
 
 valued_once : (file start : List ℕ) (code : CodeShape) (hosts : HostsShape) → IsOne (Valued file start code hosts)
 valued_once file start code hosts =
@@ -100,8 +100,8 @@ source_once laws (from_code name) source hosts file start =
 -- ---- the node's host
 
 -- no row in front of the first of a name has it
-not_before : (hosts : HostsShape) (name : List ℕ) (me other : HostId) → IsNamed hosts name me →
-    IsNamed hosts name other → me.0 < other.0 → ⊥
+not_before : (hosts : HostsShape) (name : List ℕ) (me other : HostId) → IsHostNamed hosts name me →
+    IsHostNamed hosts name other → me.0 < other.0 → ⊥
 not_before hosts name me other one two lt =
     let within : me.0 < length hosts.hosts = slice_get_within hosts.hosts me.0 one.0 one.1 in
     let row : get_or hosts.hosts me.0 one.0 ≡ one.0 =
@@ -111,8 +111,8 @@ not_before hosts name me other one two lt =
     two.3 me.0 one.0 front
     (ap (λ (it : HostShape). it.name) (get_or-take other.0 hosts.hosts me.0 one.0 lt ∙ row) ∙ one.2)
 
-same_host : (hosts : HostsShape) (name : List ℕ) (me other : HostId) → IsNamed hosts name me →
-    IsNamed hosts name other → me ≡ other
+same_host : (hosts : HostsShape) (name : List ℕ) (me other : HostId) → IsHostNamed hosts name me →
+    IsHostNamed hosts name other → me ≡ other
 same_host hosts name me other one two =
     let same : me.0 ≡ other.0 = elim (cases_lt me.0 other.0) [
       | inl lt ↦ absurd (not_before hosts name me other one two lt)
@@ -124,7 +124,7 @@ same_host hosts name me other one two =
     ap (λ (n : ℕ). record { 0 = n }) same
 
 -- a host that is found is not missing
-found_or_none : (hosts : HostsShape) (name : List ℕ) (me : HostId) → IsNamed hosts name me →
+found_or_none : (hosts : HostsShape) (name : List ℕ) (me : HostId) → IsHostNamed hosts name me →
     All (λ row. row.name ≢ name) hosts.hosts → ⊥
 found_or_none hosts name me named none =
     let within : me.0 < length hosts.hosts = slice_get_within hosts.hosts me.0 named.0 named.1 in
@@ -136,7 +136,7 @@ found_or_none hosts name me named none =
 abbrev Missing : (name code hosts : List ℕ) → NodeSource → VerdictShape → Type 0
 Missing name code hosts source verdict =
     (All (λ row. row.name ≢ name) source.hosts.hosts × (verdict ≡ no_host name))
-    ⊎ ((me : HostId) × IsNamed source.hosts name me × (¬ AreHostsOf source.code source.hosts.hosts)
+    ⊎ ((me : HostId) × IsHostNamed source.hosts name me × (¬ AreHostsOf source.code source.hosts.hosts)
     × (verdict ≡ other_hosts code hosts))
 
 -- and hosts that are alike are not unlike

@@ -13,7 +13,7 @@ use Rattle.host_code.specs.Code.{CodeShape, CodeHostShape}
 use Rattle.host_decl.specs.Hosts.{HostsShape, HostShape}
 use Rattle.part_verify.specs.declared.errors.VerifyError.{VerifyError}
 use Rattle.part_verify.specs.declared.errors.VerifyError.TheVariants as unsound
-use Rattle.part_verify.specs.Refusing.{IsRefusedFor}
+use Rattle.part_verify.specs.Refusing.{IsPartRefusedFor}
 use Rattle.part_verify.specs.SoundPart.{IsSoundPart}
 use Rattle.split_file.specs.declared.error.SplitError.{SplitError}
 use Rattle.split_file.specs.File.{file_code}
@@ -36,7 +36,7 @@ pub record SomeSources : Type 0 where
   pub hosts : (bytes : List ℕ) → HasOutcome (HostsRead bytes)
   pub start : SomeStart
   pub parts : (code : CodeShape) (me : HostId) →
-      IsSoundPart code me ⊎ ((why : VerifyError) × (why ≢ unsound.OutOfMemory) × IsRefusedFor code me why)
+      IsSoundPart code me ⊎ ((why : VerifyError) × (why ≢ unsound.OutOfMemory) × IsPartRefusedFor code me why)
 
 -- ---- sources
 

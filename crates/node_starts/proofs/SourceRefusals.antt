@@ -6,9 +6,10 @@ use Rattle.event_text.specs.Settings.{FieldForm, form_of}
 use Rattle.front_end.specs.PlacedCode.{code_of}
 use Rattle.front_end.specs.PlacedSources.{OnHosts, PlacedSources}
 use Rattle.front_end.specs.Refusals.{RefusalShape}
-use Rattle.front_end.specs.Sources.{Accepted, AcceptedWith, Drafted, HostsRead, Labelled, Lexed, Parsed, Resolved}
+use Rattle.front_end.specs.Sources.{DraftAccepted, AcceptedWith, Drafted, HostsRead, ProgramLabelled, Lexed, Parsed}
+use Rattle.front_end.specs.Sources.{Resolved}
 use Rattle.front_end.specs.Sources.{Sources}
-use Rattle.front_end.specs.Stages.{Outcome, given, stopped, Then}
+use Rattle.front_end.specs.Stages.{StageEnd, given, stopped, Then}
 use Rattle.front_end.specs.Starting.{StartingValues, long, bad_line, read}
 use Rattle.front_end.specs.Verdicts.{VerdictShape, Refuse, Print}
 use Rattle.std.specs.Prelude.{ℤ, ⊤}
@@ -24,13 +25,13 @@ IsRefusal (Refuse why) = ⊤
 IsRefusal (Print answer text) = ⊥
 
 -- what a stage stops with is a refusal
-abbrev pub Refuses : {X : Type 0} → (Outcome X → Type 0) → Type 0
+abbrev pub Refuses : {X : Type 0} → (StageEnd X → Type 0) → Type 0
 Refuses Stage = (verdict : VerdictShape) → Stage (stopped verdict) → IsRefusal verdict
 
 pub is_refused : (verdict : VerdictShape) (why : RefusalShape) → verdict ≡ Refuse why → IsRefusal verdict
 is_refused verdict why is = subst IsRefusal (sym is) tt
 
-pub then_refuses : {X Y : Type 0} (First : Outcome X → Type 0) (Next : X → Outcome Y → Type 0) → Refuses First →
+pub then_refuses : {X Y : Type 0} (First : StageEnd X → Type 0) (Next : X → StageEnd Y → Type 0) → Refuses First →
     ((x : X) → Refuses (Next x)) → Refuses (Then First Next)
 then_refuses First Next one two verdict (inl (x, was, more)) = two x verdict more
 then_refuses First Next one two verdict (inr (first, was, is)) =
@@ -41,9 +42,9 @@ sources_refuse program hosts =
     then_refuses (Drafted program) (AcceptedWith hosts)
     (then_refuses (Lexed program) Parsed (λ verdict (why, fails, not, is). is_refused verdict _ is)
     (λ list verdict (why, fails, not, is). is_refused verdict _ is))
-    (λ draft. then_refuses (HostsRead hosts) (λ file. Accepted file draft)
+    (λ draft. then_refuses (HostsRead hosts) (λ file. DraftAccepted file draft)
     (λ verdict (why, fails, not, is). is_refused verdict _ is)
-    (λ file. then_refuses (Resolved file draft) (Labelled file)
+    (λ file. then_refuses (Resolved file draft) (ProgramLabelled file)
     (λ verdict (why, fails, not, is). is_refused verdict _ is)
     (λ tree verdict (why, fails, not, is). is_refused verdict _ is)))
 
@@ -53,11 +54,11 @@ plans_refuse program hosts =
     (λ source verdict (why, none, is). is_refused verdict _ is)
 
 -- an outcome that is none, or a refusal
-abbrev IsGivenOrRefused : {X : Type 0} → Outcome X → Type 0
+abbrev IsGivenOrRefused : {X : Type 0} → StageEnd X → Type 0
 IsGivenOrRefused (given x) = ⊤
 IsGivenOrRefused (stopped verdict) = IsRefusal verdict
 
-start_ends : (file start : List ℕ) (fields : List FieldForm) (end : Outcome (List (List ℤ))) →
+start_ends : (file start : List ℕ) (fields : List FieldForm) (end : StageEnd (List (List ℤ))) →
     StartingValues file start fields end → IsGivenOrRefused end
 start_ends file start fields _ (long more) = tt
 start_ends file start fields _ (bad_line line short is) = tt

@@ -11,14 +11,14 @@ use Rattle.host_decl.specs.Hosts.{HostsShape, HostShape}
 use Rattle.event_text.specs.Settings.{form_of}
 use Rattle.part_verify.specs.declared.errors.VerifyError.{VerifyError}
 use Rattle.part_verify.specs.declared.errors.VerifyError.TheVariants as unsound
-use Rattle.part_verify.specs.Refusing.{IsRefusedFor}
+use Rattle.part_verify.specs.Refusing.{IsPartRefusedFor}
 use Rattle.part_verify.specs.SoundPart.{IsSoundPart}
 use Rattle.split_file.specs.declared.error.SplitError.{SplitError}
 use Rattle.split_file.specs.File.{file_code}
 use Rattle.front_end.specs.PlacedCode.{code_of}
 use Rattle.front_end.specs.PlacedSources.{PlacedSource, PlacedSources}
 use Rattle.front_end.specs.Sources.{HostsRead}
-use Rattle.front_end.specs.Stages.{Outcome, given, stopped, Then}
+use Rattle.front_end.specs.Stages.{StageEnd, given, stopped, Then}
 use Rattle.front_end.specs.Starting.{StartingValues}
 use Rattle.front_end.specs.Refusals as refusals
 use Rattle.front_end.specs.Verdicts.{VerdictShape, Refuse, too_long}
@@ -51,35 +51,35 @@ pub record NodeSource : Type 0 where
 -- ---- the stages
 
 -- the values that a file of this name gives to the fields of a code, with the code and its hosts
-abbrev pub Valued : (file start : List ℕ) → CodeShape → HostsShape → Outcome NodeSource → Type 0
+abbrev pub Valued : (file start : List ℕ) → CodeShape → HostsShape → StageEnd NodeSource → Type 0
 Valued file start code hosts =
     Then (StartingValues file start (map form_of code.fields))
     (λ values end. end ≡ given (record { code = code; hosts = hosts; values = values }))
 
 -- a program in its places
-abbrev pub PlacedNode : (file start : List ℕ) → PlacedSource → Outcome NodeSource → Type 0
+abbrev pub PlacedNode : (file start : List ℕ) → PlacedSource → StageEnd NodeSource → Type 0
 PlacedNode file start placed = Valued file start (code_of placed) placed.source.file
 
-abbrev pub FromProgram : (program hosts file start : List ℕ) → Outcome NodeSource → Type 0
+abbrev pub FromProgram : (program hosts file start : List ℕ) → StageEnd NodeSource → Type 0
 FromProgram program hosts file start = Then (PlacedSources program hosts) (PlacedNode file start)
 
 -- the code of a split file of this name
-abbrev pub CodeRead : (name bytes : List ℕ) → Outcome CodeShape → Type 0
+abbrev pub CodeRead : (name bytes : List ℕ) → StageEnd CodeShape → Type 0
 CodeRead name bytes (given code) = (length bytes ≤ SPLIT_FILE_BYTES) × (file_code bytes ≡ Ok code)
 CodeRead name bytes (stopped verdict) =
     ((SPLIT_FILE_BYTES < length bytes) × (verdict ≡ too_long name))
     ⊎ ((why : SplitError) × (length bytes ≤ SPLIT_FILE_BYTES) × (file_code bytes ≡ Err why)
     × (verdict ≡ bad_code name why))
 
-abbrev pub FromCode : (name code hosts file start : List ℕ) → Outcome NodeSource → Type 0
+abbrev pub FromCode : (name code hosts file start : List ℕ) → StageEnd NodeSource → Type 0
 FromCode name code hosts file start =
     Then (CodeRead name code) (λ code. Then (HostsRead hosts) (Valued file start code))
 
 -- ---- the node's host
 
 -- the number of the first row of this name
-abbrev pub IsNamed : HostsShape → List ℕ → HostId → Type 0
-IsNamed hosts name me =
+abbrev pub IsHostNamed : HostsShape → List ℕ → HostId → Type 0
+IsHostNamed hosts name me =
     (row : HostShape) × (slice_get hosts.hosts me.0 ≡ Some row) × (row.name ≡ name)
     × All (λ other. other.name ≢ name) (take me.0 hosts.hosts)
 
@@ -97,12 +97,12 @@ pub record NodeStart : Type 0 where
   pub me : HostId
 
 -- the files have the code and the hosts
-abbrev pub OfHost : (name code hosts : List ℕ) → NodeSource → Outcome NodeStart → Type 0
+abbrev pub OfHost : (name code hosts : List ℕ) → NodeSource → StageEnd NodeStart → Type 0
 OfHost name code hosts source (given node) =
-    (node.source ≡ source) × IsNamed source.hosts name node.me × AreHostsOf source.code source.hosts.hosts
+    (node.source ≡ source) × IsHostNamed source.hosts name node.me × AreHostsOf source.code source.hosts.hosts
 OfHost name code hosts source (stopped verdict) =
     (All (λ row. row.name ≢ name) source.hosts.hosts × (verdict ≡ no_host name))
-    ⊎ ((me : HostId) × IsNamed source.hosts name me × (¬ AreHostsOf source.code source.hosts.hosts)
+    ⊎ ((me : HostId) × IsHostNamed source.hosts name me × (¬ AreHostsOf source.code source.hosts.hosts)
     × (verdict ≡ other_hosts code hosts))
 
 -- ---- the node's part
@@ -115,15 +115,15 @@ PartRefused file (unsound.Reveals place) verdict = verdict ≡ reveals file plac
 
 -- A host that is given the code of a split file looks at its own part first, and does not run a part that is not sound.
 -- Of the code of a program it takes its own word.
-abbrev pub PartChecked : SourceName → NodeStart → Outcome NodeStart → Type 0
+abbrev pub PartChecked : SourceName → NodeStart → StageEnd NodeStart → Type 0
 PartChecked (from_program name) node end = end ≡ given node
 PartChecked (from_code name) node (given same) = (same ≡ node) × IsSoundPart node.source.code node.me
 PartChecked (from_code name) node (stopped verdict) =
-    (why : VerifyError) × IsRefusedFor node.source.code node.me why × PartRefused name why verdict
+    (why : VerifyError) × IsPartRefusedFor node.source.code node.me why × PartRefused name why verdict
 
 -- ---- all stages, where the files hold these bytes
 
-abbrev pub NodeSources : SourceName → (source hosts file start : List ℕ) → Outcome NodeSource → Type 0
+abbrev pub NodeSources : SourceName → (source hosts file start : List ℕ) → StageEnd NodeSource → Type 0
 NodeSources (from_program name) source hosts file start = FromProgram source hosts file start
 NodeSources (from_code name) source hosts file start = FromCode name source hosts file start
 

@@ -5,7 +5,7 @@ ghost use Rattle.host_code.specs.Code.{CodeShape};
 ghost use Rattle.std.specs.String.{string_bytes};
 ghost use Rattle.front_end.specs.Loading.{EndsAs, StopsWith};
 ghost use Rattle.js_base.specs.declared.limits.TheConstants.{HOSTS};
-ghost use Rattle.node_starts.specs.NodeSources.{IsNamed, IsStarted, OfHost, named_host, no_host, node_source};
+ghost use Rattle.node_starts.specs.NodeSources.{IsHostNamed, IsStarted, OfHost, named_host, no_host, node_source};
 ghost use Rattle.node_starts.specs.NodeSources.{node_start, other_hosts};
 
 use crate::node_source::NodeSource;
@@ -75,7 +75,7 @@ pub fn copies(alloc: Global, one: &str, other: &str) -> Result<(String, String),
 
 /// The number of the host of a name.
 fn host_named(hosts: &Hosts, name: &str) -> Option<HostId>
-    ensures found { IfSome result (IsNamed hosts.now name.now) }
+    ensures found { IfSome result (IsHostNamed hosts.now name.now) }
     ensures none { IfNone result (All (λ row. row.name ≢ name.now) hosts.now.hosts) }
 {
     let rows = hosts.hosts();

@@ -19,9 +19,13 @@ use Rattle.host_code.specs.declared.message.Message.TheVariants as message
 use Rattle.host_code.specs.Code.{CodeShape, CodeFieldShape, field_at, entry_at}
 use Rattle.host_code.specs.Thread.{ThreadShape}
 use Rattle.host_code.specs.Riders.{names_of}
-use Rattle.host_core.specs.Host.{HostShape, Outcome, without_message, with_message, with_running, value_in_thread, with_variable_set, after_clearing}
-use Rattle.host_core.specs.Turn.{after_operation, after_read, after_put, after_own_push, after_ask, after_go, after_go_with, after_own_call, after_return, after_back, after_forward, with_thread, riders_of}
-use Rattle.part_verify.specs.SoundPart.{EntryWithin, FieldWithin, VariableWithin, NamesWithin, IsSeenBy, SeesVariable, ShowsWell}
+use Rattle.host_core.specs.Host.{HostState, Outcome, without_message, with_message, with_running, value_in_thread}
+use Rattle.host_core.specs.Host.{with_variable_set, after_clearing}
+use Rattle.host_core.specs.Turn.{after_operation, after_read, after_put, after_own_push, after_ask, after_go}
+use Rattle.host_core.specs.Turn.{after_go_with, after_own_call, after_return, after_back, after_forward, with_thread}
+use Rattle.host_core.specs.Turn.{riders_of}
+use Rattle.part_verify.specs.SoundPart.{EntryWithin, FieldWithin, VariableWithin, NamesWithin, IsSeenBy, SeesVariable}
+use Rattle.part_verify.specs.SoundPart.{ShowsWell}
 use Rattle.part_verify.specs.Keeping.{SendsWithin, ShowsTo, IsSentByToken}
 
 -- another number is another host
@@ -36,7 +40,7 @@ abbrev pub Says : CodeShape → ℕ → ℕ → Op → Option (HostId × Message
 Says code need label does sent = IfSome sent (λ letter. SendsWithin code need letter.1)
     × IfSome sent (λ letter. IsSentByToken does ⊎ ShowsTo code label letter.0 letter.1)
 
-module _ (code : CodeShape) (host : HostShape) (thread : ThreadShape) (need label : ℕ) where
+module _ (code : CodeShape) (host : HostState) (thread : ThreadShape) (need label : ℕ) where
   read_on : (field : FieldId) (index : List Node) (there : CodeFieldShape) (here : Bool)
       (own other : Outcome) → own.sent ≡ None → (request : Message) → other.sent ≡ Some (there.host, request) →
       SendsWithin code need request → (does : Op) → (here ≡ false → ShowsTo code label there.host request) →
@@ -61,15 +65,19 @@ module _ (code : CodeShape) (host : HostShape) (thread : ThreadShape) (need labe
   put_says field index value None is shown within = absurd shown
   put_says field index value (Some there) is shown within =
       read_on field index there (there.host.0 == host.me.0) _ _ refl _ refl within (op.Put field index value)
-      (λ other. let seen = shown (other_number there.host host.me other) in
-      (seen.0, subst (λ (o : Option CodeFieldShape). IsSomeAnd o (λ t. IsSeenBy code t.label there.host)) (sym is) seen.1))
+      (λ other. let seen = shown (other_number there.host host.me other) in (
+        seen.0,
+        subst (λ (o : Option CodeFieldShape). IsSomeAnd o (λ t. IsSeenBy code t.label there.host)) (sym is)
+            seen.1,
+      ))
 
   push_says : (entry : EntryId) (held : Option Token) →
       Says code need label (op.Push entry) (after_own_push host thread entry held).sent
   push_says entry None = (tt, tt)
   push_says entry (Some held) = (tt, tt)
 
-  ask_says : (entry : EntryId) (on : HostId) (held : Option Token) → EntryWithin code need entry → IsSeenBy code label on →
+  ask_says : (entry : EntryId) (on : HostId) (held : Option Token) → EntryWithin code need entry →
+      IsSeenBy code label on →
       Says code need label (op.Ask entry on) (after_ask host thread entry on held).sent
   ask_says entry on None within seen = (tt, tt)
   ask_says entry on (Some held) within seen = (within, inr seen)
@@ -113,7 +121,7 @@ module _ (code : CodeShape) (host : HostShape) (thread : ThreadShape) (need labe
   return_says variable value (Some held) passes within =
       return_on variable value held (held.host.0 == host.me.0) passes within
 
-  back_on : (held : Token) (here : Bool) (own : HostShape) →
+  back_on : (held : Token) (here : Bool) (own : HostState) →
       Says code need label op.Back (if here
       then without_message own else with_message (with_running host None) held.host (message.Lgoto held)).sent
   back_on held true own = (tt, tt)

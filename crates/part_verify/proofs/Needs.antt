@@ -1,5 +1,6 @@
 -- The entries of a host one after the other, with bounds that are kept from one to the next.
-use Rattle.std.proofs.Common.{◌≡◌, ◌≢◌, ◌<◌, ◌≤◌, ◌+◌, ◌∙◌, ℕ, List, length, ap, refl, sym, subst, inl, inr, arith, replicate}
+use Rattle.std.proofs.Common.{◌≡◌, ◌≢◌, ◌<◌, ◌≤◌, ◌+◌, ◌∙◌, ℕ, List, length, ap, refl, sym, subst, inl, inr, arith}
+use Rattle.std.proofs.Common.{replicate}
 use Rattle.std.specs.Prelude.{Some, None, slice_get, slice_index}
 use Rattle.std.proofs.lemmas.Bool.{cases_eq}
 use Rattle.std.proofs.lemmas.List.{get_or-replicate}
@@ -12,10 +13,10 @@ use Rattle.host_code.specs.declared.code.Entry.{Entry}
 use Rattle.host_code.specs.declared.instruction.Instr.{Instr}
 use Rattle.host_code.specs.Code.{CodeShape, halt, part_of, instruction_at}
 use Rattle.part_verify.specs.declared.errors.VerifyError.TheVariants.{WeakEntry}
-use Rattle.part_verify.specs.Paths.{IsUnder, Leads}
+use Rattle.part_verify.specs.Paths.{IsUnder, PathLeads}
 use Rattle.part_verify.specs.SoundPart.{NamesWithin, AreNeedsKept}
 use Rattle.part_verify.specs.Bounds.{IsBounded, Found}
-use Rattle.part_verify.specs.Refusing.{IsRefusedFor}
+use Rattle.part_verify.specs.Refusing.{IsPartRefusedFor}
 use Rattle.part_verify.proofs.Within.{all_set, in_all_set, names_in_all, names_in_larger}
 use Rattle.part_verify.proofs.Walks.{led_within}
 
@@ -78,7 +79,8 @@ module _ (code : CodeShape) (me : HostId) where
     pub passed_here : (bound : List ℕ) → Found code me entry.at entry.need None bound → ArePassed code me number →
         ArePassed code me (number + 1)
     passed_here bound kept = one_passed (λ there place one under same is.
-        let leads : Leads code me entry.at place = subst (λ (e : Entry). Leads code me e.at place) (sym same) under.leads in
+        let leads : PathLeads code me entry.at place = subst (λ (e : Entry). PathLeads code me e.at place) (sym same)
+        under.leads in
         subst (λ (e : Entry). NamesWithin code e.need one.op) same
         (names_in_larger code (slice_index bound place) entry.need one.op
         (led_within code me entry.at entry.need bound kept.0.behind kept.1 leads.0 place leads.1)
@@ -86,7 +88,7 @@ module _ (code : CodeShape) (me : HostId) where
 
     pub refused_here : (place : ℕ) (bound : List ℕ) → this ≢ halt → entry.host ≡ me →
         Found code me entry.at entry.need (Some place) bound → ArePassed code me number →
-        IsRefusedFor code me (WeakEntry this place)
+        IsPartRefusedFor code me (WeakEntry this place)
     refused_here place bound not_halt here weak passed = (
       (
         weak.1.0,
@@ -96,7 +98,11 @@ module _ (code : CodeShape) (me : HostId) where
       ),
       λ other before breaks.
           let same = same_entry this other breaks.1 refl in
-          weak.2 other before (subst (λ (e : Entry). Leads code me e.at other) (sym same) breaks.1.leads)
-          (breaks.0, breaks.2, λ names. breaks.3 (subst (λ (e : Entry). NamesWithin code e.need breaks.0.op) same names)),
+          weak.2 other before (subst (λ (e : Entry). PathLeads code me e.at other) (sym same) breaks.1.leads) (
+            breaks.0,
+            breaks.2,
+            λ names. breaks.3
+                (subst (λ (e : Entry). NamesWithin code e.need breaks.0.op) same names),
+          ),
       λ earlier other before breaks. breaks.3 (passed earlier other breaks.0 breaks.1 before breaks.2),
     )

@@ -1,5 +1,6 @@
 -- A thread of a host with a sound part keeps within the need of the entry at which it started.
-use Rattle.std.proofs.Common.{◌≡◌, ◌≢◌, ◌∙◌, ℕ, ℤ, suc, length, All, List, [], ◌∷◌, Option, Some, None, ap, sym, subst, inl, inr, refl}
+use Rattle.std.proofs.Common.{◌≡◌, ◌≢◌, ◌∙◌, ℕ, ℤ, suc, length, All, List, [], ◌∷◌, Option, Some, None, ap, sym, subst}
+use Rattle.std.proofs.Common.{inl, inr, refl}
 use Rattle.std.specs.Prelude.{Bool, true, false, ◌==◌, if◌then◌else◌, IsSomeAnd, IfSome, IsSome}
 use Rattle.std.proofs.lemmas.Bool.{cases_eq, false≢true}
 use Rattle.js_base.specs.declared.ids.HostId.{HostId}
@@ -10,16 +11,17 @@ use Rattle.host_code.specs.declared.instruction.Instr.{Instr}
 use Rattle.host_code.specs.Code.{CodeShape, halt, entry_at, instruction_at}
 use Rattle.host_code.specs.Sound.{IsHost, IsSoundCode}
 use Rattle.host_code.specs.Thread.{ThreadShape, WaitingShape}
-use Rattle.host_core.specs.Host.{HostShape, Outcome, with_running, after_push, after_entering, new_token}
+use Rattle.host_core.specs.Host.{HostState, Outcome, with_running, after_push, after_entering, new_token}
 use Rattle.host_core.specs.Start.{host_at_start, idle_host, root_host, main_frame, last_token}
 use Rattle.host_core.specs.Turn.{IsTurn, IsTurnOf, IsRunning, IsOperation}
-use Rattle.host_core.specs.Fits.{StateFits, RunningFits, EntryFits, TokenFits}
+use Rattle.host_core.specs.Fits.{StateFits, RunningFits, StackEntryFits, TokenFits}
 use Rattle.host_core.proofs.TurnKept.{same_host, turn_kept}
 use Rattle.host_core.proofs.TakingKept.{taking_kept}
 use Rattle.host_core.proofs.StartKept.{idle_fits, root_fits}
 use Rattle.part_verify.specs.SoundPart.{AreNeedsKept, IsSoundPart, NamesWithin, ShowsWell}
 use Rattle.part_verify.specs.Keeping.{KeepsWithin}
-use Rattle.part_verify.specs.Marks.{Marks, HostEvent, IsHostStep, HostRun, marks_sent, mark_behind_place, marks_after, marks_after_turn, marks_after_message, marks_at_start}
+use Rattle.part_verify.specs.Marks.{Marks, HostEvent, IsHostStep, HostRun, marks_sent, mark_behind_place, marks_after}
+use Rattle.part_verify.specs.Marks.{marks_after_turn, marks_after_message, marks_at_start}
 use Rattle.part_verify.specs.Marks.HostEvent.{Comes, Runs}
 use Rattle.part_verify.proofs.Covered.{IsCovered, IsMarked, AreMarked, covered_entered, covered_names}
 use Rattle.part_verify.proofs.Keeps.{Says, operation_says}
@@ -30,10 +32,10 @@ module _ (code : CodeShape) (me : HostId) (sound : IsSoundCode code) (is_host : 
     (kept : AreNeedsKept code me) where
   -- ---- a step
 
-  operation_on : (host : HostShape) (thread : ThreadShape) (running : Option EntryId) (waiting : List EntryId)
+  operation_on : (host : HostState) (thread : ThreadShape) (running : Option EntryId) (waiting : List EntryId)
       (one : Instr) (outcome : Outcome) → host.me ≡ me → IsMarked code me (Some thread) running →
       AreMarked code me waiting host.waiting → instruction_at code me thread.at ≡ Some one →
-      All (EntryFits code me) host.entries → IsSomeAnd thread.held (TokenFits code) →
+      All (StackEntryFits code me) host.entries → IsSomeAnd thread.held (TokenFits code) →
       IsOperation code (with_running host None) thread one.op outcome →
       Stands code me outcome.state (marks_sent (record { running = running; waiting = waiting }) outcome.state.running
       (mark_behind_place host.entries running (Some one)) outcome.sent)
@@ -44,10 +46,10 @@ module _ (code : CodeShape) (me : HostId) (sound : IsSoundCode code) (is_host : 
       (operation_leaves code me (with_running host None) thread mark waiting same refl all here one kept is fits holds
       one.op step.0 _ refl ((sound.parts me is_host).instructions thread.at one is).operation)
 
-  running_on : (host : HostShape) (thread : ThreadShape) (running : Option EntryId) (waiting : List EntryId)
+  running_on : (host : HostState) (thread : ThreadShape) (running : Option EntryId) (waiting : List EntryId)
       (found : Option Instr) (outcome : Outcome) → host.me ≡ me → IsMarked code me (Some thread) running →
       AreMarked code me waiting host.waiting → instruction_at code me thread.at ≡ found →
-      All (EntryFits code me) host.entries → IsSomeAnd thread.held (TokenFits code) →
+      All (StackEntryFits code me) host.entries → IsSomeAnd thread.held (TokenFits code) →
       IsRunning code (with_running host None) thread found outcome →
       Stands code me outcome.state (marks_sent (record { running = running; waiting = waiting }) outcome.state.running
       (mark_behind_place host.entries running found) outcome.sent)
@@ -57,9 +59,10 @@ module _ (code : CodeShape) (me : HostId) (sound : IsSoundCode code) (is_host : 
   running_on host thread running waiting (Some one) outcome same here all is fits holds step =
       operation_on host thread running waiting one outcome same here all is fits holds step
 
-  turn_on : (host : HostShape) (marks : Marks) (thread : Option ThreadShape) (outcome : Outcome) → host.me ≡ me →
+  turn_on : (host : HostState) (marks : Marks) (thread : Option ThreadShape) (outcome : Outcome) → host.me ≡ me →
       IsMarked code me thread marks.running → AreMarked code me marks.waiting host.waiting → host.running ≡ thread →
-      All (EntryFits code me) host.entries → IfSome thread (RunningFits code me) → IsTurnOf code host thread outcome →
+      All (StackEntryFits code me) host.entries → IfSome thread (RunningFits code me) →
+      IsTurnOf code host thread outcome →
       Stands code me outcome.state (marks_after_turn code host thread outcome marks)
   turn_on host marks None outcome same here all is fits runs step =
       subst (λ (o : Outcome). Stands code me o.state marks) step
@@ -69,28 +72,28 @@ module _ (code : CodeShape) (me : HostId) (sound : IsSoundCode code) (is_host : 
       (ap (λ (h : HostId). instruction_at code h thread.at) (sym same)) fits runs.held step
 
   -- the state fits the code, and its threads stand where their marks may lead
-  abbrev Holds : HostShape → Marks → Type 0
+  abbrev Holds : HostState → Marks → Type 0
   Holds host marks = StateFits code host × Stands code me host marks
 
-  step_holds : (event : HostEvent) (host : HostShape) (marks : Marks) (outcome : Outcome) → Holds host marks →
+  step_holds : (event : HostEvent) (host : HostState) (marks : Marks) (outcome : Outcome) → Holds host marks →
       IsHostStep code event host outcome → Holds outcome.state (marks_after code event host outcome marks)
   step_holds (Comes from letter) host marks outcome holds step = (
     (taking_kept code host from letter outcome sound holds.0 step.1 step.2 step.3).0,
     subst (λ (o : Outcome). Stands code me o.state (marks_after_message host from letter o marks)) step.3.2
         (taking_leaves code me host marks from letter step.3.0 holds.1 step.0
-        (subst (λ (h : HostId). All (EntryFits code h) host.entries) holds.1.0 holds.0.entries) step.3.1),
+        (subst (λ (h : HostId). All (StackEntryFits code h) host.entries) holds.1.0 holds.0.entries) step.3.1),
   )
   step_holds Runs host marks outcome holds step = (
     (turn_kept code host outcome sound holds.0 step.1).0,
     turn_on host marks host.running outcome holds.1.0 holds.1.1 holds.1.2 refl
-        (subst (λ (h : HostId). All (EntryFits code h) host.entries) holds.1.0 holds.0.entries)
+        (subst (λ (h : HostId). All (StackEntryFits code h) host.entries) holds.1.0 holds.0.entries)
         (subst (λ (h : HostId). IfSome host.running (RunningFits code h)) holds.1.0 holds.0.running) step.1,
   )
 
-  run_holds : (events : List HostEvent) (host later : HostShape) (marks marked : Marks) → Holds host marks →
+  run_holds : (events : List HostEvent) (host later : HostState) (marks marked : Marks) → Holds host marks →
       HostRun code host marks events later marked → Holds later marked
   run_holds [] host later marks marked holds run =
-      subst (λ (h : HostShape). Holds h marked) run.0 (subst (λ (m : Marks). Holds host m) run.1 holds)
+      subst (λ (h : HostState). Holds h marked) run.0 (subst (λ (m : Marks). Holds host m) run.1 holds)
   run_holds (event ∷ events) host later marks marked holds run =
       run_holds events run.0.state later (marks_after code event host run.0 marks) marked
       (step_holds event host marks run.0 holds run.1) run.2
@@ -104,7 +107,7 @@ module _ (code : CodeShape) (me : HostId) (sound : IsSoundCode code) (is_host : 
     | inr apart ↦ covered_entered code me code.main there (λ same. apart (ap (λ (e : EntryId). e.0) same)) is here
   ]
 
-  main_stands : (host : HostShape) (token : Token) (found : Option Entry) → entry_at code code.main ≡ found →
+  main_stands : (host : HostState) (token : Token) (found : Option Entry) → entry_at code code.main ≡ found →
       host.me ≡ me → AreMarked code me [] host.waiting → me ≡ code.root →
       IsSomeAnd found (λ there. there.host ≡ code.root) →
       Stands code me (after_entering host found main_frame token) (record { running = Some code.main; waiting = [] })
@@ -124,7 +127,7 @@ module _ (code : CodeShape) (me : HostId) (sound : IsSoundCode code) (is_host : 
       )
   start_holds store key false root = (idle_fits code store key me is_host, (refl, tt, tt))
 
-  pub started_holds : (store : List (List ℤ)) (key : List ℕ) (events : List HostEvent) (host : HostShape)
+  pub started_holds : (store : List (List ℤ)) (key : List ℕ) (events : List HostEvent) (host : HostState)
       (marks : Marks) → HostRun code (host_at_start code store key me) (marks_at_start code me) events host marks →
       Holds host marks
   started_holds store key events host marks run =
@@ -154,7 +157,7 @@ same_length code me (mark ∷ marks) [] all = absurd all
 same_length code me (mark ∷ marks) (one ∷ waiting) all = ap suc (same_length code me marks waiting all.1)
 
 pub marked : (code : CodeShape) (me : HostId) (store : List (List ℤ)) (key : List ℕ) (events : List HostEvent)
-    (host : HostShape) (marks : Marks) → IsSoundCode code → IsHost code me → IsSoundPart code me →
+    (host : HostState) (marks : Marks) → IsSoundCode code → IsHost code me → IsSoundPart code me →
     HostRun code (host_at_start code store key me) (marks_at_start code me) events host marks →
     (IsSome host.running → IsSome marks.running) × (length marks.waiting ≡ length host.waiting)
 marked code me store key events host marks sound is_host part run =
@@ -165,13 +168,14 @@ marked code me store key events host marks sound is_host part run =
     )
 
 pub within : (code : CodeShape) (me : HostId) (store : List (List ℤ)) (key : List ℕ) (events : List HostEvent)
-    (host : HostShape) (marks : Marks) (there : EntryId) (entry : Entry) (thread : ThreadShape) (one : Instr)
+    (host : HostState) (marks : Marks) (there : EntryId) (entry : Entry) (thread : ThreadShape) (one : Instr)
     (outcome : Outcome) → IsSoundCode code → IsHost code me → IsSoundPart code me →
     HostRun code (host_at_start code store key me) (marks_at_start code me) events host marks →
     host.running ≡ Some thread → marks.running ≡ Some there → there ≢ halt → entry_at code there ≡ Some entry →
     instruction_at code me thread.at ≡ Some one → IsTurn code host outcome →
     KeepsWithin code entry.need one outcome.sent
-within code me store key events host marks there entry thread one outcome sound is_host part run running mark not_halt is
+within code me store key events host marks there entry thread one outcome sound is_host part run running mark not_halt
+    is
     found turn =
     let stands : Stands code me host marks =
     (started_holds code me sound is_host part.needs store key events host marks run).1 in

@@ -31,7 +31,7 @@ use Rattle.part_verify.specs.Paths.{goes_on}
 use Rattle.part_verify.specs.SoundPart.{LabelWithin, EntryWithin, FieldWithin, VariableWithin, NamesWithin, IsSeenBy}
 use Rattle.part_verify.specs.SoundPart.{SeesVariable, ShowsVariable, ShowsWell, AreNeedsKept, IsSoundPart}
 use Rattle.part_verify.specs.Bounds.{IsBounded, Found}
-use Rattle.part_verify.specs.Refusing.{IsRefusedFor, RevealsAt}
+use Rattle.part_verify.specs.Refusing.{IsPartRefusedFor, RevealsAt}
 use Rattle.part_verify.proofs.Within.{all_set}
 use Rattle.part_verify.proofs.Walks.{IsWalk, open_places, starts, skips, visits, visit_ends, ends}
 use Rattle.part_verify.proofs.Needs.{ArePassed, bounds_begin, none_passed, all_passed, passed_elsewhere, passed_here}
@@ -203,7 +203,7 @@ module _ (code : CodeShape) (me : HostId) (at need : ℕ) where
 
 module _ (code : CodeShape) (me : HostId) where
   abbrev Refused : Type 0
-  Refused = (why : VerifyError) × (why ≢ OutOfMemory) × IsRefusedFor code me why
+  Refused = (why : VerifyError) × (why ≢ OutOfMemory) × IsPartRefusedFor code me why
 
   abbrev AreBounds : List ℕ → Type 0
   AreBounds bound = (length bound ≡ length (part_of code me)) × IsBounded code me bound
@@ -305,7 +305,7 @@ module _ (code : CodeShape) (me : HostId) where
   ]
 
 pub sound_or_refused : (code : CodeShape) (me : HostId) → IsSoundPart code me
-    ⊎ ((why : VerifyError) × (why ≢ OutOfMemory) × IsRefusedFor code me why)
+    ⊎ ((why : VerifyError) × (why ≢ OutOfMemory) × IsPartRefusedFor code me why)
 sound_or_refused code me = elim (needs_checked code me (length code.entries) refl) [
   | inl kept ↦ all_shown code me kept
   | inr refused ↦ inr refused

@@ -1,6 +1,8 @@
 -- Each thread of a host stands where the entry at which it started may lead, whatever is delivered.
-use Rattle.std.proofs.Common.{◌≡◌, ◌≢◌, ◌∙◌, ◌+◌, ℕ, All, List, [], ◌∷◌, ◌++◌, Option, Some, None, ap, sym, subst, inl, inr, refl}
-use Rattle.std.specs.Prelude.{Bool, true, false, ◌==◌, ◌↔◌, if◌then◌else◌, IsTrue, IsSome, Contains, IsSomeAnd, slice_get}
+use Rattle.std.proofs.Common.{◌≡◌, ◌≢◌, ◌∙◌, ◌+◌, ℕ, All, List, [], ◌∷◌, ◌++◌, Option, Some, None, ap, sym, subst, inl}
+use Rattle.std.proofs.Common.{inr, refl}
+use Rattle.std.specs.Prelude.{Bool, true, false, ◌==◌, ◌↔◌, if◌then◌else◌, IsTrue, IsSome, Contains, IsSomeAnd}
+use Rattle.std.specs.Prelude.{slice_get}
 use Rattle.std.specs.Option.{option_map}
 use Rattle.std.specs.Ordering.{int_eq}
 use Rattle.std.proofs.lemmas.Bool.{false≢true}
@@ -25,18 +27,23 @@ use Rattle.host_code.specs.Sound.{IsEntryOn, OperationFits}
 use Rattle.host_code.specs.Riders.{Rider}
 use Rattle.host_code.specs.Thread.{ThreadShape, WaitingShape}
 use Rattle.host_code.specs.Thread.Awaited.{value_of_field, acknowledgement, token_of_entry}
-use Rattle.host_core.specs.Host.{HostShape, Outcome, without_message, with_running, with_one_ignored, after_pop, after_entering, value_in_thread, with_variable_set, with_variables_set, with_temporary, with_token}
-use Rattle.host_core.specs.Taking.{after_passing, after_taking, after_answer, Passes, place_of_awaiting}
-use Rattle.host_core.specs.Turn.{after_operation, after_read, after_put, after_own_push, after_ask, after_go, after_go_with, after_own_call, after_return, after_back, after_branch}
-use Rattle.host_core.specs.Fits.{EntryFits, TokenFits}
+use Rattle.host_core.specs.Host.{HostState, Outcome, without_message, with_running, with_one_ignored, after_pop}
+use Rattle.host_core.specs.Host.{after_entering, value_in_thread, with_variable_set, with_variables_set, with_temporary}
+use Rattle.host_core.specs.Host.{with_token}
+use Rattle.host_core.specs.Taking.{after_passing, after_taking, after_answer, PassesCheck, place_of_awaiting}
+use Rattle.host_core.specs.Turn.{after_operation, after_read, after_put, after_own_push, after_ask, after_go}
+use Rattle.host_core.specs.Turn.{after_go_with, after_own_call, after_return, after_back, after_branch}
+use Rattle.host_core.specs.Fits.{StackEntryFits, TokenFits}
 use Rattle.host_core.proofs.TurnKept.{same_host}
 use Rattle.part_verify.specs.Paths.{goes_on}
 use Rattle.part_verify.specs.SoundPart.{AreNeedsKept}
-use Rattle.part_verify.specs.Marks.{Marks, mark_of, top_entry, marks_sent, mark_behind, marks_after_message, marks_answered}
-use Rattle.part_verify.proofs.Covered.{IsCovered, IsMarked, AreMarked, covered_entered, covered_next, covered_called, at_rest, marked_push, marked_remove, marked_at}
+use Rattle.part_verify.specs.Marks.{Marks, mark_of, top_entry, marks_sent, mark_behind, marks_after_message}
+use Rattle.part_verify.specs.Marks.{marks_answered}
+use Rattle.part_verify.proofs.Covered.{IsCovered, IsMarked, AreMarked, covered_entered, covered_next, covered_called}
+use Rattle.part_verify.proofs.Covered.{at_rest, marked_push, marked_remove, marked_at}
 
 -- the host keeps its number, and its threads stand where their marks may lead
-abbrev pub Stands : CodeShape → HostId → HostShape → Marks → Type 0
+abbrev pub Stands : CodeShape → HostId → HostState → Marks → Type 0
 Stands code me host marks = (host.me ≡ me) × IsMarked code me host.running marks.running
     × AreMarked code me marks.waiting host.waiting
 
@@ -49,7 +56,7 @@ other_entry entry other is = elim (eqb_tells entry.0 0) [
 module _ (code : CodeShape) (me : HostId) where
   -- ---- a thread that starts at an entry
 
-  entered : (host : HostShape) (entry : EntryId) (frame : FrameId) (token : Token) (waiting : List EntryId)
+  entered : (host : HostState) (entry : EntryId) (frame : FrameId) (token : Token) (waiting : List EntryId)
       (found : Option Entry) → entry_at code entry ≡ found → host.me ≡ me → AreMarked code me waiting host.waiting →
       entry ≢ halt → IsSomeAnd found (λ there. there.host ≡ me) →
       Stands code me (after_entering host found frame token)
@@ -58,7 +65,7 @@ module _ (code : CodeShape) (me : HostId) where
   entered host entry frame token waiting (Some there) is same all not_halt on =
       (same, covered_entered code me entry there not_halt is on, all)
 
-  popped_on : (host : HostShape) (entry : EntryId) (frame : FrameId) (kept : Token) (waiting : List EntryId)
+  popped_on : (host : HostState) (entry : EntryId) (frame : FrameId) (kept : Token) (waiting : List EntryId)
       (halts : Bool) → (entry.0 == halt.0) ≡ halts → host.me ≡ me → AreMarked code me waiting host.waiting →
       IsSomeAnd (entry_at code entry) (λ there. there.host ≡ me) →
       Stands code me (if halts then record host { running = None; halted = true }
@@ -72,14 +79,14 @@ module _ (code : CodeShape) (me : HostId) where
   popped_on host entry frame kept waiting false is same all on =
       entered host entry frame kept waiting (entry_at code entry) refl same all (other_entry entry is) on
 
-  popped : (host : HostShape) (entries : List StackEntry) (waiting : List EntryId) → host.me ≡ me →
-      host.running ≡ None → AreMarked code me waiting host.waiting → All (EntryFits code me) entries →
+  popped : (host : HostState) (entries : List StackEntry) (waiting : List EntryId) → host.me ≡ me →
+      host.running ≡ None → AreMarked code me waiting host.waiting → All (StackEntryFits code me) entries →
       Stands code me (after_pop code host entries)
       (record { running = mark_of (after_pop code host entries).running (top_entry entries); waiting = waiting })
   popped host [] waiting same rests all fits = (same, at_rest code me host.running _ rests, all)
   popped host (top ∷ below) waiting same rests all fits =
       popped_on (record host { entries = below }) top.entry top.frame top.kept waiting (top.entry.0 == halt.0) refl same
-      all (All-head (EntryFits code me) top below fits).entry
+      all (All-head (StackEntryFits code me) top below fits).entry
 
   -- ---- a turn
 
@@ -93,7 +100,7 @@ module _ (code : CodeShape) (me : HostId) where
   either marks mark true own other first second = first
   either marks mark false own other first second = second
 
-  module _ (host : HostShape) (thread : ThreadShape) (mark : EntryId) (waiting : List EntryId) (same : host.me ≡ me)
+  module _ (host : HostState) (thread : ThreadShape) (mark : EntryId) (waiting : List EntryId) (same : host.me ≡ me)
       (rests : host.running ≡ None) (all : AreMarked code me waiting host.waiting)
       (here : IsCovered code me mark thread.at) where
     abbrev marked : Marks
@@ -161,7 +168,7 @@ module _ (code : CodeShape) (me : HostId) where
         either marked this (held.host.0 == host.me.0) _ _ (same, next, all)
         (either marked this passes _ _ (same, tt, waits _ next) (same, next, all))
 
-    back_pops : (passes : Bool) → All (EntryFits code me) host.entries →
+    back_pops : (passes : Bool) → All (StackEntryFits code me) host.entries →
         Leaves marked (top_entry host.entries) (without_message (if passes
         then after_pop code (with_running host None) host.entries
         else with_one_ignored (with_running host None)))
@@ -169,7 +176,7 @@ module _ (code : CodeShape) (me : HostId) where
     back_pops false fits = (same, tt, all)
 
     back_leaves : (held : Option Token) (passes : Bool) → IsSomeAnd held (TokenFits code) →
-        All (EntryFits code me) host.entries →
+        All (StackEntryFits code me) host.entries →
         Leaves marked (top_entry host.entries) (after_back code host thread held passes)
     back_leaves None passes holds fits = absurd holds
     back_leaves (Some held) passes holds fits =
@@ -181,12 +188,13 @@ module _ (code : CodeShape) (me : HostId) where
         either marked this (int_eq (value_in_thread host thread guard) _) _ _ (same, far, all) (same, next, all)
 
     module _ (one : Instr) (kept : AreNeedsKept code me) (is : instruction_at code me thread.at ≡ Some one)
-        (fits : All (EntryFits code me) host.entries) (holds : IsSomeAnd thread.held (TokenFits code)) where
+        (fits : All (StackEntryFits code me) host.entries) (holds : IsSomeAnd thread.held (TokenFits code)) where
       goes : (next : ℕ) → Contains (goes_on one.op thread.at) next → IsCovered code me mark next
       goes next contains = covered_next code me mark thread.at next one is contains here
 
       called_here : (entry : EntryId) (on : HostId) → one.op ≡ op.Call entry on → IsEntryOn code on entry →
-          (on.0 == host.me.0) ≡ true → (there : Entry) → entry_at code entry ≡ Some there → IsCovered code me mark there.at
+          (on.0 == host.me.0) ≡ true → (there : Entry) → entry_at code entry ≡ Some there →
+          IsCovered code me mark there.at
       called_here entry on does enters at_home there found =
           let on_is : on ≡ me = same_host on host.me at_home ∙ same in
           let there_on : IsSomeAnd (Some there) (λ (t : Entry). t.host ≡ on) =
@@ -196,7 +204,8 @@ module _ (code : CodeShape) (me : HostId) where
       one_on : (does : Op) → one.op ≡ does → Contains (goes_on does thread.at) (thread.at + 1) →
           IsCovered code me mark (thread.at + 1)
       one_on does same_op contains =
-          goes (thread.at + 1) (subst (λ (o : Op). Contains (goes_on o thread.at) (thread.at + 1)) (sym same_op) contains)
+          goes (thread.at + 1) (subst (λ (o : Op). Contains (goes_on o thread.at) (thread.at + 1)) (sym same_op)
+          contains)
 
       next_in : Contains ((thread.at + 1) ∷ []) (thread.at + 1)
       next_in = Contains-push [] (thread.at + 1)
@@ -245,13 +254,13 @@ module _ (code : CodeShape) (me : HostId) where
   at_home own None P Q same on = on
   at_home own (Some there) P Q same on = on.0 ∙ same
 
-  riders_keep : (host : HostShape) (frame : FrameId) (riders : List Rider) →
+  riders_keep : (host : HostState) (frame : FrameId) (riders : List Rider) →
       ((with_variables_set host frame riders).me ≡ host.me)
       × ((with_variables_set host frame riders).waiting ≡ host.waiting)
   riders_keep host frame [] = (refl, refl)
   riders_keep host frame (rider ∷ riders) = riders_keep (with_variable_set host frame rider.0 rider.1) frame riders
 
-  answered : (host : HostShape) (marks : Marks) (place : ℕ) (wake : ThreadShape → ThreadShape)
+  answered : (host : HostState) (marks : Marks) (place : ℕ) (wake : ThreadShape → ThreadShape)
       (found : Option WaitingShape) → ((thread : ThreadShape) → (wake thread).at ≡ thread.at) →
       slice_get host.waiting place ≡ found → AreMarked code me marks.waiting host.waiting →
       IsMarked code me (option_map (λ (waiting : WaitingShape). wake waiting.thread) found)
@@ -262,7 +271,7 @@ module _ (code : CodeShape) (me : HostId) where
       subst (λ (o : Option EntryId). IsMarked code me (Some (wake waiting.thread)) o) (sym mark.1)
       (subst (IsCovered code me mark.0) (sym (stays waiting.thread)) mark.2)
 
-  answer_leaves : (host : HostShape) (marks : Marks) (found : Option ℕ) (wake : ThreadShape → ThreadShape) →
+  answer_leaves : (host : HostState) (marks : Marks) (found : Option ℕ) (wake : ThreadShape → ThreadShape) →
       ((thread : ThreadShape) → (wake thread).at ≡ thread.at) → Stands code me host marks →
       Stands code me (after_answer host found wake) (marks_answered marks found)
   answer_leaves host marks None wake stays stands = stands
@@ -272,8 +281,9 @@ module _ (code : CodeShape) (me : HostId) where
     marked_remove code me place marks.waiting host.waiting stands.2,
   )
 
-  pub message_leaves : (host : HostShape) (marks : Marks) (from : HostId) (letter : Message) → Stands code me host marks →
-      host.running ≡ None → All (EntryFits code me) host.entries → Passes code host from letter →
+  pub message_leaves : (host : HostState) (marks : Marks) (from : HostId) (letter : Message) →
+      Stands code me host marks →
+      host.running ≡ None → All (StackEntryFits code me) host.entries → PassesCheck code host from letter →
       Stands code me (after_passing code host from letter).state
       (marks_after_message host from letter (after_passing code host from letter) marks)
   message_leaves host marks from (message.Get request field index) stands rests fits passes = stands
@@ -301,13 +311,13 @@ module _ (code : CodeShape) (me : HostId) where
       (λ thread. refl) stands
 
   -- a message that is ignored
-  ignored_answer : (host : HostShape) (marks : Marks) (found : Option ℕ) → ¬ IsSome found → Stands code me host marks →
+  ignored_answer : (host : HostState) (marks : Marks) (found : Option ℕ) → ¬ IsSome found → Stands code me host marks →
       Stands code me (with_one_ignored host) (marks_answered marks found)
   ignored_answer host marks None none stands = stands
   ignored_answer host marks (Some place) none stands = absurd (none refl)
 
-  ignored_leaves : (host : HostShape) (marks : Marks) (from : HostId) (letter : Message) → Stands code me host marks →
-      host.running ≡ None → ¬ Passes code host from letter →
+  ignored_leaves : (host : HostState) (marks : Marks) (from : HostId) (letter : Message) → Stands code me host marks →
+      host.running ≡ None → ¬ PassesCheck code host from letter →
       Stands code me (with_one_ignored host)
       (marks_after_message host from letter (without_message (with_one_ignored host)) marks)
   ignored_leaves host marks from (message.Get request field index) stands rests fails = stands
@@ -327,9 +337,9 @@ module _ (code : CodeShape) (me : HostId) where
   ignored_leaves host marks from (message.Token request token) stands rests fails =
       ignored_answer host marks (place_of_awaiting host token_of_entry request from) fails stands
 
-  pub taking_leaves : (host : HostShape) (marks : Marks) (from : HostId) (letter : Message) (passes : Bool) →
-      Stands code me host marks → host.running ≡ None → All (EntryFits code me) host.entries →
-      (IsTrue passes ↔ Passes code host from letter) →
+  pub taking_leaves : (host : HostState) (marks : Marks) (from : HostId) (letter : Message) (passes : Bool) →
+      Stands code me host marks → host.running ≡ None → All (StackEntryFits code me) host.entries →
+      (IsTrue passes ↔ PassesCheck code host from letter) →
       Stands code me (after_taking code host from letter passes).state
       (marks_after_message host from letter (after_taking code host from letter passes) marks)
   taking_leaves host marks from letter true stands rests fits check =

@@ -1,6 +1,8 @@
 -- A walk over the instructions that an entry leads to, with a bound for each place.
-use Rattle.std.proofs.Common.{◌≡◌, ◌≢◌, ◌<◌, ◌≤◌, ◌+◌, ◌*◌, ◌⊎◌, ◌∙◌, ℕ, zero, suc, List, [], ◌∷◌, ◌++◌, length, refl, ap, sym, subst, inl, inr, arith, bit_and}
-use Rattle.std.specs.Prelude.{Bool, true, false, not, IsTrue, ◌↔◌, if◌then◌else◌, ◌==◌, nat_lt, Option, Some, None, IfSome, slice_index, slice_set, Contains}
+use Rattle.std.proofs.Common.{◌≡◌, ◌≢◌, ◌<◌, ◌≤◌, ◌+◌, ◌*◌, ◌⊎◌, ◌∙◌, ℕ, zero, suc, List, [], ◌∷◌, ◌++◌, length, refl}
+use Rattle.std.proofs.Common.{ap, sym, subst, inl, inr, arith, bit_and}
+use Rattle.std.specs.Prelude.{Bool, true, false, not, IsTrue, ◌↔◌, if◌then◌else◌, ◌==◌, nat_lt, Option, Some, None}
+use Rattle.std.specs.Prelude.{IfSome, slice_index, slice_set, Contains}
 use Rattle.std.specs.List.{sum_by}
 use Rattle.std.specs.Int.Bits.{and_self}
 use Rattle.std.proofs.Math.Nat.{le_refl}
@@ -9,7 +11,8 @@ use Rattle.std.proofs.lemmas.Bool.{ltb-true, ltb-false, false≢true}
 use Rattle.std.proofs.lemmas.Bool.Decides.{eqb_tells}
 use Rattle.std.proofs.lemmas.List.{get_or-set_same, get_or-set_other, length-append}
 use Rattle.std.proofs.lemmas.List.Sums.{sum_by-set}
-use Rattle.std.proofs.lemmas.List.Elements.{Contains-push, Contains-push_cases, Contains-append_left, Contains-append_right, Contains-append_cases}
+use Rattle.std.proofs.lemmas.List.Elements.{Contains-push, Contains-push_cases, Contains-append_left}
+use Rattle.std.proofs.lemmas.List.Elements.{Contains-append_right, Contains-append_cases}
 use Rattle.js_base.specs.declared.ids.HostId.{HostId}
 use Rattle.js_base.specs.Bits.{BitsWithin}
 use Rattle.js_base.proofs.BitLemmas.{within_from_and}
@@ -17,10 +20,11 @@ use Rattle.host_code.specs.declared.instruction.Instr.{Instr}
 use Rattle.host_code.specs.declared.instruction.Op.{Op}
 use Rattle.host_code.specs.declared.instruction.Op.TheVariants as op
 use Rattle.host_code.specs.Code.{CodeShape, instruction_at}
-use Rattle.part_verify.specs.Paths.{IsEdge, Leads, LeadsIn, goes_on}
+use Rattle.part_verify.specs.Paths.{IsEdge, PathLeads, LeadsIn, goes_on}
 use Rattle.part_verify.specs.SoundPart.{NamesWithin}
 use Rattle.part_verify.specs.Bounds.{IsBounded, NamesMore, Found, lesser}
-use Rattle.part_verify.proofs.Within.{within_itself, within_through, common_in_first, common_in_second, in_common, names_in_larger, names_in_common}
+use Rattle.part_verify.proofs.Within.{within_itself, within_through, common_in_first, common_in_second, in_common}
+use Rattle.part_verify.proofs.Within.{names_in_larger, names_in_common}
 
 -- ---- how much is left to visit
 
@@ -113,11 +117,11 @@ pub record IsWalk (code : CodeShape) (me : HostId) (at need : ℕ) (bound work :
       BitsWithin (slice_index bound next) (slice_index bound place)
       ⊎ (Contains work next × IsMetIn bound need next place)
   pub begun : BitsWithin (slice_index bound at) need ⊎ Contains work at
-  pub led : (place : ℕ) → Contains work place → Leads code me at place
-  pub least_is : IfSome least (λ place. Leads code me at place × NamesMore code me need place)
+  pub led : (place : ℕ) → Contains work place → PathLeads code me at place
+  pub least_is : IfSome least (λ place. PathLeads code me at place × NamesMore code me need place)
 
-one_more : (code : CodeShape) (me : HostId) (from before to : ℕ) → Leads code me from before →
-    IsEdge code me before to → Leads code me from to
+one_more : (code : CodeShape) (me : HostId) (from before to : ℕ) → PathLeads code me from before →
+    IsEdge code me before to → PathLeads code me from to
 one_more code me from before to leads edge = (suc leads.0, (before, leads.1, edge))
 
 none_there : (n : ℕ) → Contains [] n → ⊥
@@ -133,7 +137,8 @@ up_to_here (Some other) place = by_case (nat_lt other place) refl
     by_case true is = omega (arith, ltb-true other place is)
     by_case false is = le_refl place
 
-still_up_to : (least : Option ℕ) (place at : ℕ) (counts : Bool) → IsUpTo least at → IsUpTo (lesser least place counts) at
+still_up_to : (least : Option ℕ) (place at : ℕ) (counts : Bool) → IsUpTo least at →
+    IsUpTo (lesser least place counts) at
 still_up_to least place at false upto = upto
 still_up_to (Some other) place at true upto = by_case (nat_lt other place) refl
   where
@@ -142,7 +147,8 @@ still_up_to (Some other) place at true upto = by_case (nat_lt other place) refl
     by_case false is = omega (arith, ltb-false other place is, upto)
 still_up_to None place at true upto = absurd upto
 
-least_has : (P : ℕ → Type 0) (least : Option ℕ) (place : ℕ) → IfSome least P → P place → IfSome (lesser least place true) P
+least_has : (P : ℕ → Type 0) (least : Option ℕ) (place : ℕ) → IfSome least P → P place →
+    IfSome (lesser least place true) P
 least_has P None place old new = new
 least_has P (Some other) place old new = by_case (nat_lt other place)
   where
@@ -235,9 +241,9 @@ module _ (code : CodeShape) (me : HostId) (at need : ℕ) where
     ]
 
     least_here : (told : Bool) → counts ≡ told →
-        IfSome (lesser least place told) (λ k. Leads code me at k × NamesMore code me need k)
+        IfSome (lesser least place told) (λ k. PathLeads code me at k × NamesMore code me need k)
     least_here false is = w.least_is
-    least_here true is = least_has (λ k. Leads code me at k × NamesMore code me need k) least place w.least_is
+    least_here true is = least_has (λ k. PathLeads code me at k × NamesMore code me need k) least place w.least_is
         (w.led place (Contains-push work place), (one, there, more is))
 
     pub visits : IsWalk code me at need new (work ++ goes_on one.op place) (lesser least place counts)
@@ -247,7 +253,8 @@ module _ (code : CodeShape) (me : HostId) (at need : ℕ) where
             let is_here : instruction_at code me place ≡ Some found =
             subst (λ n. instruction_at code me n ≡ Some found) same.1 is in
             let alike : one ≡ found = let both : Some one ≡ Some found = sym there ∙ is_here in cc in
-            subst (λ (s : Instr). NamesWithin code (slice_index new from) s.op ⊎ IsUpTo (lesser least place counts) from)
+            subst (λ (s : Instr). NamesWithin code (slice_index new from) s.op
+            ⊎ IsUpTo (lesser least place counts) from)
             alike
             (subst (λ n. NamesWithin code (slice_index new n) one.op ⊎ IsUpTo (lesser least place counts) n)
             (sym same.1) (named_here counts refl))
@@ -267,7 +274,8 @@ module _ (code : CodeShape) (me : HostId) (at need : ℕ) where
                 Contains-append_right work (goes_on one.op place) next added,
                 λ word word_next word_need. subst (λ k. BitsWithin word (slice_index new k)) (sym same.1)
                     (in_here word (within_through word (slice_index new next) old word_next
-                    (within_through (slice_index new next) (slice_index bound next) old (falls next) in_old)) word_need),
+                    (within_through (slice_index new next) (slice_index bound next) old (falls next) in_old))
+                    word_need),
               )
               | inr waits ↦ inr (
                 Contains-append_right work (goes_on one.op place) next added,

@@ -5,7 +5,7 @@ use Rattle.js_base.specs.declared.ids.HostId.{HostId}
 use Rattle.js_base.specs.Bits.{BitsWithin}
 use Rattle.host_code.specs.declared.instruction.Instr.{Instr}
 use Rattle.host_code.specs.Code.{CodeShape, instruction_at}
-use Rattle.part_verify.specs.Paths.{IsEdge, Leads}
+use Rattle.part_verify.specs.Paths.{IsEdge, PathLeads}
 use Rattle.part_verify.specs.SoundPart.{NamesWithin}
 
 -- each bound has what is named at its place, and the bounds of the places where it goes on
@@ -23,8 +23,8 @@ NamesMore code me need place =
 -- the least place that a walk from a place finds, or bounds of which that of the place is within the need
 abbrev pub Found : CodeShape → HostId → ℕ → ℕ → Option ℕ → List ℕ → Type 0
 Found code me at need None bound = IsBounded code me bound × BitsWithin (slice_index bound at) need
-Found code me at need (Some place) bound = Leads code me at place × NamesMore code me need place
-    × ((other : ℕ) → other < place → Leads code me at other → ¬ NamesMore code me need other)
+Found code me at need (Some place) bound = PathLeads code me at place × NamesMore code me need place
+    × ((other : ℕ) → other < place → PathLeads code me at other → ¬ NamesMore code me need other)
 
 -- the lesser of a place and one that was found, where the place counts
 abbrev pub lesser : Option ℕ → ℕ → Bool → Option ℕ

@@ -13,7 +13,7 @@ use Rattle.host_code.specs.Thread.{ThreadShape}
 use Rattle.host_code.specs.Thread.Awaited.{value_of_field, acknowledgement, token_of_entry}
 use Rattle.host_code.specs.Code.{CodeShape, instruction_at}
 use Rattle.host_code.specs.Sound.{IsOther}
-use Rattle.host_core.specs.Host.{HostShape, Outcome}
+use Rattle.host_core.specs.Host.{HostState, Outcome}
 use Rattle.host_core.specs.Fits.{TokensFit}
 use Rattle.host_core.specs.Taking.{IsTaking, place_of_awaiting}
 use Rattle.host_core.specs.Turn.{IsTurn}
@@ -28,7 +28,7 @@ pub data HostEvent : Type 0 where
   Comes : HostId → Message → HostEvent
   Runs : HostEvent
 
-abbrev pub IsHostStep : CodeShape → HostEvent → HostShape → Outcome → Type 0
+abbrev pub IsHostStep : CodeShape → HostEvent → HostState → Outcome → Type 0
 IsHostStep code (Comes from message) host outcome = (host.running ≡ None) × IsOther code host.me from
     × TokensFit code message × IsTaking code host from message outcome
 IsHostStep code Runs host outcome = IsSome host.running × IsTurn code host outcome
@@ -70,7 +70,7 @@ abbrev pub mark_behind_place : List StackEntry → Option EntryId → Option Ins
 mark_behind_place entries mark None = mark
 mark_behind_place entries mark (Some one) = mark_behind entries mark one.op
 
-abbrev pub marks_after_turn : CodeShape → HostShape → Option ThreadShape → Outcome → Marks → Marks
+abbrev pub marks_after_turn : CodeShape → HostState → Option ThreadShape → Outcome → Marks → Marks
 marks_after_turn code host None outcome marks = marks
 marks_after_turn code host (Some thread) outcome marks =
     marks_sent marks outcome.state.running
@@ -82,7 +82,7 @@ marks_answered marks None = marks
 marks_answered marks (Some place) =
     record { running = slice_get marks.waiting place; waiting = remove marks.waiting place }
 
-abbrev pub marks_after_message : HostShape → HostId → Message → Outcome → Marks → Marks
+abbrev pub marks_after_message : HostState → HostId → Message → Outcome → Marks → Marks
 marks_after_message host from (message.Rgoto frame entry token) outcome marks =
     record marks { running = mark_of outcome.state.running (Some entry) }
 marks_after_message host from (message.RgotoWith frame entry token riders) outcome marks =
@@ -97,7 +97,7 @@ marks_after_message host from (message.Token request token) outcome marks =
     marks_answered marks (place_of_awaiting host token_of_entry request from)
 marks_after_message host from other outcome marks = marks
 
-abbrev pub marks_after : CodeShape → HostEvent → HostShape → Outcome → Marks → Marks
+abbrev pub marks_after : CodeShape → HostEvent → HostState → Outcome → Marks → Marks
 marks_after code (Comes from message) host outcome marks = marks_after_message host from message outcome marks
 marks_after code Runs host outcome marks = marks_after_turn code host host.running outcome marks
 
@@ -109,7 +109,7 @@ marks_at_start code me =
     else record { running = None; waiting = [] }
 
 -- these events lead a host and its marks there
-abbrev pub HostRun : CodeShape → HostShape → Marks → List HostEvent → HostShape → Marks → Type 0
+abbrev pub HostRun : CodeShape → HostState → Marks → List HostEvent → HostState → Marks → Type 0
 HostRun code host marks [] later marked = (host ≡ later) × (marks ≡ marked)
 HostRun code host marks (event ∷ events) later marked = (outcome : Outcome) × IsHostStep code event host outcome
     × HostRun code outcome.state (marks_after code event host outcome marks) events later marked

@@ -38,8 +38,8 @@ abbrev pub LeadsIn : CodeShape → HostId → ℕ → ℕ → ℕ → Type 0
 LeadsIn code me zero from to = from ≡ to
 LeadsIn code me (suc count) from to = (before : ℕ) × LeadsIn code me count from before × IsEdge code me before to
 
-abbrev pub Leads : CodeShape → HostId → ℕ → ℕ → Type 0
-Leads code me from to = (count : ℕ) × LeadsIn code me count from to
+abbrev pub PathLeads : CodeShape → HostId → ℕ → ℕ → Type 0
+PathLeads code me from to = (count : ℕ) × LeadsIn code me count from to
 
 -- an entry of the host, which is not the one that ends the program, leads to a place
 pub record IsUnder (code : CodeShape) (me : HostId) (there : EntryId) (place : ℕ) : Type 0 where
@@ -47,4 +47,4 @@ pub record IsUnder (code : CodeShape) (me : HostId) (there : EntryId) (place : �
   pub is : entry_at code there ≡ Some entry
   pub not_halt : there ≢ halt
   pub here : entry.host ≡ me
-  pub leads : Leads code me entry.at place
+  pub leads : PathLeads code me entry.at place

@@ -21,10 +21,10 @@ RevealsAt code me place =
 
 -- The first entry that leads to such an instruction is told, with the least of its instructions. Where no entry does,
 -- it is the first instruction that shows too much. Memory may run out at any time.
-abbrev pub IsRefusedFor : CodeShape → HostId → VerifyError → Type 0
-IsRefusedFor code me OutOfMemory = ⊤
-IsRefusedFor code me (WeakEntry there place) = BreaksNeed code me there place
+abbrev pub IsPartRefusedFor : CodeShape → HostId → VerifyError → Type 0
+IsPartRefusedFor code me OutOfMemory = ⊤
+IsPartRefusedFor code me (WeakEntry there place) = BreaksNeed code me there place
     × ((other : ℕ) → other < place → ¬ BreaksNeed code me there other)
     × ((earlier : EntryId) (other : ℕ) → earlier.0 < there.0 → ¬ BreaksNeed code me earlier other)
-IsRefusedFor code me (Reveals place) = AreNeedsKept code me × RevealsAt code me place
+IsPartRefusedFor code me (Reveals place) = AreNeedsKept code me × RevealsAt code me place
     × ((other : ℕ) → other < place → ¬ RevealsAt code me other)

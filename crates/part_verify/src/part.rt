@@ -5,7 +5,7 @@ ghost use Rattle.host_code.specs.declared.code.TheConstants.{MOST_ITEMS};
 ghost use Rattle.host_code.specs.Code.{part_of};
 ghost use Rattle.host_code.specs.Sound.{IsHost};
 ghost use Rattle.part_verify.specs.SoundPart.{IsSoundPart, AreNeedsKept};
-ghost use Rattle.part_verify.specs.Refusing.{IsRefusedFor};
+ghost use Rattle.part_verify.specs.Refusing.{IsPartRefusedFor};
 
 use crate::errors::VerifyError;
 use crate::shows::shows_well;
@@ -18,7 +18,7 @@ use std::alloc::Global;
 pub fn verify(alloc: Global, code: &Code, me: HostId) -> Result<(), VerifyError>
     requires { IsHost code.now me }
     ensures sound { OnOk result (IsSoundPart code.now me) }
-    ensures refused { IfErr result (IsRefusedFor code.now me) }
+    ensures refused { IfErr result (IsPartRefusedFor code.now me) }
 {
     let part = part_of(code, me);
     check_needs(alloc, code, me, part.len())?;
@@ -42,7 +42,7 @@ fn check_needs(alloc: Global, code: &Code, me: HostId, count: usize) -> Result<(
     requires few { length (part_of code.now me) ≤ MOST_ITEMS }
     requires count { count ≡ length (part_of code.now me) }
     ensures kept { OnOk result (AreNeedsKept code.now me) }
-    ensures refused { IfErr result (IsRefusedFor code.now me) }
+    ensures refused { IfErr result (IsPartRefusedFor code.now me) }
 {
     let entries = code.entries();
     let mut bound = all_ones(alloc, count)?;
@@ -70,7 +70,7 @@ fn check_shown(code: &Code, me: HostId, part: &[Instr]) -> Result<(), VerifyErro
     requires few { length (part_of code.now me) ≤ MOST_ITEMS }
     requires kept { AreNeedsKept code.now me }
     ensures sound { OnOk result (IsSoundPart code.now me) }
-    ensures refused { IfErr result (IsRefusedFor code.now me) }
+    ensures refused { IfErr result (IsPartRefusedFor code.now me) }
 {
     for place in 0..part.len() {
         let one = &part[place];

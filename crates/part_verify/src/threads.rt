@@ -8,7 +8,7 @@ ghost use Rattle.host_code.specs.declared.instruction.Instr.{Instr};
 ghost use Rattle.host_code.specs.Code.{CodeShape, halt, entry_at, instruction_at};
 ghost use Rattle.host_code.specs.Sound.{IsHost, IsSoundCode};
 ghost use Rattle.host_code.specs.Thread.{ThreadShape};
-ghost use Rattle.host_core.specs.Host.{HostShape, Outcome};
+ghost use Rattle.host_core.specs.Host.{HostState, Outcome};
 ghost use Rattle.host_core.specs.Start.{host_at_start};
 ghost use Rattle.host_core.specs.Turn.{IsTurn};
 ghost use Rattle.part_verify.specs.Keeping.{KeepsWithin};
@@ -20,7 +20,7 @@ pub fn thread_laws()
     // Whatever was delivered to a host with a sound part, a thread that started at an entry keeps within the need of
     // this entry. Nothing is said of a thread that started at the entry that ends the program.
     ensures within { (code : CodeShape) (me : HostId) (store : List (List ℤ)) (key : List ℕ) (events : List HostEvent)
-        (host : HostShape) (marks : Marks) (there : EntryId) (entry : Entry) (thread : ThreadShape) (one : Instr)
+        (host : HostState) (marks : Marks) (there : EntryId) (entry : Entry) (thread : ThreadShape) (one : Instr)
         (outcome : Outcome) → IsSoundCode code → IsHost code me → IsSoundPart code me →
         HostRun code (host_at_start code store key me) (marks_at_start code me) events host marks →
         host.running ≡ Some thread → marks.running ≡ Some there → there ≢ halt → entry_at code there ≡ Some entry →
@@ -29,7 +29,7 @@ pub fn thread_laws()
 
     // Each thread that runs or waits has started at an entry.
     ensures marked { (code : CodeShape) (me : HostId) (store : List (List ℤ)) (key : List ℕ) (events : List HostEvent)
-        (host : HostShape) (marks : Marks) → IsSoundCode code → IsHost code me → IsSoundPart code me →
+        (host : HostState) (marks : Marks) → IsSoundCode code → IsHost code me → IsSoundPart code me →
         HostRun code (host_at_start code store key me) (marks_at_start code me) events host marks →
         (IsSome host.running → IsSome marks.running) × (length marks.waiting ≡ length host.waiting) }
 {}

@@ -11,7 +11,7 @@ use Rattle.label_lattice.specs.Label.{ConfFlows}
 use Rattle.jif_tree.specs.LabelRules.{may_release}
 use Rattle.label_reasons.specs.declared.reason.Trait.{Trait}
 use Rattle.label_reasons.specs.declared.reason.Trait.TheVariants.{Keeps, Distrusts}
-use Rattle.label_reasons.specs.Traits.{has, Fails, IsTrait, IsDeclaredTrait}
+use Rattle.label_reasons.specs.Traits.{has, TraitIsLacking, IsTrait, IsDeclaredTrait}
 use Rattle.label_reasons.specs.Listed.{listed}
 use Rattle.label_reasons.specs.Reasons.{fails, fails_in}
 use Rattle.label_reasons.proofs.TraitTests.{forbids_is, not_both}
@@ -22,7 +22,7 @@ use Rattle.place_reasons.specs.Reasons.{first_pair}
 
 -- what fails where nobody may release
 abbrev pub PairFails : Label → Label → Trait → Type 0
-PairFails from to (Keeps owner reader) = Fails (Keeps owner reader) from to
+PairFails from to (Keeps owner reader) = TraitIsLacking (Keeps owner reader) from to
 PairFails from to (Distrusts principal) = ⊥
 
 pub pair_fails : (principals : Declared) (from to : Label) (trait : Trait) →
@@ -73,4 +73,5 @@ no_pair principals declared from to flows = elim (some_or_none (first_pair princ
 
 pub is_pair : (principals : Declared) → IsDeclared principals → (from to : Label) (pair : Trait) →
     first_pair principals from to ≡ Some pair → IsTrait pair
-is_pair principals declared from to pair is = is_trait principals pair (first_pair_is principals declared from to pair is).within
+is_pair principals declared from to pair is = is_trait principals pair
+    (first_pair_is principals declared from to pair is).within

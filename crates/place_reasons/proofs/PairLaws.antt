@@ -19,7 +19,7 @@ use Rattle.jif_tree.specs.Trees.{MethodTree}
 use Rattle.jif_tree.specs.LabelRules.{may_release}
 use Rattle.label_reasons.specs.declared.reason.Trait.{Trait}
 use Rattle.label_reasons.specs.declared.reason.Trait.TheVariants.{Keeps, Distrusts}
-use Rattle.label_reasons.specs.Traits.{Fails, IsDeclaredTrait}
+use Rattle.label_reasons.specs.Traits.{TraitIsLacking, IsDeclaredTrait}
 use Rattle.label_reasons.specs.Listed.{listed}
 use Rattle.label_reasons.specs.Reasons.{fails_in}
 use Rattle.label_reasons.proofs.TraitTests.{AreTrusted, not_both}
@@ -39,12 +39,12 @@ use Rattle.place_reasons.proofs.FirstPairs.{IsPairOf, first_pair_is, flows_not}
 -- ---- pairs
 
 fails_so : (principals : Declared) (from to : Label) (pair : Trait) → IsPairOf principals from to pair →
-    IsDeclaredTrait principals pair × Fails pair from to
+    IsDeclaredTrait principals pair × TraitIsLacking pair from to
 fails_so principals from to (Keeps owner reader) is = (is.within, is.fails)
 fails_so principals from to (Distrusts principal) is = absurd is.fails
 
 pub pair_true : (principals : Declared) (from to : Label) (pair : Trait) → IsDeclared principals →
-    first_pair principals from to ≡ Some pair → IsDeclaredTrait principals pair × Fails pair from to
+    first_pair principals from to ≡ Some pair → IsDeclaredTrait principals pair × TraitIsLacking pair from to
 pair_true principals from to pair declared is =
     fails_so principals from to pair (first_pair_is principals declared from to pair is)
 
@@ -131,7 +131,8 @@ trust_due tells principals host label over none principal within trusts =
     let declared = over.trusts.declared principal within trusts in
     (tells host principal).0 (other_true (is_trusted_by label principal) (is_trusted_by host principal) principal
     ((tells label principal).1 trusts)
-    (range_none (untrusting host label) 0 (length principals.names) principal (omega arith) (omega (arith, declared)) none))
+    (range_none (untrusting host label) 0 (length principals.names) principal (omega arith) (omega (arith, declared))
+    none))
 
 -- ---- heads
 

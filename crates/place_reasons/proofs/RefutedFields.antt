@@ -12,7 +12,7 @@ use Rattle.jif_tree.specs.Trees.{ExprTree, number, local, scalar, element, inver
 use Rattle.jif_tree.specs.Trees.{endorsed, BlockTree, done, set_local, set_field, set_element, branch, loop, call}
 use Rattle.jif_tree.specs.Trees.{give_back, MethodTree}
 use Rattle.jif_tree.specs.LabelRules.{field_label}
-use Rattle.label_reasons.specs.Traits.{Fails}
+use Rattle.label_reasons.specs.Traits.{TraitIsLacking}
 use Rattle.label_reasons.proofs.TraitTests.{AreTrusted}
 use Rattle.need_labels.specs.Labelled.{Labelled}
 use Rattle.need_labels.proofs.Somewhere.{any_here, any_left, any_right}
@@ -24,7 +24,8 @@ use Rattle.place_reasons.specs.Firsts.{or_first, first_some}
 use Rattle.place_reasons.specs.Reasons.{Site, site_of, id_of, exprs_of, first_pair, first_untrusting, pc_at, label_at}
 use Rattle.place_reasons.specs.Reasons.{pair_at, run_told, index_told, told_in, own_told, block_told, method_told}
 use Rattle.place_reasons.specs.Reasons.{told_reason, own_row, told_row, trust_row, field_reason}
-use Rattle.place_reasons.specs.Refuted.{statements_in, fields_in, elements_in, ReadsField, ReadsElement, RefutesField}
+use Rattle.place_reasons.specs.Refuted.{statements_in, fields_in, elements_in, ReadsField, ReadsHiddenElement}
+use Rattle.place_reasons.specs.Refuted.{RefutesField}
 use Rattle.place_reasons.proofs.Firsts.{or_assoc, first_in_two}
 use Rattle.place_reasons.proofs.PairLaws.{or_so, trust_true}
 use Rattle.place_reasons.proofs.FirstFound.{any_weaker, first_in, if_found}
@@ -36,10 +37,10 @@ use Rattle.place_reasons.proofs.RefutedStatements.{fails_first}
 -- what is told of reads of these fields and elements
 abbrev IsToldOf : Site → FieldId → StmtId → List FieldId → List (FieldId × ExprTree) → Told → Type 0
 IsToldOf site wanted here fields elements (Read pair at) =
-    (here ≡ at) × Fails pair (pc_at site at) site.host × Any (λ read. read.0 ≡ wanted.0) fields
+    (here ≡ at) × TraitIsLacking pair (pc_at site at) site.host × Any (λ read. read.0 ≡ wanted.0) fields
 IsToldOf site wanted here fields elements (Index pair at) =
     (here ≡ at)
-    × Any (λ read. (read.0.0 ≡ wanted.0) × Fails pair (label_at site at read.1) site.host) elements
+    × Any (λ read. (read.0.0 ≡ wanted.0) × TraitIsLacking pair (label_at site at read.1) site.host) elements
 
 of_left : (site : Site) (wanted : FieldId) (here : StmtId) (fields more : List FieldId)
     (elements others : List (FieldId × ExprTree)) (told : Told) → IsToldOf site wanted here fields elements told →
@@ -48,7 +49,8 @@ of_left site wanted here fields more elements others (Read pair at) is =
     (is.0, is.1, any_left (λ read. read.0 ≡ wanted.0) fields more is.2)
 of_left site wanted here fields more elements others (Index pair at) is = (
   is.0,
-  any_left (λ read. (read.0.0 ≡ wanted.0) × Fails pair (label_at site at read.1) site.host) elements others is.1,
+  any_left (λ read. (read.0.0 ≡ wanted.0) × TraitIsLacking pair (label_at site at read.1) site.host) elements others
+      is.1,
 )
 
 of_right : (site : Site) (wanted : FieldId) (here : StmtId) (fields more : List FieldId)
@@ -58,7 +60,8 @@ of_right site wanted here fields more elements others (Read pair at) is =
     (is.0, is.1, any_right (λ read. read.0 ≡ wanted.0) fields more is.2)
 of_right site wanted here fields more elements others (Index pair at) is = (
   is.0,
-  any_right (λ read. (read.0.0 ≡ wanted.0) × Fails pair (label_at site at read.1) site.host) elements others is.1,
+  any_right (λ read. (read.0.0 ≡ wanted.0) × TraitIsLacking pair (label_at site at read.1) site.host) elements others
+      is.1,
 )
 
 run_so : (site : Site) → IsDeclared site.principals → (wanted : FieldId) (here : StmtId) (field : FieldId)
@@ -83,10 +86,11 @@ index_so site declared wanted here field index fields told is =
     let made = map_found (λ pair. Index pair here) (pair_at site (label_at site here index)) told both.1 in
     subst (IsToldOf site wanted here fields ((field, index) ∷ [])) made.2 (
       refl,
-      any_here (λ read. (read.0.0 ≡ wanted.0) × Fails made.0 (label_at site here read.1) site.host) (field, index) [] (
-        eqb-true field.0 wanted.0 both.0,
-        fails_first site.principals declared site.host (label_at site here index) made.0 made.1,
-      ),
+      any_here (λ read. (read.0.0 ≡ wanted.0) × TraitIsLacking made.0 (label_at site here read.1) site.host)
+          (field, index) [] (
+            eqb-true field.0 wanted.0 both.0,
+            fails_first site.principals declared site.host (label_at site here index) made.0 made.1,
+          ),
     )
 
 expr_so : (site : Site) → IsDeclared site.principals → (wanted : FieldId) (here : StmtId) (value : ExprTree)
@@ -124,9 +128,10 @@ expr_so site declared wanted here (endorsed operand label) told is = expr_so sit
 
 -- what is told of the own reads of a statement
 abbrev IsToldBy : Site → FieldId → BlockTree → Told → Type 0
-IsToldBy site wanted one (Read pair at) = (id_of one ≡ at) × Fails pair (pc_at site at) site.host × ReadsField wanted one
+IsToldBy site wanted one (Read pair at) = (id_of one ≡ at) × TraitIsLacking pair (pc_at site at) site.host
+    × ReadsField wanted one
 IsToldBy site wanted one (Index pair at) =
-    (id_of one ≡ at) × ReadsElement site.labelled site.host pair wanted site.setting one
+    (id_of one ≡ at) × ReadsHiddenElement site.labelled site.host pair wanted site.setting one
 
 own_so : (site : Site) → IsDeclared site.principals → (wanted : FieldId) (one : BlockTree) (told : Told) →
     own_told site wanted one ≡ Some told → IsToldBy site wanted one told
@@ -141,7 +146,7 @@ own_so site declared wanted one told is =
     by (Index pair at) (k, value, lt, read, made) =
         let so = expr_so site declared wanted (id_of one) value (Index pair at) made in
         let P : StmtId → Type 0 = λ here. Any (λ one.
-        (one.0.0 ≡ wanted.0) × Fails pair (label_at site here one.1) site.host) (elements_in value) in
+        (one.0.0 ≡ wanted.0) × TraitIsLacking pair (label_at site here one.1) site.host) (elements_in value) in
         (so.0, (k, value, lt, read, subst P (sym so.0) so.1))
 
 -- a search of a block is one of its statements, one by one

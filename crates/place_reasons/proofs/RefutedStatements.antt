@@ -12,7 +12,7 @@ use Rattle.jif_tree.specs.Trees.{BlockTree, done, set_local, set_field, set_elem
 use Rattle.jif_tree.specs.Trees.{MethodTree}
 use Rattle.jif_tree.specs.LabelRules.{part_labels, method_at, begin_label, result_of}
 use Rattle.label_reasons.specs.declared.reason.Trait.{Trait}
-use Rattle.label_reasons.specs.Traits.{Fails}
+use Rattle.label_reasons.specs.Traits.{TraitIsLacking}
 use Rattle.label_reasons.proofs.TraitTests.{AreTrusted}
 use Rattle.label_reasons.proofs.ActsTests.{ActsLaws}
 use Rattle.need_labels.specs.Labelled.{Labelled, all_labels}
@@ -40,7 +40,7 @@ use Rattle.place_reasons.proofs.StatementLaws.{need_so, map_found}
 
 -- the first pair of a label fails towards the host
 pub fails_first : (principals : Declared) → IsDeclared principals → (host label : Label) (pair : Trait) →
-    first_pair principals label host ≡ Some pair → Fails pair label host
+    first_pair principals label host ≡ Some pair → TraitIsLacking pair label host
 fails_first principals declared host label pair is = (pair_true principals label host pair declared is).1
 
 -- ---- heads
@@ -68,7 +68,7 @@ pub record IsKeptRow (site : Site) (method : MethodId) (into kept : Option VarId
   pub pair : Trait
   pub same : row.CallGives pair method ≡ reason
   pub keeps : IsSome into
-  pub fails : Any (λ result. Fails pair (label_of site.labelled result) site.host) (variables_of kept)
+  pub fails : Any (λ result. TraitIsLacking pair (label_of site.labelled result) site.host) (variables_of kept)
 
 kept_so : (site : Site) → IsDeclared site.principals → (method : MethodId) (into kept : Option VarId)
     (reason : PlaceReason) → kept_row site method into kept ≡ Some reason → IsKeptRow site method into kept reason
@@ -81,7 +81,7 @@ kept_so site declared method (Some into) (Some result) reason is =
       pair = made.0;
       same = made.2;
       keeps = refl;
-      fails = any_here (λ one. Fails made.0 (label_of site.labelled one) site.host) result []
+      fails = any_here (λ one. TraitIsLacking made.0 (label_of site.labelled one) site.host) result []
           (fails_first site.principals declared site.host (label_of site.labelled result) made.0 made.1);
     }
 
@@ -130,7 +130,8 @@ need_refuted principals labelled host method block principal (backed.Release mem
 
 -- ---- statements
 
-pub statement_refuted : AreTrusted → (principals : Declared) → ActsLaws principals → (labelled : Labelled) (host : Label)
+pub statement_refuted : AreTrusted → (principals : Declared) → ActsLaws principals →
+    (labelled : Labelled) (host : Label)
     (method : MethodTree) (block : BlockTree) (reason : PlaceReason) → IsDeclared principals →
     statement_reason principals labelled host method block ≡ Some reason →
     RefutesStatement principals labelled host method block reason
@@ -150,7 +151,8 @@ statement_refuted tells principals acts labelled host method block reason declar
     let made = map_found (λ pair. row.Uses pair (answer_at OfUse principals labelled.program (id_of block) pair))
     (used_by site (id_of block) (exprs_of block)) z one in
     subst P made.2
-    (any_weaker (λ label. first_pair principals label host ≡ Some made.0) (λ label. Fails made.0 label host) labels
+    (any_weaker (λ label. first_pair principals label host ≡ Some made.0) (λ label. TraitIsLacking made.0 label host)
+    labels
     (λ label first. fails_first principals declared host label made.0 first)
     (first_in (λ label. first_pair principals label host) labels made.0
     (sym (exprs_used site (id_of block) (exprs_of block)) ∙ made.1))))

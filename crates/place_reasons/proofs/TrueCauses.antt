@@ -1,5 +1,6 @@
 -- What is found to bring a pair in has it: the label at its source has the pair.
-use Rattle.std.proofs.Common.{◌≡◌, inl, inr, ℕ, ◌+◌, ◌<◌, suc, length, get_or, Bool, true, false, List, [], ◌∷◌, ◌++◌, refl, sym}
+use Rattle.std.proofs.Common.{◌≡◌, inl, inr, ℕ, ◌+◌, ◌<◌, suc, length, get_or, Bool, true, false, List, [], ◌∷◌, ◌++◌}
+use Rattle.std.proofs.Common.{refl, sym}
 use Rattle.std.proofs.Common.{ap, ◌∙◌, subst, arith, flat_map}
 use Rattle.std.specs.Option.{option_map}
 use Rattle.std.specs.Prelude.{◌==◌, All, Any, IsTrue, if◌then◌else◌, Option, Some, None, slice_get, unwrap_or}
@@ -51,7 +52,7 @@ use Rattle.place_reasons.specs.Reasons.{Site, site_of, id_of, exprs_of, first_pa
 use Rattle.place_reasons.specs.Reasons.{used_by, kept_row, call_row, run_row, use_row, need_row, backed_reason}
 use Rattle.place_reasons.specs.Reasons.{statement_reason, method_told, told_reason, own_row, told_row, trust_row}
 use Rattle.place_reasons.specs.Reasons.{field_reason}
-use Rattle.place_reasons.specs.Refuted.{statements_in, IsOneOf, IsSource, SetsLocal, HasGuard, IsVia}
+use Rattle.place_reasons.specs.Refuted.{statements_in, IsOneOf, IsTraitSource, SetsLocal, HasGuard, IsVia}
 use Rattle.place_reasons.specs.Refuted.{IsCaused, IsCauseTrue}
 use Rattle.place_reasons.proofs.PairLaws.{or_so}
 use Rattle.place_reasons.proofs.StatementLaws.{need_so, map_found}
@@ -69,11 +70,12 @@ first_caused program trait None second one other = other
 first_caused program trait (Some cause) second one other = one
 
 where_caused : (program : ProgramTree) (trait : Trait) (test : Bool) (source : Source) →
-    (IsTrue test → IsSource program trait source) → IsCaused program trait (cause_where test source)
+    (IsTrue test → IsTraitSource program trait source) → IsCaused program trait (cause_where test source)
 where_caused program trait true source so = (so refl, tt)
 where_caused program trait false source so = tt
 
-if_caused : (program : ProgramTree) (trait : Trait) (test : Bool) (found : Option Cause) → IsCaused program trait found →
+if_caused : (program : ProgramTree) (trait : Trait) (test : Bool) (found : Option Cause) →
+    IsCaused program trait found →
     IsCaused program trait (if test then found else None)
 if_caused program trait true found is = is
 if_caused program trait false found is = tt
@@ -87,7 +89,8 @@ through_caused program trait via (Some cause) there is = (is.0, there)
 
 -- a label with the trait that is written in this statement is a source
 abbrev MayWrite : ProgramTree → Trait → StmtId → List Label → Type 0
-MayWrite program trait here labels = Any (λ label. IsTrue (has trait label)) labels → IsSource program trait (Written here)
+MayWrite program trait here labels = Any (λ label. IsTrue (has trait label)) labels →
+    IsTraitSource program trait (Written here)
 
 -- the program label and the variables have true causes
 record IsTrueAt (setting : MethodSetting) (trait : Trait) (of_pc : Option Cause) (causes : VarId → Option Cause) :
@@ -106,7 +109,7 @@ written_inside setting trait here operand label may some =
 
 written_own : (setting : MethodSetting) (trait : Trait) (here : StmtId) (operand : ExprTree) (label : Label) →
     MayWrite setting.program trait here (written_in operand ++ label ∷ []) → IsTrue (has trait label) →
-    IsSource setting.program trait (Written here)
+    IsTraitSource setting.program trait (Written here)
 written_own setting trait here operand label may is =
     may (any_right (λ one. IsTrue (has trait one)) (written_in operand) (label ∷ [])
     (any_here (λ one. IsTrue (has trait one)) label [] is))
@@ -124,8 +127,10 @@ field_caused : (setting : MethodSetting) (trait : Trait) (field : FieldId) →
 field_caused setting trait field =
     where_caused setting.program trait (has trait (field_label setting.program field)) (OfField field) (λ is. is)
 
-released_caused : (setting : MethodSetting) (trait : Trait) (here : StmtId) (of_pc operand : Option Cause) (label : Label) →
-    (IsTrue (has trait label) → IsSource setting.program trait (Written here)) → IsCaused setting.program trait of_pc →
+released_caused : (setting : MethodSetting) (trait : Trait) (here : StmtId) (of_pc operand : Option Cause)
+    (label : Label) →
+    (IsTrue (has trait label) → IsTraitSource setting.program trait (Written here)) →
+    IsCaused setting.program trait of_pc →
     IsCaused setting.program trait operand →
     IsCaused setting.program trait (released_cause trait here of_pc label operand)
 released_caused setting (Keeps owner reader) here of_pc operand label so pc inner =
@@ -133,8 +138,10 @@ released_caused setting (Keeps owner reader) here of_pc operand label so pc inne
     (where_caused setting.program (Keeps owner reader) (has (Keeps owner reader) label) (Written here) so) pc
 released_caused setting (Distrusts principal) here of_pc operand label so pc inner = inner
 
-endorsed_caused : (setting : MethodSetting) (trait : Trait) (here : StmtId) (of_pc operand : Option Cause) (label : Label) →
-    (IsTrue (has trait label) → IsSource setting.program trait (Written here)) → IsCaused setting.program trait of_pc →
+endorsed_caused : (setting : MethodSetting) (trait : Trait) (here : StmtId) (of_pc operand : Option Cause)
+    (label : Label) →
+    (IsTrue (has trait label) → IsTraitSource setting.program trait (Written here)) →
+    IsCaused setting.program trait of_pc →
     IsCaused setting.program trait operand →
     IsCaused setting.program trait (endorsed_cause trait here of_pc label operand)
 endorsed_caused setting (Keeps owner reader) here of_pc operand label so pc inner = inner
@@ -289,7 +296,7 @@ Writes trait one = Any (λ label. IsTrue (has trait label)) (flat_map written_in
 
 -- these statements stand in the program
 record Stand (program : ProgramTree) (trait : Trait) (statements : List BlockTree) : Type 0 where
-  writes : (here : StmtId) → IsOneOf here (Writes trait) statements → IsSource program trait (Written here)
+  writes : (here : StmtId) → IsOneOf here (Writes trait) statements → IsTraitSource program trait (Written here)
   locals : (x : VarId) (here : StmtId) → IsOneOf here (SetsLocal x) statements → IsVia program (ByLocal x here)
   guards : (here : StmtId) → IsOneOf here HasGuard statements → IsVia program (ByGuard here)
 
@@ -379,7 +386,8 @@ record IsBlockTrue (question : Question) (trait : Trait) (setting : MethodSettin
       IsCaused setting.program trait (causes_after trait setting pc of_pc labels causes block x)
 
 block_caused : (question : Question) (trait : Trait) (setting : MethodSetting) (pc : Label) (of_pc : Option Cause)
-    (labels : VariableLabels) (causes : VarId → Option Cause) (block : BlockTree) → IsTrueAt setting trait of_pc causes →
+    (labels : VariableLabels) (causes : VarId → Option Cause) (block : BlockTree) →
+    IsTrueAt setting trait of_pc causes →
     Stand setting.program trait (statements_in block) →
     IsBlockTrue question trait setting pc of_pc labels causes block
 block_caused question trait setting pc of_pc labels causes done at may =
@@ -645,7 +653,8 @@ backed_true : (program : ProgramTree) (principal : ℕ) (found : Backed) →
 backed_true program principal (backed.Change what here) = tt
 backed_true program principal (backed.Release member here) = tt
 
-pub statement_cause_true : AreTrusted → (principals : Declared) (labelled : Labelled) (host : Label) (method : MethodTree)
+pub statement_cause_true : AreTrusted →
+    (principals : Declared) (labelled : Labelled) (host : Label) (method : MethodTree)
     (block : BlockTree) (reason : PlaceReason) → statement_reason principals labelled host method block ≡ Some reason →
     IsCauseTrue labelled.program reason
 statement_cause_true tells principals labelled host method block reason is =

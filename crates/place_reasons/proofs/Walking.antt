@@ -3,7 +3,8 @@ use Rattle.std.proofs.Common.{◌≡◌, ℕ, ◌+◌, List, [], ◌∷◌, ◌+
 use Rattle.std.specs.Prelude.{Option}
 use Rattle.js_base.specs.declared.ids.VarId.{VarId}
 use Rattle.principals.specs.ActsFor.{Declared}
-use Rattle.jif_tree.specs.Trees.{Heading, ExprTree, BlockTree, done, branch, loop, MethodTree, ProgramTree, program_tree}
+use Rattle.jif_tree.specs.Trees.{Heading, ExprTree, BlockTree, done, branch, loop, MethodTree, ProgramTree}
+use Rattle.jif_tree.specs.Trees.{program_tree}
 use Rattle.jif_tree.specs.Trees.{method_tree}
 use Rattle.jif_tree.specs.LabelRules.{VariableLabels, labels_after, setting_of, declared_labels}
 use Rattle.label_reasons.specs.declared.reason.Trait.{Trait}
@@ -12,17 +13,17 @@ use Rattle.label_reasons.specs.declared.search_place.Place.{Place}
 use Rattle.label_reasons.specs.declared.search_place.Stand.{Stand}
 use Rattle.label_reasons.specs.declared.search_place.Known.{Known}
 use Rattle.label_reasons.specs.Causes.{begin_cause, declared_causes, causes_after}
-use Rattle.label_reasons.specs.Search.{listed_cause, setting_at, stand_inside, IsKnown}
+use Rattle.label_reasons.specs.Search.{listed_cause, setting_at, stand_inside, AreCausesKnown}
 use Rattle.place_reasons.specs.declared.question.Question.{Question}
 use Rattle.place_reasons.specs.Questions.{block_answers, methods_answers, program_answers}
 use Rattle.place_reasons.specs.Reasons.{exprs_of}
-use Rattle.place_reasons.specs.Search.{answer_is, answers_are, Answers, AnswersMethod}
+use Rattle.place_reasons.specs.Search.{answer_is, answers_are, AnswersInBlock, AnswersMethod}
 
 pub answers_on : (place : Place) (question : Question) (stand : Stand) (old mid new : Known)
     (before between behind : List (Option Cause)) (block next left : BlockTree) →
-    Answers place question stand old before block mid between next →
-    Answers place question stand mid between next new behind left →
-    Answers place question stand old before block new behind left
+    AnswersInBlock place question stand old before block mid between next →
+    AnswersInBlock place question stand mid between next new behind left →
+    AnswersInBlock place question stand old before block new behind left
 answers_on place question stand old mid new before between behind block next left one other = record {
   labels = one.labels ∙ other.labels;
   causes = one.causes ∙ other.causes;
@@ -44,23 +45,25 @@ two_joined before f1 f2 x a b is one =
 three_joined : {X : Type 0} (before f1 f2 f3 : List X) (x : X) (a b c : List X) → f1 ≡ before ++ x ∷ [] →
     f1 ++ a ≡ f2 ++ [] → f2 ++ b ≡ f3 ++ [] → before ++ x ∷ ((a ++ b) ++ c) ≡ f3 ++ c
 three_joined before f1 f2 f3 x a b c is one two =
-    ap (λ all. before ++ x ∷ all) (append_assoc a b c) ∙ two_joined before f1 f2 x a (b ++ c) is one ∙ sym (append_assoc f2 b c) ∙ ap (λ f. f ++ c) (two ∙ append-nil f3)
+    ap (λ all. before ++ x ∷ all) (append_assoc a b c) ∙ two_joined before f1 f2 x a (b ++ c) is one
+    ∙ sym (append_assoc f2 b c) ∙ ap (λ f. f ++ c) (two ∙ append-nil f3)
 
 -- ---- branches and loops
 
 pub branch_answers : (place : Place) (question : Question) (stand : Stand) (old mid new : Known)
-    (before f1 f2 f3 : List (Option Cause)) (heading : Heading) (guard : ExprTree) (first second rest tree : BlockTree) →
+    (before f1 f2 f3 : List (Option Cause)) (heading : Heading) (guard : ExprTree)
+    (first second rest tree : BlockTree) →
     tree ≡ branch heading guard first second rest →
     f1 ≡ before ++ answer_is place question heading.id stand old (exprs_of tree) ∷ [] →
-    Answers place question (stand_inside place heading.id stand old guard) old f1 first mid f2 done →
-    Answers place question (stand_inside place heading.id stand old guard) mid f2 second new f3 done →
-    Answers place question stand old before tree new f3 rest
+    AnswersInBlock place question (stand_inside place heading.id stand old guard) old f1 first mid f2 done →
+    AnswersInBlock place question (stand_inside place heading.id stand old guard) mid f2 second new f3 done →
+    AnswersInBlock place question stand old before tree new f3 rest
 branch_answers place question stand old mid new before f1 f2 f3 heading guard first second rest tree is pushed one two =
     let setting = setting_at place in
     let held = place.held in
     let inside : Stand = stand_inside place heading.id stand old guard in
     let P : BlockTree → Type 0 = λ t. f1 ≡ before ++ answer_is place question heading.id stand old (exprs_of t) ∷ [] in
-    let Q : BlockTree → Type 0 = λ t. Answers place question stand old before t new f3 rest in
+    let Q : BlockTree → Type 0 = λ t. AnswersInBlock place question stand old before t new f3 rest in
     let x : Option Cause = answer_is place question heading.id stand old (guard ∷ []) in
     let a : List (Option Cause) = answers_are place question inside old first in
     let b : List (Option Cause) = answers_are place question inside mid second in
@@ -93,14 +96,14 @@ pub loop_answers : (place : Place) (question : Question) (stand : Stand) (old ne
     tree ≡ loop heading guard body rest →
     f1 ≡ before ++ answer_is place question heading.id (stand_inside place heading.id stand old guard) old
     (exprs_of tree) ∷ [] →
-    Answers place question (stand_inside place heading.id stand old guard) old f1 body new f2 done →
-    Answers place question stand old before tree new f2 rest
+    AnswersInBlock place question (stand_inside place heading.id stand old guard) old f1 body new f2 done →
+    AnswersInBlock place question stand old before tree new f2 rest
 loop_answers place question stand old new before f1 f2 heading guard body rest tree is pushed one =
     let setting = setting_at place in
     let held = place.held in
     let inside : Stand = stand_inside place heading.id stand old guard in
     let P : BlockTree → Type 0 = λ t. f1 ≡ before ++ answer_is place question heading.id inside old (exprs_of t) ∷ [] in
-    let Q : BlockTree → Type 0 = λ t. Answers place question stand old before t new f2 rest in
+    let Q : BlockTree → Type 0 = λ t. AnswersInBlock place question stand old before t new f2 rest in
     let x : Option Cause = answer_is place question heading.id inside old (guard ∷ []) in
     let a : List (Option Cause) = answers_are place question inside old body in
     let behind : VariableLabels → (VarId → Option Cause) → List (Option Cause) =
@@ -121,7 +124,7 @@ pub method_answers : (place : Place) (question : Question) (of_pc : Option Cause
     (before f1 behind : List (Option Cause)) (body : BlockTree) →
     of_pc ≡ begin_cause place.held (record { 0 = number }) (method_tree place.method.now).begin →
     body ≡ (method_tree place.method.now).body → f1 ≡ before ++ of_pc ∷ [] →
-    Answers place question (record { pc = place.method.now.begin; of_pc = of_pc }) old f1 body new behind done →
+    AnswersInBlock place question (record { pc = place.method.now.begin; of_pc = of_pc }) old f1 body new behind done →
     AnswersMethod question place.principals.now (program_tree place.program.now) place.held number
     (method_tree place.method.now) old before new behind
 method_answers place question of_pc number old new before f1 behind body is same pushed all =
@@ -129,9 +132,9 @@ method_answers place question of_pc number old new before f1 behind body is same
     let cause : Option Cause = begin_cause place.held (record { 0 = number }) begin in
     let tree : BlockTree = (method_tree place.method.now).body in
     let P : Option Cause → Type 0 = λ one.
-    Answers place question (record { pc = begin; of_pc = one }) old f1 body new behind done in
+    AnswersInBlock place question (record { pc = begin; of_pc = one }) old f1 body new behind done in
     let Q : BlockTree → Type 0 = λ one.
-    Answers place question (record { pc = begin; of_pc = cause }) old f1 one new behind done in
+    AnswersInBlock place question (record { pc = begin; of_pc = cause }) old f1 one new behind done in
     let R : Option Cause → Type 0 = λ one. f1 ≡ before ++ one ∷ [] in
     let whole : Q tree = subst Q same (subst P is all) in
     record {
@@ -146,14 +149,14 @@ method_answers place question of_pc number old new before f1 behind body is same
 -- what was answered, with the answers for the methods that are left, is what is answered of the program
 pub record Reaches (question : Question) (principals : Declared) (program : ProgramTree) (held : Trait) (number : ℕ)
     (known : Known) (answers : List (Option Cause)) (methods : List MethodTree) : Type 0 where
-  pub long : IsKnown known
+  pub long : AreCausesKnown known
   pub left : answers ++ methods_answers question held principals program number known.labels.items
       (listed_cause known.causes.items) methods ≡ program_answers question held principals program
 
 pub starts : (question : Question) (principals : Declared) (program : ProgramTree) (held : Trait) (known : Known) →
     known.labels.items ≡ declared_labels program →
     ((x : VarId) → listed_cause known.causes.items x ≡ declared_causes held (declared_labels program) x) →
-    IsKnown known → Reaches question principals program held 0 known [] program.methods
+    AreCausesKnown known → Reaches question principals program held 0 known [] program.methods
 starts question principals program held known labels causes is =
     let same : listed_cause known.causes.items ≡ declared_causes held (declared_labels program) = λ t x. causes x t in
     record {

@@ -14,8 +14,8 @@ abbrev pub answer_in : List (Option Cause) → StmtId → Option Cause
 answer_in answers statement = unwrap_or (slice_get answers statement.0) None
 
 -- the answers to this question for this pair
-abbrev pub IsAsked : Question → Trait → Kept → Type 0
-IsAsked question held kept = (kept.question ≡ question) × (kept.held ≡ held)
+abbrev pub AnswersQuestion : Question → Trait → Kept → Type 0
+AnswersQuestion question held kept = (kept.question ≡ question) × (kept.held ≡ held)
 
 -- each is what the question comes to in this program
 abbrev pub AreAnswers : Declared → ProgramTree → List Kept → Type 0

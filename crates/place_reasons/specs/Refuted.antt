@@ -26,7 +26,7 @@ use Rattle.label_reasons.specs.declared.reason.Source.TheVariants.{OfField, OfVa
 use Rattle.label_reasons.specs.declared.reason.Via.{Via}
 use Rattle.label_reasons.specs.declared.reason.Via.TheVariants.{Itself, ByLocal, ByGuard}
 use Rattle.label_reasons.specs.Listed.{IsListable}
-use Rattle.label_reasons.specs.Traits.{has, Fails}
+use Rattle.label_reasons.specs.Traits.{has, TraitIsLacking}
 use Rattle.need_labels.specs.Labelled.{Labelled, pc_of, all_labels}
 use Rattle.need_labels.specs.Needs.{label_of, releases}
 use Rattle.place_reasons.specs.declared.reason.Needed.{Needed}
@@ -57,8 +57,8 @@ abbrev pub IsOneOf : StmtId → (BlockTree → Type 0) → List BlockTree → Ty
 IsOneOf here is statements = Any (λ one. (id_of one ≡ here) × is one) statements
 
 -- the statement of this number is so, in some method of the program
-abbrev pub IsIn : ProgramTree → StmtId → (MethodTree → BlockTree → Type 0) → Type 0
-IsIn program here is = Any (λ method. IsOneOf here (is method) (statements_in method.body)) program.methods
+abbrev pub IsInSomeMethod : ProgramTree → StmtId → (MethodTree → BlockTree → Type 0) → Type 0
+IsInSomeMethod program here is = Any (λ method. IsOneOf here (is method) (statements_in method.body)) program.methods
 
 -- ---- what statements read
 
@@ -91,10 +91,10 @@ abbrev pub ReadsField : FieldId → BlockTree → Type 0
 ReadsField field one = Any (λ value. Any (λ read. read.0 ≡ field.0) (fields_in value)) (exprs_of one)
 
 -- they read an element of the array, and which one that is the host may not see
-abbrev pub ReadsElement : Labelled → Label → Trait → FieldId → MethodSetting → BlockTree → Type 0
-ReadsElement labelled host pair field setting one =
+abbrev pub ReadsHiddenElement : Labelled → Label → Trait → FieldId → MethodSetting → BlockTree → Type 0
+ReadsHiddenElement labelled host pair field setting one =
     Any (λ value. Any (λ read. (read.0.0 ≡ field.0)
-    × Fails pair (expr_label setting (pc_of labelled (id_of one)) (all_labels labelled) read.1) host)
+    × TraitIsLacking pair (expr_label setting (pc_of labelled (id_of one)) (all_labels labelled) read.1) host)
     (elements_in value)) (exprs_of one)
 
 -- ---- what statements change, release and call
@@ -156,13 +156,14 @@ kept_by (give_back heading value rest) = None
 
 -- what a reason for a field claims
 abbrev pub RefutesField : Declared → Labelled → Label → FieldId → PlaceReason → Type 0
-RefutesField principals labelled host field (row.Own pair) = Fails pair (field_label labelled.program field) host
+RefutesField principals labelled host field (row.Own pair) = TraitIsLacking pair (field_label labelled.program field)
+    host
 RefutesField principals labelled host field (row.Read pair statement cause) =
-    Fails pair (pc_of labelled statement) host
-    × IsIn labelled.program statement (λ method one. ReadsField field one)
+    TraitIsLacking pair (pc_of labelled statement) host
+    × IsInSomeMethod labelled.program statement (λ method one. ReadsField field one)
 RefutesField principals labelled host field (row.Index pair statement cause) =
-    IsIn labelled.program statement (λ method one.
-    ReadsElement labelled host pair field (setting_of principals labelled.program method) one)
+    IsInSomeMethod labelled.program statement (λ method one.
+    ReadsHiddenElement labelled host pair field (setting_of principals labelled.program method) one)
 RefutesField principals labelled host field (row.Untrusted principal) =
     Trusts (field_label labelled.program field) principal × (¬ Trusts host principal)
 RefutesField principals labelled host field other = ⊥
@@ -171,7 +172,7 @@ RefutesField principals labelled host field other = ⊥
 
 -- what a reason for the head of a method claims
 abbrev pub RefutesHead : Label → MethodTree → PlaceReason → Type 0
-RefutesHead host method (row.Begins pair) = Fails pair method.begin host
+RefutesHead host method (row.Begins pair) = TraitIsLacking pair method.begin host
 RefutesHead host method (row.Needs principal what statement) =
     (what ≡ needed.Head) × (statement ≡ method.head) × Trusts method.begin principal × (¬ Trusts host principal)
 RefutesHead host method other = ⊥
@@ -181,16 +182,16 @@ RefutesHead host method other = ⊥
 -- what a reason for the one statement of a block of a method claims
 abbrev pub RefutesStatement : Declared → Labelled → Label → MethodTree → BlockTree → PlaceReason → Type 0
 RefutesStatement principals labelled host method block (row.Runs pair cause) =
-    Fails pair (pc_of labelled (id_of block)) host
+    TraitIsLacking pair (pc_of labelled (id_of block)) host
 RefutesStatement principals labelled host method block (row.Uses pair cause) =
-    Any (λ label. Fails pair label host)
+    Any (λ label. TraitIsLacking pair label host)
     (flat_map (part_labels (setting_of principals labelled.program method) (pc_of labelled (id_of block))
     (all_labels labelled)) (exprs_of block))
 RefutesStatement principals labelled host method block (row.CallBegins pair called) =
-    (called_by block ≡ Some called) × Fails pair (begin_label (method_at labelled.program called)) host
+    (called_by block ≡ Some called) × TraitIsLacking pair (begin_label (method_at labelled.program called)) host
 RefutesStatement principals labelled host method block (row.CallGives pair called) =
     (called_by block ≡ Some called) × IsSome (kept_by block)
-    × Any (λ result. Fails pair (label_of labelled result) host)
+    × Any (λ result. TraitIsLacking pair (label_of labelled result) host)
     (variables_of (result_of (method_at labelled.program called)))
 RefutesStatement principals labelled host method block (row.Needs principal what statement) =
     Trusts (needed_label labelled method what) principal × (¬ Trusts host principal)
@@ -221,12 +222,12 @@ NamesDeclared principals (row.Releases member principal statement) =
 
 -- The label of this source has the trait: that of a field, of a variable, or of how a method begins, or one that is
 -- written in an expression of the statement.
-abbrev pub IsSource : ProgramTree → Trait → Source → Type 0
-IsSource program trait (OfField field) = IsTrue (has trait (field_label program field))
-IsSource program trait (OfVariable x) =
+abbrev pub IsTraitSource : ProgramTree → Trait → Source → Type 0
+IsTraitSource program trait (OfField field) = IsTrue (has trait (field_label program field))
+IsTraitSource program trait (OfVariable x) =
     (label : Label) × (slice_get (declared_labels program) x.0 ≡ Some (Some label)) × IsTrue (has trait label)
-IsSource program trait (OfBegin method) = IsTrue (has trait (begin_label (method_at program method)))
-IsSource program trait (Written here) = IsIn program here
+IsTraitSource program trait (OfBegin method) = IsTrue (has trait (begin_label (method_at program method)))
+IsTraitSource program trait (Written here) = IsInSomeMethod program here
     (λ method one. Any (λ label. IsTrue (has trait label)) (flat_map written_in (exprs_of one)))
 
 -- a statement sets the local
@@ -254,13 +255,13 @@ HasGuard (give_back heading value rest) = ⊥
 -- what it came through last is there
 abbrev pub IsVia : ProgramTree → Via → Type 0
 IsVia program Itself = ⊤
-IsVia program (ByLocal x here) = IsIn program here (λ method one. SetsLocal x one)
-IsVia program (ByGuard here) = IsIn program here (λ method one. HasGuard one)
+IsVia program (ByLocal x here) = IsInSomeMethod program here (λ method one. SetsLocal x one)
+IsVia program (ByGuard here) = IsInSomeMethod program here (λ method one. HasGuard one)
 
 -- so it is of a cause, where there is one
 abbrev pub IsCaused : ProgramTree → Trait → Option Cause → Type 0
 IsCaused program trait None = ⊤
-IsCaused program trait (Some cause) = IsSource program trait cause.source × IsVia program cause.via
+IsCaused program trait (Some cause) = IsTraitSource program trait cause.source × IsVia program cause.via
 
 -- so it is of the cause that a reason tells
 abbrev pub IsCauseTrue : ProgramTree → PlaceReason → Type 0

@@ -14,7 +14,7 @@ use Rattle.label_reasons.specs.declared.search_place.Place.{Place}
 use Rattle.label_reasons.specs.declared.search_place.Stand.{Stand}
 use Rattle.label_reasons.specs.declared.search_place.Known.{Known}
 use Rattle.label_reasons.specs.Causes.{or_else, begin_cause, causes_after, causes_after_assignment}
-use Rattle.label_reasons.specs.Search.{listed_cause, setting_at, label_is, cause_is, IsKnown}
+use Rattle.label_reasons.specs.Search.{listed_cause, setting_at, label_is, cause_is, AreCausesKnown}
 use Rattle.need_labels.specs.Labelled.{Labelled, labelled_of, all_labels}
 use Rattle.place_reasons.specs.declared.question.Question.{Question}
 use Rattle.place_reasons.specs.declared.site.HostSite.{HostSite}
@@ -48,7 +48,7 @@ assigned_causes place here stand known x value =
 
 -- From a block to one that is left of it: both leave the same labels and causes, and what was answered, with what is
 -- left to answer, is the answer to the whole.
-pub record Answers (place : Place) (question : Question) (stand : Stand) (old : Known)
+pub record AnswersInBlock (place : Place) (question : Question) (stand : Stand) (old : Known)
     (before : List (Option Cause)) (block : BlockTree) (new : Known) (behind : List (Option Cause))
     (left : BlockTree) : Type 0 where
   pub labels : labels_after (setting_at place) stand.pc old.labels.items block
@@ -57,7 +57,7 @@ pub record Answers (place : Place) (question : Question) (stand : Stand) (old : 
       (listed_cause old.causes.items) block
       ≡ causes_after place.held (setting_at place) stand.pc stand.of_pc new.labels.items
       (listed_cause new.causes.items) left
-  pub long : IsKnown new
+  pub long : AreCausesKnown new
   pub answers : before ++ answers_are place question stand old block
       ≡ behind ++ answers_are place question stand new left
 
@@ -71,7 +71,7 @@ pub record AnswersMethod (question : Question) (principals : Declared) (program 
       (begin_cause held (record { 0 = place }) method.begin) old.labels.items (listed_cause old.causes.items)
       method.body
       ≡ listed_cause new.causes.items
-  pub long : IsKnown new
+  pub long : AreCausesKnown new
   pub answers : before ++ begin_cause held (record { 0 = place }) method.begin
       ∷ block_answers question held (setting_of principals program method) method.begin
       (begin_cause held (record { 0 = place }) method.begin) old.labels.items (listed_cause old.causes.items)

@@ -5,7 +5,7 @@ ghost use Rattle.std.specs.Prelude.{slice_get, unwrap_or, Some};
 ghost use Rattle.jif_tree.specs.Trees.{program_tree};
 ghost use Rattle.label_reasons.specs.Traits.{IsTrait};
 ghost use Rattle.place_reasons.specs.Questions.{answer_at, program_answers};
-ghost use Rattle.place_reasons.specs.Kept.{AreAnswers, IsAsked, answer_in};
+ghost use Rattle.place_reasons.specs.Kept.{AreAnswers, AnswersQuestion, answer_in};
 
 use crate::question::Question;
 use crate::walk::answer_program;
@@ -81,7 +81,7 @@ fn is_same_question(one: Question, other: Question) -> bool
 
 /// Whether this was asked.
 fn is_asked(kept: &Kept, question: Question, held: Trait) -> bool
-    ensures { IsTrue result ↔ IsAsked question held kept.now }
+    ensures { IsTrue result ↔ AnswersQuestion question held kept.now }
 {
     is_same_question(kept.question, question) && is_same_trait(kept.held, held)
 }
@@ -107,7 +107,7 @@ fn kept_answers<'a>(
     requires { AreAnswers principals.now (program_tree program.now) kept.now }
     ensures answers { IfSome result (λ answers.
         answers.now ≡ program_answers question held principals.now (program_tree program.now)) }
-    ensures unasked { IfNone result (All (λ one. ¬ IsAsked question held one) kept.now) }
+    ensures unasked { IfNone result (All (λ one. ¬ AnswersQuestion question held one) kept.now) }
 {
     for one in kept {
         if is_asked(one, question, held) {
@@ -138,7 +138,7 @@ pub fn answer_at(
         answer ≡ answer_at question principals.now (program_tree program.now) statement held) }
     ensures kept { OnOk result (AreAnswers principals.now (program_tree program.now) answers.new.kept.items) }
     // Nothing is walked for that was answered before.
-    ensures asked { Any (IsAsked question held) answers.old.kept.items →
+    ensures asked { Any (AnswersQuestion question held) answers.old.kept.items →
         answers.new.kept.items ≡ answers.old.kept.items }
 {
     if let Some(found) = kept_answers(principals, program, question, held, &answers.kept) {

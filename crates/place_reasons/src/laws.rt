@@ -12,7 +12,7 @@ ghost use Rattle.jif_tree.specs.Trees.{BlockTree, done, FieldTree, MethodTree, P
 ghost use Rattle.jif_tree.specs.LabelRules.{setting_of};
 ghost use Rattle.need_labels.specs.Labelled.{Labelled};
 ghost use Rattle.label_reasons.specs.declared.reason.Trait.{Trait};
-ghost use Rattle.label_reasons.specs.Traits.{Fails, IsDeclaredTrait};
+ghost use Rattle.label_reasons.specs.Traits.{TraitIsLacking, IsDeclaredTrait};
 ghost use Rattle.label_reasons.specs.Programs.{IsProgramOver};
 ghost use Rattle.need_labels.specs.Needs.{IsNeed, StatementUse, NeedsShape, AreNeedsOf, block_uses, for_label};
 ghost use Rattle.place_rules.specs.PlaceRules.{MayHoldField, MayHoldStatement, told_fields, needed_statements};
@@ -43,7 +43,7 @@ use principals::acts_for_laws;
 pub fn place_laws()
     // A pair has a place in labels, and is held against the first label and not against the second.
     ensures pair_true { (principals : Declared) (from to : Label) (pair : Trait) → IsDeclared principals →
-        first_pair principals from to ≡ Some pair → IsDeclaredTrait principals pair × Fails pair from to }
+        first_pair principals from to ≡ Some pair → IsDeclaredTrait principals pair × TraitIsLacking pair from to }
     // So not all that the first may be known of may flow to the second.
     ensures pair_denies { (principals : Declared) (from to : Label) (pair : Trait) → IsDeclared principals →
         first_pair principals from to ≡ Some pair → ¬ ConfFlows from to }

@@ -6,7 +6,8 @@ ghost use Rattle.std.specs.Option.{option_map};
 ghost use Rattle.jif_tree.specs.Trees.{BlockTree, expr_tree, block_tree, tree_before};
 ghost use Rattle.place_reasons.specs.Firsts.{or_first, first_some};
 ghost use Rattle.place_reasons.specs.declared.told.Told.TheVariants.{Read, Index};
-ghost use Rattle.place_reasons.specs.Reasons.{pair_at, pc_at, label_at, run_told, index_told, told_in, own_told, block_told};
+ghost use Rattle.place_reasons.specs.Reasons.{pair_at, pc_at, label_at, run_told, index_told, told_in, own_told};
+ghost use Rattle.place_reasons.specs.Reasons.{block_told};
 ghost use Rattle.place_reasons.specs.Search.{IsSite, site_is, told_for};
 
 use crate::pairs::pair_at;

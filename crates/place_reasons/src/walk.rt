@@ -7,10 +7,11 @@ ghost use Rattle.jif_tree.specs.Trees.{method_tree};
 ghost use Rattle.jif_tree.specs.LabelRules.{declared_labels};
 ghost use Rattle.label_reasons.specs.Traits.{IsTrait};
 ghost use Rattle.label_reasons.specs.Causes.{declared_causes, label_cause};
-ghost use Rattle.label_reasons.specs.Search.{listed_cause, IsKnown, stand_inside};
+ghost use Rattle.label_reasons.specs.Search.{listed_cause, AreCausesKnown, stand_inside};
 ghost use Rattle.place_reasons.specs.Questions.{program_answers};
 ghost use Rattle.place_reasons.specs.Reasons.{exprs_of};
-ghost use Rattle.place_reasons.specs.Search.{Answers, AnswersMethod, answer_is, assigned_labels, assigned_causes};
+ghost use Rattle.place_reasons.specs.Search.{AnswersInBlock, AnswersMethod, answer_is, assigned_labels};
+ghost use Rattle.place_reasons.specs.Search.{assigned_causes};
 
 use crate::answers::answer_of;
 use crate::question::Question;
@@ -46,11 +47,11 @@ fn set_local(
     value: &Expr,
 )
     requires held { IsTrait place.now.held }
-    requires known { IsKnown known.old }
+    requires known { AreCausesKnown known.old }
     ensures labels { known.new.labels.items ≡ assigned_labels place.now stand.now known.old var (expr_tree value.now) }
     ensures causes { (x : VarId) → listed_cause known.new.causes.items x
         ≡ assigned_causes place.now here stand.now known.old var (expr_tree value.now) x }
-    ensures long { IsKnown known.new }
+    ensures long { AreCausesKnown known.new }
 {
     let label = expr_label(place, &stand.pc, &known.labels, value).join(stand.pc);
     let cause = or_else(
@@ -81,7 +82,7 @@ fn push_answer(
     Ok(())
 }
 
-/// Answers for the statements of a block.
+/// AnswersInBlock for the statements of a block.
 ///
 /// # Errors
 /// That memory ran out.
@@ -95,8 +96,8 @@ fn answer_block(
     answers: &mut Vec<Option<Cause>>,
 ) -> Result<(), OutOfMemory>
     requires held { IsTrait place.now.held }
-    requires known { IsKnown known.old }
-    ensures { OnOk result (Answers place.now question stand.now known.old answers.old.items
+    requires known { AreCausesKnown known.old }
+    ensures { OnOk result (AnswersInBlock place.now question stand.now known.old answers.old.items
         (block_tree statements.now) known.new answers.new.items done) }
 {
     for statement in statements {
@@ -105,7 +106,7 @@ fn answer_block(
     Ok(())
 }
 
-/// Answers for a statement, and for those in it.
+/// AnswersInBlock for a statement, and for those in it.
 ///
 /// # Errors
 /// That memory ran out.
@@ -119,8 +120,8 @@ fn answer_statement(
     answers: &mut Vec<Option<Cause>>,
 ) -> Result<(), OutOfMemory>
     requires held { IsTrait place.now.held }
-    requires known { IsKnown known.old }
-    ensures { OnOk result ((rest : BlockTree) → Answers place.now question stand.now known.old answers.old.items
+    requires known { AreCausesKnown known.old }
+    ensures { OnOk result ((rest : BlockTree) → AnswersInBlock place.now question stand.now known.old answers.old.items
         (tree_before statement.now rest) known.new answers.new.items rest) }
 {
     tree_laws();
@@ -155,7 +156,7 @@ fn answer_statement(
     }
 }
 
-/// Answers for a method.
+/// AnswersInBlock for a method.
 ///
 /// # Errors
 /// That memory ran out.
@@ -170,7 +171,7 @@ fn answer_method(
     answers: &mut Vec<Option<Cause>>,
 ) -> Result<(), OutOfMemory>
     requires held { IsTrait held }
-    requires known { IsKnown known.old }
+    requires known { AreCausesKnown known.old }
     ensures { OnOk result (AnswersMethod question principals.now (program_tree program.now) held number
         (method_tree method.now) known.old answers.old.items known.new answers.new.items) }
 {
@@ -191,7 +192,7 @@ fn answer_method(
     Ok(())
 }
 
-/// Answers for a program.
+/// AnswersInBlock for a program.
 ///
 /// # Errors
 /// That memory ran out.

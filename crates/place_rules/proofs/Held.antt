@@ -11,19 +11,19 @@ use Rattle.std.proofs.lemmas.List.Sums.{fails_before_first}
 use Rattle.std.proofs.lemmas.List.Quantifiers.{position-Some}
 use Rattle.std.proofs.lemmas.Nat.Bits.{bit_at-zero, bit_at-trailing_zeros}
 use Rattle.host_decl.specs.Hosts.{HostShape}
-use Rattle.place_rules.specs.PlaceRules.{IsHeld, IsWordOf}
+use Rattle.place_rules.specs.PlaceRules.{HasHolder, IsWordOf}
 use Rattle.place_rules.specs.Refusal.{IsFirstUnheld}
 
 -- ---- one word
 
 pub held : (may : HostShape → Type 0) (hosts : List HostShape) (word : ℕ) → IsWordOf may hosts word → word ≢ 0 →
-    IsHeld may hosts
+    HasHolder may hosts
 held may hosts word is some =
     let lowest = bit_at-trailing_zeros w16 word (omega arith) is.fits in
     (_, (is.members _).0 lowest.1)
 
 pub unheld : (may : HostShape → Type 0) (hosts : List HostShape) (word : ℕ) → IsWordOf may hosts word → word ≡ 0 →
-    ¬ IsHeld may hosts
+    ¬ HasHolder may hosts
 unheld may hosts word is none holds =
     let set : bit_at word holds.0 ≡ 1 = (is.members holds.0).1 holds.1 in
     let clear : bit_at word holds.0 ≡ 0 = ap (λ one. bit_at one holds.0) none ∙ bit_at-zero holds.0 in
@@ -67,14 +67,14 @@ AreWordsOf may hosts all words = AllZip (λ one word. IsWordOf (may one) hosts w
 
 held_at : {A : Type 0} (may : A → HostShape → Type 0) (hosts : List HostShape) (all : List A) (words : List ℕ)
     (k : ℕ) (d : A) → AreWordsOf may hosts all words → k < length all → is_empty (get_or words k 0) ≡ false →
-    IsHeld (may (get_or all k d)) hosts
+    HasHolder (may (get_or all k d)) hosts
 held_at may hosts all words k d zipped within some =
     held (may (get_or all k d)) hosts (get_or words k 0)
     (zip_at (λ one word. IsWordOf (may one) hosts word) all words k d 0 zipped within)
     (eqb-false _ _ some)
 
 pub all_held : {A : Type 0} (may : A → HostShape → Type 0) (hosts : List HostShape) (all : List A) (words : List ℕ) →
-    AreWordsOf may hosts all words → position is_empty words ≡ None → All (λ one. IsHeld (may one) hosts) all
+    AreWordsOf may hosts all words → position is_empty words ≡ None → All (λ one. HasHolder (may one) hosts) all
 all_held may hosts all words zipped none k d within =
     let long = zip_long (λ one word. IsWordOf (may one) hosts word) all words zipped in
     held_at may hosts all words k d zipped within (none_empty words none k 0 (omega arith))
@@ -97,7 +97,7 @@ first_unheld {A = A} may hosts (one ∷ all) words number zipped found =
       unheld = unheld (may (get_or (one ∷ all) number one)) hosts (get_or words number 0)
           (zip_at R (one ∷ all) words number one 0 zipped within) (eqb-true _ _ at.1);
       before = λ k d lt.
-          let Held : A → Type 0 = λ earlier. IsHeld (may earlier) hosts in
+          let Held : A → Type 0 = λ earlier. HasHolder (may earlier) hosts in
           let early : k < min number (length (one ∷ all)) = let Below : ℕ → Type 0 = λ n. k < n in
           subst Below (length-take number (one ∷ all)) lt in
           let sooner : k < number = omega arith in

@@ -12,10 +12,10 @@ use Rattle.host_decl.specs.Hosts.{HostShape, HostsShape}
 use Rattle.need_labels.specs.Labelled.{Labelled}
 use Rattle.need_labels.specs.Needs.{NeedsShape}
 use Rattle.place_rules.specs.Allowed.{AllowedShape}
-use Rattle.place_rules.specs.PlaceRules.{HoldsOn, IsHeld, IsWordOf, IsWordOfSome, AreAllowed, MayHoldField}
+use Rattle.place_rules.specs.PlaceRules.{HoldsOn, HasHolder, IsWordOf, IsWordOfSome, AreAllowed, MayHoldField}
 use Rattle.place_rules.specs.PlaceRules.{MayHoldStatement}
 use Rattle.place_rules.specs.PlaceRules.{told_fields, needed_statements}
-use Rattle.place_rules.specs.Refusal.{IsFirstUnheld, IsRefused}
+use Rattle.place_rules.specs.Refusal.{IsFirstUnheld, IsPlaceRefused}
 use Rattle.place_rules.specs.declared.place_error.PlaceError.{PlaceError}
 use Rattle.place_rules.specs.declared.place_error.PlaceError.TheVariants as error
 use Rattle.place_rules.proofs.Held.{AreWordsOf}
@@ -66,7 +66,7 @@ not_before : {A : Type 0} (may : A → HostShape → Type 0) (hosts : List HostS
     IsFirstUnheld may hosts all first → IsFirstUnheld may hosts all second → first < second → ⊥
 not_before {A = A} may hosts all first second one two sooner =
     let within : first < length all = slice_get_within all first one.one one.place in
-    let Held : A → Type 0 = λ x. IsHeld (may x) hosts in
+    let Held : A → Type 0 = λ x. HasHolder (may x) hosts in
     one.unheld (subst Held
     (get_or-take second all first one.one sooner ∙ get_or_from_slice_get all first one.one one.one one.place)
     (two.before first one.one (rw length-take (omega arith))))
@@ -80,14 +80,14 @@ one_first may hosts all first second one two = elim (cases_order first second) [
 ]
 
 none_unheld : {A : Type 0} (may : A → HostShape → Type 0) (hosts : List HostShape) (all : List A) (number : ℕ) →
-    All (λ x. IsHeld (may x) hosts) all → IsFirstUnheld may hosts all number → ⊥
+    All (λ x. HasHolder (may x) hosts) all → IsFirstUnheld may hosts all number → ⊥
 none_unheld {A = A} may hosts all number held first =
-    let Held : A → Type 0 = λ x. IsHeld (may x) hosts in
+    let Held : A → Type 0 = λ x. HasHolder (may x) hosts in
     first.unheld (subst Held (get_or_from_slice_get all number first.one first.one first.place)
     (held number first.one (slice_get_within all number first.one first.place)))
 
 pub one_refusal : (labelled : Labelled) (needs : NeedsShape) (hosts : HostsShape) (first second : PlaceError) →
-    IsRefused labelled needs hosts first → IsRefused labelled needs hosts second → first ≢ error.OutOfMemory →
+    IsPlaceRefused labelled needs hosts first → IsPlaceRefused labelled needs hosts second → first ≢ error.OutOfMemory →
     second ≢ error.OutOfMemory → first ≡ second
 one_refusal labelled needs hosts error.OutOfMemory second one two is other = absurd (is refl)
 one_refusal labelled needs hosts (error.NoHostForField field) error.OutOfMemory one two is other = absurd (other refl)
@@ -106,7 +106,7 @@ one_refusal labelled needs hosts (error.NoHostForStatement statement) (error.NoH
     (one_first MayHoldStatement hosts.hosts (needed_statements needs) statement.0 second.0 one.1 two.1)
 
 pub never_both : (labelled : Labelled) (needs : NeedsShape) (hosts : HostsShape) (allowed : AllowedShape)
-    (why : PlaceError) → AreAllowed labelled needs hosts allowed → IsRefused labelled needs hosts why →
+    (why : PlaceError) → AreAllowed labelled needs hosts allowed → IsPlaceRefused labelled needs hosts why →
     why ≡ error.OutOfMemory
 never_both labelled needs hosts allowed error.OutOfMemory are refused = refl
 never_both labelled needs hosts allowed (error.NoHostForField field) are refused =
@@ -124,7 +124,7 @@ within_hosts may (host ∷ hosts) zero holds = omega arith
 within_hosts may (host ∷ hosts) (suc number) holds = let less = within_hosts may hosts number holds in omega arith
 
 word_of_some : (may : HostShape → Type 0) (hosts : List HostShape) (word : ℕ) → IsWordOf may hosts word →
-    IsHeld may hosts → IsWordOfSome (length hosts) word
+    HasHolder may hosts → IsWordOfSome (length hosts) word
 word_of_some may hosts word is held = record {
   fits = is.fits;
   within = λ number set. within_hosts may hosts number ((is.members number).0 set);
@@ -132,7 +132,7 @@ word_of_some may hosts word is held = record {
 }
 
 all_of_some : {A : Type 0} (may : A → HostShape → Type 0) (hosts : List HostShape) (all : List A) (words : List ℕ) →
-    AreWordsOf may hosts all words → All (λ x. IsHeld (may x) hosts) all → All (IsWordOfSome (length hosts)) words
+    AreWordsOf may hosts all words → All (λ x. HasHolder (may x) hosts) all → All (IsWordOfSome (length hosts)) words
 all_of_some may hosts [] [] zipped held k d lt = absurd (omega arith)
 all_of_some may hosts [] (word ∷ words) zipped held k d lt = absurd zipped
 all_of_some may hosts (one ∷ all) [] zipped held k d lt = absurd zipped

@@ -18,7 +18,7 @@ use Rattle.need_labels.specs.Needs.{NeedsShape}
 use Rattle.place_rules.specs.Allowed.{AllowedShape}
 use Rattle.place_rules.specs.PlaceRules.{HoldsOn, AreAllowed, MayHoldField, MayHoldStatement, told_fields}
 use Rattle.place_rules.specs.PlaceRules.{needed_statements}
-use Rattle.place_rules.specs.Refusal.{IsRefused}
+use Rattle.place_rules.specs.Refusal.{IsPlaceRefused}
 use Rattle.place_rules.specs.declared.place_error.PlaceError.{PlaceError}
 use Rattle.place_rules.specs.declared.place_error.PlaceError.TheVariants as error
 use Rattle.place_rules.proofs.Held.{AreWordsOf, is_empty, all_held, first_unheld}
@@ -89,7 +89,7 @@ option_cases (Some number) = inr (number, refl)
 
 pub allowed_or_refused : (labelled : Labelled) (needs : NeedsShape) (hosts : HostsShape) →
     length hosts.hosts ≤ HOSTS → ((allowed : AllowedShape) × AreAllowed labelled needs hosts allowed)
-    ⊎ ((why : PlaceError) × (why ≢ error.OutOfMemory) × IsRefused labelled needs hosts why)
+    ⊎ ((why : PlaceError) × (why ≢ error.OutOfMemory) × IsPlaceRefused labelled needs hosts why)
 allowed_or_refused labelled needs hosts few =
     let fields = row_of MayHoldField field_decided hosts.hosts few (told_fields labelled needs) in
     let statements = row_of MayHoldStatement statement_decided hosts.hosts few (needed_statements needs) in

@@ -34,8 +34,8 @@ abbrev pub HoldsOn : (HostShape → Type 0) → List HostShape → ℕ → Type 
 HoldsOn may hosts number = IsSomeAnd (slice_get hosts number) may
 
 -- some host may hold it
-abbrev pub IsHeld : (HostShape → Type 0) → List HostShape → Type 0
-IsHeld may hosts = (number : ℕ) × HoldsOn may hosts number
+abbrev pub HasHolder : (HostShape → Type 0) → List HostShape → Type 0
+HasHolder may hosts = (number : ℕ) × HoldsOn may hosts number
 
 -- a word with a bit for each host that may hold it
 pub record IsWordOf (may : HostShape → Type 0) (hosts : List HostShape) (word : ℕ) : Type 0 where
@@ -49,8 +49,8 @@ pub record AreAllowed (labelled : Labelled) (needs : NeedsShape) (hosts : HostsS
       allowed.fields
   pub statements : AllZip (λ one word. IsWordOf (MayHoldStatement one) hosts.hosts word) (needed_statements needs)
       allowed.statements
-  pub held_fields : All (λ one. IsHeld (MayHoldField one) hosts.hosts) (told_fields labelled needs)
-  pub held_statements : All (λ one. IsHeld (MayHoldStatement one) hosts.hosts) (needed_statements needs)
+  pub held_fields : All (λ one. HasHolder (MayHoldField one) hosts.hosts) (told_fields labelled needs)
+  pub held_statements : All (λ one. HasHolder (MayHoldStatement one) hosts.hosts) (needed_statements needs)
 
 -- A word of hosts, of which there are so many, that has one at least.
 pub record IsWordOfSome (count : ℕ) (word : ℕ) : Type 0 where

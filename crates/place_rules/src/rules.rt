@@ -5,7 +5,7 @@ ghost use Rattle.std.specs.List.{AllZip, zip};
 ghost use Rattle.jif_tree.specs.Trees.{field_tree};
 ghost use Rattle.need_labels.specs.Labelled.{labelled_of};
 ghost use Rattle.place_rules.specs.PlaceRules.{MayHoldField, MayHoldStatement, IsWordOf, AreAllowed};
-ghost use Rattle.place_rules.specs.Refusal.{IsRefused};
+ghost use Rattle.place_rules.specs.Refusal.{IsPlaceRefused};
 
 use crate::holders::{holders_of_field, holders_of_statement};
 use crate::{Allowed, PlaceError};
@@ -29,7 +29,7 @@ pub fn allowed_on(
     hosts: &Hosts,
 ) -> Result<Allowed, PlaceError>
     ensures allowed { IfOk result (AreAllowed (labelled_of checked.now) needs.now hosts.now) }
-    ensures refused { IfErr result (IsRefused (labelled_of checked.now) needs.now hosts.now) }
+    ensures refused { IfErr result (IsPlaceRefused (labelled_of checked.now) needs.now hosts.now) }
 {
     let rows = hosts.hosts();
     let fields = field_words(alloc, rows, &checked.program.fields, needs.loc())?;

@@ -1,5 +1,6 @@
 -- The reasons of the parts of a program are those of its fields and statements, and its parts are parts of it.
-use Rattle.std.proofs.Common.{◌≡◌, ℕ, zero, suc, ◌+◌, ◌<◌, List, [], ◌∷◌, ◌++◌, map, flat_map, get_or, length, refl, subst, sym, ap, ap₂, ◌∙◌, arith}
+use Rattle.std.proofs.Common.{◌≡◌, ℕ, zero, suc, ◌+◌, ◌<◌, List, [], ◌∷◌, ◌++◌, map, flat_map, get_or, length, refl}
+use Rattle.std.proofs.Common.{subst, sym, ap, ap₂, ◌∙◌, arith}
 use Rattle.std.specs.Prelude.{All, slice_get}
 use Rattle.std.specs.List.{range_with_len}
 use Rattle.std.proofs.lemmas.List.{get_or-map, length-map, map-append}
@@ -15,7 +16,7 @@ use Rattle.place_reasons.specs.Reasons.{head_reason, statement_reason}
 use Rattle.place_rules.specs.declared.place_error.PlaceError.{PlaceError}
 use Rattle.place_rules.specs.declared.place_error.PlaceError.TheVariants as place
 use Rattle.place_texts.specs.declared.part.Part.{Part}
-use Rattle.place_texts.specs.Holding.{IsPartOf, ArePartsOf}
+use Rattle.place_texts.specs.Holding.{IsProgramPart, ArePartsOf}
 use Rattle.place_texts.specs.Meant.{is_meant, meant, one_of, unheld_parts}
 use Rattle.place_texts.specs.Parts.{PartShape, field, head, statement, block_parts, fields_of, method_parts, parts_of}
 use Rattle.place_texts.specs.Parts.{part_shape, reason_of, statements_of}
@@ -97,15 +98,15 @@ statements_same principals labelled host = methods_same principals labelled host
 -- ---- parts of the program
 
 more : (principals : Declared) (tree : ProgramTree) (part : PartShape) (parts : List PartShape) →
-    IsPartOf principals tree part → ArePartsOf principals tree parts → ArePartsOf principals tree (part ∷ parts)
-more principals tree part parts one others = All-cons (IsPartOf principals tree) part parts one others
+    IsProgramPart principals tree part → ArePartsOf principals tree parts → ArePartsOf principals tree (part ∷ parts)
+more principals tree part parts one others = All-cons (IsProgramPart principals tree) part parts one others
 
 both : (principals : Declared) (tree : ProgramTree) (front back : List PartShape) → ArePartsOf principals tree front →
     ArePartsOf principals tree back → ArePartsOf principals tree (front ++ back)
-both principals tree front back one two = All-append (IsPartOf principals tree) front back one two
+both principals tree front back one two = All-append (IsProgramPart principals tree) front back one two
 
 none : (principals : Declared) (tree : ProgramTree) → ArePartsOf principals tree []
-none principals tree = All-nil (IsPartOf principals tree)
+none principals tree = All-nil (IsProgramPart principals tree)
 
 range_within : (principals : Declared) (tree : ProgramTree) (from count : ℕ) → from + count ≡ length tree.fields →
     ArePartsOf principals tree (map (λ number. field (record { 0 = number })) (range_with_len from count))
@@ -176,15 +177,16 @@ all_within principals tree declared =
 pub meant_within : (principals : Declared) (tree : ProgramTree) (word : List ℕ) → AreAuthorities principals tree →
     ArePartsOf principals tree (meant tree word)
 meant_within principals tree word declared =
-    All-filter (is_meant tree word) (IsPartOf principals tree) (parts_of tree) (all_within principals tree declared)
+    All-filter (is_meant tree word) (IsProgramPart principals tree) (parts_of tree)
+    (all_within principals tree declared)
 
 one_within : (principals : Declared) (tree : ProgramTree) (parts : List PartShape) (place : ℕ) →
     ArePartsOf principals tree parts → ArePartsOf principals tree (one_of (slice_get parts place))
 one_within principals tree [] place are = none principals tree
 one_within principals tree (part ∷ parts) zero are =
-    more principals tree part [] (All-head (IsPartOf principals tree) part parts are) (none principals tree)
+    more principals tree part [] (All-head (IsProgramPart principals tree) part parts are) (none principals tree)
 one_within principals tree (part ∷ parts) (suc place) are =
-    one_within principals tree parts place (All-tail (IsPartOf principals tree) part parts are)
+    one_within principals tree parts place (All-tail (IsProgramPart principals tree) part parts are)
 
 pub unheld_within : (principals : Declared) (tree : ProgramTree) (why : PlaceError) → AreAuthorities principals tree →
     ArePartsOf principals tree (unheld_parts tree why)
@@ -197,9 +199,10 @@ unheld_within principals tree (place.NoHostForStatement number) declared =
 -- one of some parts
 pub part_within : (principals : Declared) (tree : ProgramTree) (parts : List Part) (place : ℕ) (one : Part) →
     ArePartsOf principals tree (map part_shape parts) → place < length parts → one ≡ get_or parts place one →
-    IsPartOf principals tree (part_shape one)
+    IsProgramPart principals tree (part_shape one)
 part_within principals tree parts place one are lt is =
     let long = length-map parts part_shape in
-    subst (IsPartOf principals tree)
+    subst (IsProgramPart principals tree)
     (get_or-map part_shape parts place one (part_shape one) lt ∙ sym (ap part_shape is))
-    (All-get_or (IsPartOf principals tree) (map part_shape parts) place (part_shape one) (omega (arith, long, lt)) are)
+    (All-get_or (IsProgramPart principals tree) (map part_shape parts) place (part_shape one) (omega (arith, long, lt))
+    are)

@@ -35,10 +35,10 @@ pub record IsHolding (holding : Holding) : Type 0 where
       holding.told.now
 
 -- a part of the program: a field that is there, and a statement of a method with declared authority
-abbrev pub IsPartOf : Declared → ProgramTree → PartShape → Type 0
-IsPartOf principals tree (field number) = number.0 < length tree.fields
-IsPartOf principals tree (head method) = ⊤
-IsPartOf principals tree (statement method block) = AreDeclared principals method.authority
+abbrev pub IsProgramPart : Declared → ProgramTree → PartShape → Type 0
+IsProgramPart principals tree (field number) = number.0 < length tree.fields
+IsProgramPart principals tree (head method) = ⊤
+IsProgramPart principals tree (statement method block) = AreDeclared principals method.authority
 
 abbrev pub ArePartsOf : Declared → ProgramTree → List PartShape → Type 0
-ArePartsOf principals tree parts = All (IsPartOf principals tree) parts
+ArePartsOf principals tree parts = All (IsProgramPart principals tree) parts

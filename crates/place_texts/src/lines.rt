@@ -8,7 +8,7 @@ ghost use Rattle.jif_tree.specs.Trees.{program_tree};
 ghost use Rattle.need_labels.specs.Labelled.{labelled_of};
 ghost use Rattle.place_reasons.specs.Kept.{AreAnswers};
 ghost use Rattle.place_reasons.specs.Search.{AreTold, IsSearch};
-ghost use Rattle.place_texts.specs.Holding.{AreToldHosts, ArePartsOf, IsHolding, IsPartOf, sheet_of};
+ghost use Rattle.place_texts.specs.Holding.{AreToldHosts, ArePartsOf, IsHolding, IsProgramPart, sheet_of};
 ghost use Rattle.place_texts.specs.Lines as lines;
 ghost use Rattle.place_texts.specs.Parts.{part_shape, reason_of};
 
@@ -105,7 +105,7 @@ fn reason_of<'a>(
 ) -> Result<Option<PlaceReason>, OutOfMemory>
     requires search { IsSearch search.now }
     requires told { AreTold search.now.principals.now (labelled_of search.now.checked.now) host.now told.now }
-    requires part { IsPartOf search.now.principals.now (program_tree search.now.checked.now.program)
+    requires part { IsProgramPart search.now.principals.now (program_tree search.now.checked.now.program)
         (part_shape part.now) }
     requires kept { AreAnswers search.now.principals.now (program_tree search.now.checked.now.program)
         answers.old.kept.items }
@@ -177,7 +177,7 @@ fn push_at<'a>(
     requires holding { IsHolding holding.now }
     requires told { AreTold holding.now.hosts.now.principals (labelled_of holding.now.checked.now) host.now.label
         told.now }
-    requires part { IsPartOf holding.now.hosts.now.principals (program_tree holding.now.checked.now.program)
+    requires part { IsProgramPart holding.now.hosts.now.principals (program_tree holding.now.checked.now.program)
         (part_shape part.now) }
     requires kept { AreAnswers holding.now.hosts.now.principals (program_tree holding.now.checked.now.program)
         answers.old.kept.items }
@@ -205,7 +205,7 @@ fn push_part<'a>(
     answers: &mut KeptAnswers,
 ) -> Result<(), OutOfMemory>
     requires holding { IsHolding holding.now }
-    requires part { IsPartOf holding.now.hosts.now.principals (program_tree holding.now.checked.now.program)
+    requires part { IsProgramPart holding.now.hosts.now.principals (program_tree holding.now.checked.now.program)
         (part_shape part.now) }
     requires kept { AreAnswers holding.now.hosts.now.principals (program_tree holding.now.checked.now.program)
         answers.old.kept.items }

@@ -6,7 +6,7 @@ use Rattle.std.proofs.lemmas.Bool.{cases_lt, lt-ltb, le-ltb}
 use Rattle.need_labels.specs.Plan.{PlanShape}
 use Rattle.msg_cost.specs.declared.step.Step.{Step}
 use Rattle.msg_cost.specs.Steps.{moved}
-use Rattle.placement.specs.Choice.{after_step, after_steps, after_passes, IsSettled, IsLowered}
+use Rattle.placement.specs.Choice.{after_step, after_steps, after_passes, IsLocallyCheapest, IsLowered}
 
 -- ---- one move
 
@@ -51,7 +51,7 @@ steps_lower cost plan (step ∷ steps) =
 
 -- moves that leave the cost leave the plan, and none of them makes it cheaper
 pub steps_settled : (cost : PlanShape → ℕ) (plan : PlanShape) (steps : List Step) →
-    cost plan ≤ cost (after_steps cost plan steps) → IsSettled cost steps plan
+    cost plan ≤ cost (after_steps cost plan steps) → IsLocallyCheapest cost steps plan
 steps_settled cost plan [] stays = tt
 steps_settled cost plan (step ∷ steps) stays =
     let rest = steps_lower cost (after_step cost plan step) steps in
@@ -60,7 +60,7 @@ steps_settled cost plan (step ∷ steps) stays =
     let Stays : PlanShape → Type 0 = λ next. cost plan ≤ cost (after_steps cost next steps) in
     (here, steps_settled cost plan steps (subst Stays same stays))
 
-pub settled_stays : (cost : PlanShape → ℕ) (plan : PlanShape) (steps : List Step) → IsSettled cost steps plan →
+pub settled_stays : (cost : PlanShape → ℕ) (plan : PlanShape) (steps : List Step) → IsLocallyCheapest cost steps plan →
     after_steps cost plan steps ≡ plan
 settled_stays cost plan [] settled = refl
 settled_stays cost plan (step ∷ steps) settled =
@@ -90,15 +90,15 @@ lowered_lower cost steps first plan lowered =
     omega arith
 
 passes_stay : (cost : PlanShape → ℕ) (steps : List Step) (passes : ℕ) (plan : PlanShape) →
-    IsSettled cost steps plan → after_passes cost steps passes plan ≡ plan
+    IsLocallyCheapest cost steps plan → after_passes cost steps passes plan ≡ plan
 passes_stay cost steps zero plan settled = refl
 passes_stay cost steps (suc passes) plan settled =
     ap (λ (next : PlanShape). after_passes cost steps passes next) (settled_stays cost plan steps settled)
     ∙ passes_stay cost steps passes plan settled
 
 one_end : (cost : PlanShape → ℕ) (steps : List Step) (passes other : ℕ) (plan : PlanShape) →
-    IsSettled cost steps (after_passes cost steps passes plan) →
-    IsSettled cost steps (after_passes cost steps other plan) →
+    IsLocallyCheapest cost steps (after_passes cost steps passes plan) →
+    IsLocallyCheapest cost steps (after_passes cost steps other plan) →
     after_passes cost steps passes plan ≡ after_passes cost steps other plan
 one_end cost steps zero other plan first second = sym (passes_stay cost steps other plan first)
 one_end cost steps (suc passes) zero plan first second = passes_stay cost steps (suc passes) plan second
@@ -108,7 +108,7 @@ one_end cost steps (suc passes) (suc other) plan first second =
 pub one_lowered : (cost : PlanShape → ℕ) (steps : List Step) (start first second : PlanShape) →
     IsLowered cost steps start first → IsLowered cost steps start second → first ≡ second
 one_lowered cost steps start first second one two =
-    let Settled : PlanShape → Type 0 = λ plan. IsSettled cost steps plan in
+    let Settled : PlanShape → Type 0 = λ plan. IsLocallyCheapest cost steps plan in
     one.reached
     ∙ one_end cost steps one.passes two.passes start (subst Settled one.reached one.settled)
     (subst Settled two.reached two.settled)
@@ -125,7 +125,7 @@ lowered_at cost steps passes start before plan was is same =
     record {
       passes = passes;
       reached = stays ∙ was;
-      settled = subst (λ (one : PlanShape). IsSettled cost steps one) (sym stays) settled;
+      settled = subst (λ (one : PlanShape). IsLocallyCheapest cost steps one) (sym stays) settled;
     }
 
 later : (cost : PlanShape → ℕ) (steps : List Step) (start plan : PlanShape) →

@@ -28,14 +28,14 @@ after_passes cost steps zero plan = plan
 after_passes cost steps (suc passes) plan = after_passes cost steps passes (after_steps cost plan steps)
 
 -- no move makes the plan cheaper
-abbrev pub IsSettled : (PlanShape → ℕ) → List Step → PlanShape → Type 0
-IsSettled cost steps plan = AllByRecursion (λ step. cost plan ≤ cost (moved plan step)) steps
+abbrev pub IsLocallyCheapest : (PlanShape → ℕ) → List Step → PlanShape → Type 0
+IsLocallyCheapest cost steps plan = AllByRecursion (λ step. cost plan ≤ cost (moved plan step)) steps
 
 -- the plan to which passes come from the first, and which no pass changes
 pub record IsLowered (cost : PlanShape → ℕ) (steps : List Step) (first plan : PlanShape) : Type 0 where
   pub passes : ℕ
   pub reached : plan ≡ after_passes cost steps passes first
-  pub settled : IsSettled cost steps plan
+  pub settled : IsLocallyCheapest cost steps plan
 
 -- the plan to which passes come from the cheapest starting plan for so many hosts
 pub record IsChosen (cost : PlanShape → ℕ) (allowed : AllowedShape) (count : ℕ) (plan : PlanShape) : Type 0 where

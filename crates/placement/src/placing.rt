@@ -4,7 +4,7 @@ ghost use Rattle.std.specs.Prelude.{IfOk, IfErr};
 ghost use Rattle.jif_tree.specs.Trees.{program_tree};
 ghost use Rattle.jif_tree.specs.Limits.{IsWithinLimits};
 ghost use Rattle.need_labels.specs.Labelled.{labelled_of};
-ghost use Rattle.place_rules.specs.Refusal.{IsRefused};
+ghost use Rattle.place_rules.specs.Refusal.{IsPlaceRefused};
 ghost use Rattle.placement.specs.Placing.{IsPlaced};
 
 use crate::cheapest_start::cheapest_start;
@@ -37,7 +37,7 @@ pub fn place(
     requires { IsWithinLimits (program_tree checked.now.program) }
     ensures placed { IfOk result (λ placed.
         IsPlaced (labelled_of checked.now) needs.now hosts.now placed.0 placed.1) }
-    ensures refused { IfErr result (IsRefused (labelled_of checked.now) needs.now hosts.now) }
+    ensures refused { IfErr result (IsPlaceRefused (labelled_of checked.now) needs.now hosts.now) }
 {
     place_rule_laws();
     let allowed = allowed_on(alloc, checked, needs, hosts)?;

@@ -5,10 +5,10 @@ use Rattle.std.specs.Prelude.{slice_get, slice_index}
 use Rattle.std.proofs.lemmas.Bool.{cases_lt, le-ltb, lt-ltb}
 use Rattle.drawing_text.specs.declared.spans.Span.{Span}
 use Rattle.plan_layout.specs.Columns.{columns_of, left_of, track_in_strip, track_of, width_of}
-use Rattle.plan_layout.specs.Fits.{Fits}
+use Rattle.plan_layout.specs.Fits.{LineFits}
 use Rattle.plan_layout.specs.Lines.{lane_of}
 use Rattle.plan_layout.specs.Places.{places_of}
-use Rattle.plan_layout.specs.Rectangles.{AreApart, across, along, box_of, into}
+use Rattle.plan_layout.specs.Rectangles.{HaveNoCommonPoint, across, along, box_of, into}
 use Rattle.plan_layout.specs.Routes.{ends_at, goes_at, route_of}
 use Rattle.plan_layout.specs.Strips as strips
 use Rattle.plan_layout.specs.declared.lines.Line.{Line}
@@ -17,9 +17,9 @@ use Rattle.plan_layout.proofs.Hubs.{track_within}
 
 -- a line goes along its own row, so it meets no box of another
 pub across_clear : (from top : ℕ) (widths : List ℕ) (lines : List Line) (rows : List Span) (line : Line)
-    (column row : ℕ) (one : Span) → All (λ span. 8 ≤ span.after) rows → Fits widths rows line →
+    (column row : ℕ) (one : Span) → All (λ span. 8 ≤ span.after) rows → LineFits widths rows line →
     slice_get rows row ≡ Some one → row ≢ line.begin →
-    AreApart (across (route_of (columns_of from widths lines) (places_of top rows) line))
+    HaveNoCommonPoint (across (route_of (columns_of from widths lines) (places_of top rows) line))
     (box_of (columns_of from widths lines) (places_of top rows) one.length column row)
 across_clear from top widths lines rows line column row one free fits here differ =
     elim (rows_apart top row line.begin rows one fits.first free differ here fits.begins) [
@@ -29,9 +29,9 @@ across_clear from top widths lines rows line column row one free fits here diffe
 
 -- the tip of a line is in its own row
 into_rows : (from top : ℕ) (widths : List ℕ) (lines : List Line) (rows : List Span) (line : Line)
-    (column row : ℕ) (one : Span) → All (λ span. 8 ≤ span.after) rows → Fits widths rows line →
+    (column row : ℕ) (one : Span) → All (λ span. 8 ≤ span.after) rows → LineFits widths rows line →
     slice_get rows row ≡ Some one → row ≢ line.end →
-    AreApart (into (route_of (columns_of from widths lines) (places_of top rows) line))
+    HaveNoCommonPoint (into (route_of (columns_of from widths lines) (places_of top rows) line))
     (box_of (columns_of from widths lines) (places_of top rows) one.length column row)
 into_rows from top widths lines rows line column row one free fits here differ =
     let tip = fits.tip in
@@ -136,7 +136,7 @@ within_right from widths lines line column most within at = elim (cases_lt colum
 -- between two columns it meets no box of any
 pub along_clear : (from top : ℕ) (widths : List ℕ) (lines : List Line) (rows : List Span) (i : ℕ) (line : Line)
     (column row height : ℕ) → slice_get lines i ≡ Some line → line.to.0 < length widths → column < length widths →
-    AreApart (along (route_of (columns_of from widths lines) (places_of top rows) line))
+    HaveNoCommonPoint (along (route_of (columns_of from widths lines) (places_of top rows) line))
     (box_of (columns_of from widths lines) (places_of top rows) height column row)
 along_clear from top widths lines rows i line column row height here within inside =
     elim (cases_lt line.from.0 line.to.0) [
@@ -170,7 +170,7 @@ along_clear from top widths lines rows i line column row height here within insi
 into_columns : (from top : ℕ) (widths : List ℕ) (lines : List Line) (rows : List Span) (i : ℕ) (line : Line)
     (column row height : ℕ) → slice_get lines i ≡ Some line → line.to.0 < length widths → column < length widths →
     column ≢ line.to.0 →
-    AreApart (into (route_of (columns_of from widths lines) (places_of top rows) line))
+    HaveNoCommonPoint (into (route_of (columns_of from widths lines) (places_of top rows) line))
     (box_of (columns_of from widths lines) (places_of top rows) height column row)
 into_columns from top widths lines rows i line column row height here within inside differ =
     elim (cases_lt line.from.0 line.to.0) [
@@ -208,9 +208,9 @@ into_columns from top widths lines rows i line column row height here within ins
 
 pub into_clear : (from top : ℕ) (widths : List ℕ) (lines : List Line) (rows : List Span) (i : ℕ) (line : Line)
     (column row : ℕ) (one : Span) → All (λ span. 8 ≤ span.after) rows → slice_get lines i ≡ Some line →
-    Fits widths rows line → slice_get rows row ≡ Some one → column < length widths →
+    LineFits widths rows line → slice_get rows row ≡ Some one → column < length widths →
     (row ≢ line.end) ⊎ (column ≢ line.to.0) →
-    AreApart (into (route_of (columns_of from widths lines) (places_of top rows) line))
+    HaveNoCommonPoint (into (route_of (columns_of from widths lines) (places_of top rows) line))
     (box_of (columns_of from widths lines) (places_of top rows) one.length column row)
 into_clear from top widths lines rows i line column row one free there fits here inside (inl differ) =
     into_rows from top widths lines rows line column row one free fits here differ

@@ -4,7 +4,7 @@ use Rattle.drawing_text.specs.declared.spans.Span.{Span}
 use Rattle.plan_layout.specs.declared.lines.Line.{Line}
 
 -- the column that a line leads to is there, and it leaves and enters within the heights of its rows
-pub record Fits (widths : List ℕ) (rows : List Span) (line : Line) : Type 0 where
+pub record LineFits (widths : List ℕ) (rows : List Span) (line : Line) : Type 0 where
   pub first : Span
   pub last : Span
   pub column : line.to.0 < length widths

@@ -11,8 +11,8 @@ pub record Rectangle : Type 0 where
   pub bottom : ℕ
 
 -- they have no point in common
-abbrev pub AreApart : Rectangle → Rectangle → Type 0
-AreApart one other =
+abbrev pub HaveNoCommonPoint : Rectangle → Rectangle → Type 0
+HaveNoCommonPoint one other =
     (one.right < other.left) ⊎ (other.right < one.left) ⊎ (one.bottom < other.top) ⊎ (other.bottom < one.top)
 
 -- a line from its begin to where it goes up or down

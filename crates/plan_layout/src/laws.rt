@@ -4,10 +4,10 @@ ghost use Rattle.std.specs.Prelude.{◌≡◌, ◌≢◌, ◌<◌, ◌≤◌, �
 ghost use Rattle.std.specs.Prelude.{slice_index};
 ghost use Rattle.drawing_text.specs.declared.spans.Span.{Span};
 ghost use Rattle.plan_layout.specs.Columns.{columns_of};
-ghost use Rattle.plan_layout.specs.Fits.{Fits, sample_lines, sample_widths};
+ghost use Rattle.plan_layout.specs.Fits.{LineFits, sample_lines, sample_widths};
 ghost use Rattle.plan_layout.specs.Lines.{lane_of};
 ghost use Rattle.plan_layout.specs.Places.{places_of};
-ghost use Rattle.plan_layout.specs.Rectangles.{AreApart, across, along, box_of, into};
+ghost use Rattle.plan_layout.specs.Rectangles.{HaveNoCommonPoint, across, along, box_of, into};
 ghost use Rattle.plan_layout.specs.Routes.{goes_at, route_of};
 ghost use Rattle.plan_layout.specs.Strips.{track_of};
 ghost use Rattle.plan_layout.specs.declared.lines.Line.{Line};
@@ -28,20 +28,20 @@ pub fn layout_laws()
     // A line meets no box but those of the row that it begins in and the one that it ends at: not on its way along the
     // row, nor where it goes up or down, nor at its end.
     ensures across { (from top : ℕ) (widths : List ℕ) (lines : List Line) (rows : List Span) (line : Line)
-        (column row : ℕ) (one : Span) → All (λ row. 8 ≤ row.after) rows → Fits widths rows line →
+        (column row : ℕ) (one : Span) → All (λ row. 8 ≤ row.after) rows → LineFits widths rows line →
         slice_get rows row ≡ Some one → row ≢ line.begin →
-        AreApart (across (route_of (columns_of from widths lines) (places_of top rows) line))
+        HaveNoCommonPoint (across (route_of (columns_of from widths lines) (places_of top rows) line))
         (box_of (columns_of from widths lines) (places_of top rows) one.length column row) }
     ensures along { (from top : ℕ) (widths : List ℕ) (lines : List Line) (rows : List Span) (i : ℕ) (line : Line)
         (column row height : ℕ) → slice_get lines i ≡ Some line → line.to.0 < length widths →
         column < length widths →
-        AreApart (along (route_of (columns_of from widths lines) (places_of top rows) line))
+        HaveNoCommonPoint (along (route_of (columns_of from widths lines) (places_of top rows) line))
         (box_of (columns_of from widths lines) (places_of top rows) height column row) }
     ensures into { (from top : ℕ) (widths : List ℕ) (lines : List Line) (rows : List Span) (i : ℕ) (line : Line)
         (column row : ℕ) (one : Span) → All (λ row. 8 ≤ row.after) rows → slice_get lines i ≡ Some line →
-        Fits widths rows line → slice_get rows row ≡ Some one → column < length widths →
+        LineFits widths rows line → slice_get rows row ≡ Some one → column < length widths →
         (row ≢ line.end) ⊎ (column ≢ line.to.0) →
-        AreApart (into (route_of (columns_of from widths lines) (places_of top rows) line))
+        HaveNoCommonPoint (into (route_of (columns_of from widths lines) (places_of top rows) line))
         (box_of (columns_of from widths lines) (places_of top rows) one.length column row) }
 
     // Lines of one lane whose hubs differ, and have fewer than twelve hubs between them, go up or down at least 9

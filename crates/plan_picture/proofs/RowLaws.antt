@@ -6,7 +6,7 @@ use Rattle.std.proofs.lemmas.List.Elements.{All-cons, All-nil}
 use Rattle.std.proofs.lemmas.List.FromFn.{length-map-range_with_len}
 use Rattle.std.proofs.lemmas.Option.{slice_get-map}
 use Rattle.drawing_text.specs.declared.spans.Span.{Span}
-use Rattle.plan_layout.specs.Fits.{Fits}
+use Rattle.plan_layout.specs.Fits.{LineFits}
 use Rattle.plan_ways.specs.declared.ends.Way.{Way}
 use Rattle.plan_ways.specs.declared.ends.WayEnd.{WayEnd}
 use Rattle.plan_ways.specs.declared.ends.WayEnd.TheVariants as way_end
@@ -115,7 +115,7 @@ span_of_end sheet end = elim (shown_there sheet end) [
 
 -- a way fits the columns and the rows of its picture
 pub way_fits : (sheet : SheetShape) (way : Way) → way.to.0 < length sheet.code.hosts →
-    Fits (widths_of sheet (rows_of sheet)) (spans_of (rows_of sheet)) (line_of (row_numbers sheet) way)
+    LineFits (widths_of sheet (rows_of sheet)) (spans_of (rows_of sheet)) (line_of (row_numbers sheet) way)
 way_fits sheet way within =
     let first = span_of_end sheet way.begin in
     let last = span_of_end sheet way.end in

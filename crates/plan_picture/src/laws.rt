@@ -4,7 +4,7 @@ ghost use Rattle.std.specs.Prelude.{◌≡◌, ◌≢◌, ◌≤◌, ◌<◌, �
 ghost use Rattle.std.specs.Prelude.{slice_get, slice_index};
 ghost use Rattle.drawing_text.specs.declared.spans.Span.{Span};
 ghost use Rattle.plan_layout.specs.Places.{places_of};
-ghost use Rattle.plan_layout.specs.Rectangles.{AreApart, across, along, box_of, into};
+ghost use Rattle.plan_layout.specs.Rectangles.{HaveNoCommonPoint, across, along, box_of, into};
 ghost use Rattle.plan_layout.specs.Routes.{route_of};
 ghost use Rattle.plan_picture.specs.Legend.{legend_lines, legend_of, occurs};
 ghost use Rattle.plan_picture.specs.Loops.{factor_of, last_in, sample_rows};
@@ -62,7 +62,8 @@ pub fn plan_laws()
         let places = places_of top (spans_of (rows_of sheet)) in
         let route = route_of (columns_of sheet) places (line_of (row_numbers sheet) way) in
         let box = box_of (columns_of sheet) places one.length column row in
-        AreApart (across route) box × AreApart (along route) box × AreApart (into route) box }
+        HaveNoCommonPoint (across route) box × HaveNoCommonPoint (along route) box
+        × HaveNoCommonPoint (into route) box }
 
     // A sign stands in the legend exactly where it occurs: that of ways of a kind where there is such a way.
     ensures legend { (sheet : SheetShape) (place : ℕ) (one : Sign) → slice_get (legend_of sheet) place ≡ Some one →

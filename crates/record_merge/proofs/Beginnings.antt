@@ -7,7 +7,7 @@ use Rattle.js_base.specs.declared.ids.HostId.{HostId}
 use Rattle.js_base.proofs.Options.{some_or_none}
 use Rattle.host_decl.specs.Hosts as declared_hosts
 use Rattle.host_code.specs.Code.{CodeShape}
-use Rattle.host_core.specs.Host.{HostShape}
+use Rattle.host_core.specs.Host.{HostState}
 use Rattle.host_core.specs.Start.{host_at_start, idle_host, root_host}
 use Rattle.net_world.specs.Choice.{Runs}
 use Rattle.net_world.specs.World.{world_at_start, state_at, given, hosts_before}
@@ -22,10 +22,10 @@ idle_rests code store key me running = elim (eqb_tells me.0 code.root.0) [
   | inr apart ↦
       let at : host_at_start code store key me ≡ idle_host code store key me =
       ap (λ b. if b then root_host code (idle_host code store key me) else idle_host code store key me) apart.0 in
-      let no : false ≡ true = subst (λ (h : HostShape). IsSome h.running) at running in absurd (cc)
+      let no : false ≡ true = subst (λ (h : HostState). IsSome h.running) at running in absurd (cc)
 ]
 
-abbrev RunsIn : Option HostShape → Type 0
+abbrev RunsIn : Option HostState → Type 0
 RunsIn there = IsSomeAnd there (λ state. IsSome state.running)
 
 root_runs : (code : CodeShape) (store : List (List ℤ)) (n : ℕ) (rows : List declared_hosts.HostShape) (k : ℕ) →
@@ -39,7 +39,7 @@ root_runs code store n (row ∷ rows) (suc k) running =
     let same = root_runs code store (n + 1) rows k running in
     omega (arith, same)
 
-runs_or_not : (there : Option HostShape) → RunsIn there ⊎ ¬ RunsIn there
+runs_or_not : (there : Option HostState) → RunsIn there ⊎ ¬ RunsIn there
 runs_or_not None = inr (λ running. absurd running)
 runs_or_not (Some state) = elim (some_or_none state.running) [
   | inl rests ↦ inr (λ running. let no : false ≡ true = subst IsSome rests running in absurd (cc))

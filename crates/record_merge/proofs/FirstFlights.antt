@@ -14,11 +14,11 @@ use Rattle.net_world.specs.Fits.{FlightFits}
 use Rattle.net_world.specs.Flying.{Flight}
 use Rattle.net_world.specs.World.{WorldShape}
 use Rattle.event_text.specs.JournalText.{take_words}
-use Rattle.record_merge.specs.NextLines.{IsFirst, taken_words, step_words}
+use Rattle.record_merge.specs.NextLines.{IsFirstFlight, taken_words, step_words}
 
 pub take_step : (code : CodeShape) (world : WorldShape) (from to : HostId) (place : ℕ) (event : Event)
     (message : Message) → event ≡ Take from to place → IsNextEvent world (Some event) →
-    IsFirst code (world.flying from to) message → step_words code world event ≡ take_words code from message
+    IsFirstFlight code (world.flying from to) message → step_words code world event ≡ take_words code from message
 take_step code world from to place event message is next first =
     let here = subst (λ (e : Event). IsNextEvent world (Some e)) is next in
     ap (step_words code world) is ∙ ap (λ n. taken_words code from (slice_get (world.flying from to) n)) here.2
@@ -31,7 +31,7 @@ none_flies world from to place event is next =
 
 pub first_at : (code : CodeShape) (from to : HostId) (flights : List Flight) (messages : List Message)
     (message : Message) → All (FlightFits code from to) flights → messages ≡ map (λ (f : Flight). f.message) flights →
-    1 ≤ length messages → message ≡ get_or messages 0 message → IsFirst code flights message
+    1 ≤ length messages → message ≡ get_or messages 0 message → IsFirstFlight code flights message
 first_at code from to [] messages message all are some is =
     let none : length messages ≡ 0 = ap length are in
     absurd (omega (arith, none, some))

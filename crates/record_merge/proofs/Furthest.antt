@@ -10,8 +10,8 @@ use Rattle.event_text.specs.Words.{Word}
 use Rattle.host_code.specs.Code.{CodeShape}
 use Rattle.net_world.specs.World.{WorldShape}
 use Rattle.event_text.specs.JournalText.{IsSendLine}
-use Rattle.record_merge.specs.Meeting.{Journal, journal_at, MeetsAt, MeetsUpTo, IsKept, IsAtEnd}
-use Rattle.record_merge.specs.Notes.{Note, IsNotedRun, lines_at}
+use Rattle.record_merge.specs.Meeting.{Journal, journal_at, MeetsAt, MeetsUpTo, IsKeptBefore, IsMetToEnd}
+use Rattle.record_merge.specs.Notes.{JournalNote, IsNotedRun, lines_at}
 use Rattle.record_merge.specs.Single.{IsSingle}
 use Rattle.record_merge.proofs.NotedRuns.{Beyond, either_begins}
 use Rattle.record_merge.proofs.OneMeeting.{lines_append, one_more}
@@ -53,7 +53,8 @@ reaches own journal reached (inr (sent, sends, is)) = record {
 -- ---- one host
 
 beyond_place : (own shorter more journal : Journal) (place reached : ℕ) → place ≤ length journal →
-    reached ≤ length journal → own ≡ shorter ++ more → IsKept own journal place → Reaches shorter journal reached →
+    reached ≤ length journal → own ≡ shorter ++ more → IsKeptBefore own journal place →
+    Reaches shorter journal reached →
     place < reached → ⊥
 beyond_place own shorter more journal place reached within ends is (inl full) reach beyond =
     let size : length own ≡ length shorter + length more = ap length is ∙ length-append shorter more in
@@ -70,7 +71,8 @@ beyond_place own shorter more journal place reached within ends is (inr (sent, s
 
 -- whoever made no more lines comes no further
 pub no_further : (own shorter more journal : Journal) (place reached : ℕ) → place ≤ length journal →
-    reached ≤ length journal → own ≡ shorter ++ more → IsKept own journal place → MeetsAt shorter journal reached →
+    reached ≤ length journal → own ≡ shorter ++ more → IsKeptBefore own journal place →
+    MeetsAt shorter journal reached →
     reached ≤ place
 no_further own shorter more journal place reached within ends is kept meets = elim (leb_tells reached place) [
   | inl low ↦ low.1
@@ -85,7 +87,7 @@ no_lines (line ∷ lines) none = absurd (omega (arith, none))
 -- nobody makes a step more whose line the journal does not have
 pub no_step_more : (own longer : Journal) (first : List Word) (rest journal : Journal) (place reached : ℕ) →
     place ≤ length journal → reached ≤ length journal → longer ≡ own ++ first ∷ rest → ¬ IsSendLine first →
-    IsKept own journal place → (own ≡ take place journal → slice_get journal place ≢ Some first) →
+    IsKeptBefore own journal place → (own ≡ take place journal → slice_get journal place ≢ Some first) →
     MeetsAt longer journal reached → ⊥
 no_step_more own longer first rest journal place reached within ends is step (inl full) apart meets =
     let reach = reaches longer journal reached meets in
@@ -130,13 +132,13 @@ no_step_more own longer first rest journal place reached within ends is step (in
 
 -- ---- all hosts
 
-kept_meets : (own journal : Journal) (place : ℕ) → IsKept own journal place → MeetsAt own journal place
+kept_meets : (own journal : Journal) (place : ℕ) → IsKeptBefore own journal place → MeetsAt own journal place
 kept_meets own journal place (inl full) = inl full
 kept_meets own journal place (inr (sent, sends, over, other)) = inr (sent, sends, over)
 
 -- a list of events at its end meets the journals up to its places
 pub end_meets : (code : CodeShape) (world : WorldShape) (journals : List Journal) (places : List ℕ)
-    (events : List Event) → IsAtEnd code world journals places events → MeetsUpTo code world journals places events
+    (events : List Event) → IsMetToEnd code world journals places events → MeetsUpTo code world journals places events
 end_meets code world journals places events end = record {
   within = end.within;
   last = end.last;
@@ -149,14 +151,14 @@ end_meets code world journals places events end = record {
 -- a step more would stand in no journal
 none_later : (code : CodeShape) (world : WorldShape) (journals : List Journal) (places : List ℕ)
     (events : List Event) (reached : List ℕ) (others : List Event) →
-    (end : IsAtEnd code world journals places events) → (meets : MeetsUpTo code world journals reached others) →
-    (more : List Event) (final : WorldShape) (later : List Note) → IsNotedRun code end.last more final later →
+    (end : IsMetToEnd code world journals places events) → (meets : MeetsUpTo code world journals reached others) →
+    (more : List Event) (final : WorldShape) (later : List JournalNote) → IsNotedRun code end.last more final later →
     meets.notes ≡ end.notes ++ later → later ≡ []
 none_later code world journals places events reached others end meets [] final later run is = run.1
 none_later code world journals places events reached others end meets (event ∷ more) final later
     (after, note, rest, noted, run, later_is) is =
     let line = one_more code end.last after event note end.notes rest meets.notes noted
-    (is ∙ ap (λ (ns : List Note). end.notes ++ ns) later_is) in
+    (is ∙ ap (λ (ns : List JournalNote). end.notes ++ ns) later_is) in
     let host = note.host in
     absurd (no_step_more (lines_at host end.notes) (lines_at host meets.notes) line.first line.rest
     (journal_at journals host) (slice_index places host.0) (slice_index reached host.0) (end.within host)
@@ -166,7 +168,7 @@ none_later code world journals places events reached others end meets (event ∷
 -- what goes on behind the end is nothing
 nothing_more : (code : CodeShape) (world : WorldShape) (journals : List Journal) (places : List ℕ)
     (events : List Event) (reached : List ℕ) (others : List Event) →
-    (end : IsAtEnd code world journals places events) → (meets : MeetsUpTo code world journals reached others) →
+    (end : IsMetToEnd code world journals places events) → (meets : MeetsUpTo code world journals reached others) →
     Beyond code events others end.last end.notes meets.notes → (host : HostId) →
     lines_at host end.notes ≡ lines_at host meets.notes ++ []
 nothing_more code world journals places events reached others end meets beyond host =
@@ -174,15 +176,16 @@ nothing_more code world journals places events reached others end meets beyond h
     none_later code world journals places events reached others end meets beyond.more beyond.final beyond.later
     beyond.run beyond.notes_are in
     let same : meets.notes ≡ end.notes =
-    beyond.notes_are ∙ ap (λ (ns : List Note). end.notes ++ ns) none ∙ append-nil end.notes in
+    beyond.notes_are ∙ ap (λ (ns : List JournalNote). end.notes ++ ns) none ∙ append-nil end.notes in
     ap (lines_at host) (sym same) ∙ sym (append-nil (lines_at host meets.notes))
 
 pub furthest : (code : CodeShape) (world : WorldShape) (journals : List Journal) (places : List ℕ)
-    (events : List Event) → IsSingle world → IsAtEnd code world journals places events → (others : List Event)
+    (events : List Event) → IsSingle world → IsMetToEnd code world journals places events → (others : List Event)
     (reached : List ℕ) → MeetsUpTo code world journals reached others → (host : HostId) →
     slice_index reached host.0 ≤ slice_index places host.0
 furthest code world journals places events single end others reached meets host =
-    let compare = λ (more : List Note) (is : lines_at host end.notes ≡ lines_at host meets.notes ++ lines_at host more).
+    let compare = λ (more : List JournalNote)
+    (is : lines_at host end.notes ≡ lines_at host meets.notes ++ lines_at host more).
     no_further (lines_at host end.notes) (lines_at host meets.notes) (lines_at host more) (journal_at journals host)
     (slice_index places host.0) (slice_index reached host.0) (end.within host) (meets.within host) is (end.kept host)
     (meets.meets host) in

@@ -12,7 +12,7 @@ use Rattle.event_text.specs.declared.lines.Line.{Line}
 use Rattle.record_merge.specs.JournalLines.{said_line, journal_of, all_of, said_of, number_at}
 use Rattle.record_merge.specs.Journals.{first_fault, journal_lines}
 use Rattle.record_merge.specs.Merging.{IsMerged}
-use Rattle.record_merge.specs.Meeting.{Journal, journal_at, MeetsAt, Meets, IsAtEnd, IsFirstLeft, IsLeftAt}
+use Rattle.record_merge.specs.Meeting.{Journal, journal_at, MeetsAt, MeetsJournals, IsMetToEnd, IsFirstLeft, IsLeftAt}
 use Rattle.record_merge.specs.Meeting.{words_in}
 use Rattle.record_merge.specs.Notes.{lines_at}
 use Rattle.record_merge.specs.Single.{IsSingle}
@@ -36,12 +36,12 @@ number_there (Some line) number is = let same : line.number ≡ number = cc in s
 
 pub not_merged : (code : CodeShape) (world : WorldShape) (journals : List (Vec Line Global)) (places : List ℕ)
     (events : List Event) (host : HostId) (number : ℕ) → IsSingle world →
-    IsAtEnd code world (all_of journals) places events → IsFirstLeft (all_of journals) places host →
+    IsMetToEnd code world (all_of journals) places events → IsFirstLeft (all_of journals) places host →
     number_at journals host (slice_index places host.0) ≡ Some number →
     IsLeftAt code world (said_of journals) host number
 not_merged code world journals places events host number single ending first number_is =
     let back = sym (said_words journals) in
-    let end = subst (λ js. IsAtEnd code world js places events) back ending in
+    let end = subst (λ js. IsMetToEnd code world js places events) back ending in
     record {
       events = events;
       places = places;
@@ -54,9 +54,9 @@ not_merged code world journals places events host number single ending first num
     }
 
 pub all_met : (code : CodeShape) (world : WorldShape) (journals : List Journal) (places : List ℕ)
-    (events : List Event) → IsAtEnd code world journals places events →
+    (events : List Event) → IsMetToEnd code world journals places events →
     ((host : HostId) → length (journal_at journals host) ≤ slice_index places host.0) →
-    Meets code world journals events
+    MeetsJournals code world journals events
 all_met code world journals places events end ended =
     let met = end_meets code world journals places events end in
     record {
@@ -81,9 +81,9 @@ pub record HaveRead (code : CodeShape) (journals : List (List ℕ)) (lines : Lis
   pub said : said_of lines ≡ map journal_lines journals
 
 pub merged_of : (code : CodeShape) (world : WorldShape) (journals : List (List ℕ)) (lines : List (Vec Line Global))
-    (events : List Event) → HaveRead code journals lines → Meets code world (all_of lines) events →
+    (events : List Event) → HaveRead code journals lines → MeetsJournals code world (all_of lines) events →
     IsMerged code world journals events
 merged_of code world journals lines events read meets =
     let same : all_of lines ≡ words_in (map journal_lines journals) =
     sym (said_words lines) ∙ ap words_in read.said in
-    (read.sound, subst (λ (js : List Journal). Meets code world js events) same meets)
+    (read.sound, subst (λ (js : List Journal). MeetsJournals code world js events) same meets)

@@ -9,7 +9,7 @@ use Rattle.host_code.specs.declared.instruction.Instr.{Instr}
 use Rattle.host_code.specs.declared.message.Message.{Message}
 use Rattle.host_code.specs.Code.{CodeShape, instruction_at}
 use Rattle.host_code.specs.Thread.{ThreadShape}
-use Rattle.host_core.specs.Host.{HostShape, Outcome, Letter, with_running}
+use Rattle.host_core.specs.Host.{HostState, Outcome, Letter, with_running}
 use Rattle.host_core.specs.Turn.{IsTurnOf, IsRunning, label_of_turn, label_of_thread}
 use Rattle.net_world.specs.Choice.{NothingFlies, IsNextEvent}
 use Rattle.net_world.specs.Flying.{Flight}
@@ -17,7 +17,7 @@ use Rattle.net_world.specs.World.{WorldShape, IsStep, IsTakeStep, IsTurnStep, st
 use Rattle.net_world.specs.World.{AllObey, after_sending, letter_of}
 use Rattle.event_text.specs.JournalText.{take_words, sent_words, send_words, turn_words}
 use Rattle.record_merge.specs.NextLines.{taken_words, step_words, flying_words, sent_next, note_of}
-use Rattle.record_merge.specs.Notes.{IsNoted}
+use Rattle.record_merge.specs.Notes.{IsEventNoted}
 use Rattle.record_merge.specs.Single.{flies, IsOnly, IsSingle}
 use Rattle.record_merge.proofs.Singles.{OthersRest, turn_alone, take_alone, taken_flights, nothing_sent, letter_moved}
 use Rattle.record_merge.proofs.Singles.{posted_only, posted_flights, act_nowhere}
@@ -28,14 +28,14 @@ use Rattle.record_merge.proofs.Spent.{turn_spent, take_spent}
 abbrev pub IsLabelled : Option ℕ → Option (HostId × Message) → Type 0
 IsLabelled label sent = (sent ≡ None) ⊎ ((n : ℕ) × (label ≡ Some n))
 
-instruction_labelled : (code : CodeShape) (host : HostShape) (thread : ThreadShape) (there : Option Instr)
+instruction_labelled : (code : CodeShape) (host : HostState) (thread : ThreadShape) (there : Option Instr)
     (label : Option ℕ) (outcome : Outcome) → ((one : Instr) → there ≡ Some one → label ≡ Some one.label) →
     IsRunning code host thread there outcome → IsLabelled label outcome.sent
 instruction_labelled code host thread None label outcome labels runs =
     inl (ap (λ (o : Outcome). o.sent) (sym runs))
 instruction_labelled code host thread (Some one) label outcome labels runs = inr (one.label, labels one refl)
 
-turn_labelled : (code : CodeShape) (host : HostShape) (running : Option ThreadShape) (outcome : Outcome) →
+turn_labelled : (code : CodeShape) (host : HostState) (running : Option ThreadShape) (outcome : Outcome) →
     IsTurnOf code host running outcome → IsLabelled (label_of_thread code host.me running) outcome.sent
 turn_labelled code host None outcome turns = inl (ap (λ (o : Outcome). o.sent) (sym turns))
 turn_labelled code host (Some thread) outcome turns =
@@ -68,7 +68,7 @@ flying_next code world host to flight (Some (Take from target place)) there only
     ap (flying_words code target) found ∙ ap (λ (h : HostId). send_words code h flight.message ∷ []) same.1
 flying_next code world host to flight (Some (Act from target made)) there only is = absurd is
 
-sent_is : (code : CodeShape) (world after : WorldShape) (host : HostId) (old state : HostShape)
+sent_is : (code : CodeShape) (world after : WorldShape) (host : HostId) (old state : HostState)
     (sent : Option (HostId × Message)) (label : Option ℕ) (next : Option Event) → AllObey world →
     state_at world host ≡ Some old → OthersRest world host → NothingFlies world →
     (state.running ≡ None) ⊎ (sent ≡ None) → IsLabelled label sent →
@@ -97,7 +97,7 @@ sent_is code world after host old state (Some sent) label next obey obeys rest n
 
 turn_noted : (code : CodeShape) (world after : WorldShape) (host : HostId) (next : Option Event) → IsSingle world →
     IsTurnStep code world host after → IsNextEvent after next →
-    IsNoted code world (Turn host) after (note_of code world (Turn host) after next)
+    IsEventNoted code world (Turn host) after (note_of code world (Turn host) after next)
 turn_noted code world after host next single step is =
     let only =
     subst (IsOnly world) (turn_alone code world after host single.active single.only step) single.only in
@@ -109,7 +109,7 @@ turn_noted code world after host next single step is =
 
 take_noted : (code : CodeShape) (world after : WorldShape) (from to : HostId) (place : ℕ) (next : Option Event) →
     IsSingle world → IsTakeStep code world from to place after → IsNextEvent after next →
-    IsNoted code world (Take from to place) after (note_of code world (Take from to place) after next)
+    IsEventNoted code world (Take from to place) after (note_of code world (Take from to place) after next)
 take_noted code world after from to place next single step is =
     let only =
     subst (IsOnly world) (take_alone code world after from to place single.active single.only step) single.only in
@@ -131,7 +131,7 @@ take_noted code world after from to place next single step is =
 
 pub step_noted : (code : CodeShape) (world after : WorldShape) (event : Event) (next : Option Event) →
     IsSingle world → IsStep code world event after → IsNextEvent after next →
-    IsNoted code world event after (note_of code world event after next)
+    IsEventNoted code world event after (note_of code world event after next)
 step_noted code world after (Turn host) next single step is = turn_noted code world after host next single step is
 step_noted code world after (Take from to place) next single step is =
     take_noted code world after from to place next single step is

@@ -6,7 +6,7 @@ use Rattle.js_base.proofs.Options.{some_same}
 use Rattle.event_text.specs.declared.event.Event.{Event}
 use Rattle.event_text.specs.declared.event.Event.TheVariants.{Take, Turn, Act}
 use Rattle.host_code.specs.Code.{CodeShape}
-use Rattle.host_core.specs.Host.{HostShape, Outcome}
+use Rattle.host_core.specs.Host.{HostState, Outcome}
 use Rattle.host_core.specs.Taking.{IsTaking}
 use Rattle.host_core.specs.Turn.{IsTurn}
 use Rattle.host_core.proofs.OneOutcome.{one_taking, one_turn_of}
@@ -14,28 +14,28 @@ use Rattle.net_world.specs.Flying.{Flight}
 use Rattle.net_world.specs.World.{WorldShape, IsStep, state_at}
 use Rattle.net_world.proofs.StepLaws.{one_step}
 use Rattle.event_text.specs.JournalText.{turn_words, take_words, sent_words}
-use Rattle.record_merge.specs.Notes.{Note, IsNoted, IsNotedRun}
+use Rattle.record_merge.specs.Notes.{JournalNote, IsEventNoted, IsNotedRun}
 use Rattle.record_merge.specs.Single.{IsSingle}
 use Rattle.record_merge.proofs.Singles.{step_single, one_event}
 
 -- what is noted happens
-pub noted_step : (code : CodeShape) (world after : WorldShape) (event : Event) (note : Note) →
-    IsNoted code world event after note → IsStep code world event after
+pub noted_step : (code : CodeShape) (world after : WorldShape) (event : Event) (note : JournalNote) →
+    IsEventNoted code world event after note → IsStep code world event after
 noted_step code world after (Turn host) note noted = noted.0
 noted_step code world after (Take from to place) note noted = noted.0
 noted_step code world after (Act from to made) note noted = absurd noted
 
 -- ---- an event has one note
 
-turn_note : CodeShape → HostId → Outcome → Note
+turn_note : CodeShape → HostId → Outcome → JournalNote
 turn_note code host outcome = record { host = host; lines = turn_words ∷ sent_words code outcome.sent }
 
-take_note : CodeShape → HostId → HostId → Flight → Outcome → Note
+take_note : CodeShape → HostId → HostId → Flight → Outcome → JournalNote
 take_note code from to flight outcome =
     record { host = to; lines = take_words code from flight.message ∷ sent_words code outcome.sent }
 
-pub one_note : (code : CodeShape) (world first second : WorldShape) (event : Event) (note other : Note) →
-    IsNoted code world event first note → IsNoted code world event second other → note ≡ other
+pub one_note : (code : CodeShape) (world first second : WorldShape) (event : Event) (note other : JournalNote) →
+    IsEventNoted code world event first note → IsEventNoted code world event second other → note ≡ other
 unfolding turn_note take_note
 one_note code world first second (Turn host) note other a b =
     let one = a.0 in
@@ -43,7 +43,7 @@ one_note code world first second (Turn host) note other a b =
     let state : one.state ≡ two.state =
     some_same (state_at world host) one.state two.state one.obeys two.obeys in
     let turns : IsTurn code two.state one.outcome =
-    subst (λ (s : HostShape). IsTurn code s one.outcome) state one.turns in
+    subst (λ (s : HostState). IsTurn code s one.outcome) state one.turns in
     let outcome : one.outcome ≡ two.outcome =
     one_turn_of code two.state two.state.running one.outcome two.outcome turns two.turns in
     a.1 ∙ ap (turn_note code host) outcome ∙ sym b.1
@@ -55,7 +55,7 @@ one_note code world first second (Take from to place) note other a b =
     some_same (slice_get (world.flying from to) place) one.flight two.flight one.there two.there in
     let takes : IsTaking code two.state from two.flight.message one.outcome =
     subst (λ (f : Flight). IsTaking code two.state from f.message one.outcome) flight
-    (subst (λ (s : HostShape). IsTaking code s from one.flight.message one.outcome) state one.takes) in
+    (subst (λ (s : HostState). IsTaking code s from one.flight.message one.outcome) state one.takes) in
     let outcome : one.outcome ≡ two.outcome =
     one_taking code two.state from two.flight.message one.outcome two.outcome takes two.takes in
     a.1 ∙ ap (λ (f : Flight). take_note code from to f one.outcome) flight
@@ -65,17 +65,18 @@ one_note code world first second (Act from to made) note other a b = absurd a
 -- ---- one list begins with the other
 
 -- the second list goes on behind the first, and its notes do
-pub record Beyond (code : CodeShape) (events others : List Event) (last : WorldShape) (notes longer : List Note) :
+pub record Beyond (code : CodeShape) (events others : List Event) (last : WorldShape)
+    (notes longer : List JournalNote) :
     Type 0 where
   pub more : List Event
   pub events_are : others ≡ events ++ more
-  pub later : List Note
+  pub later : List JournalNote
   pub notes_are : longer ≡ notes ++ later
   pub final : WorldShape
   pub run : IsNotedRun code last more final later
 
-beyond_more : (code : CodeShape) (event : Event) (note : Note) (events others : List Event) (last : WorldShape)
-    (notes longer : List Note) → Beyond code events others last notes longer →
+beyond_more : (code : CodeShape) (event : Event) (note : JournalNote) (events others : List Event) (last : WorldShape)
+    (notes longer : List JournalNote) → Beyond code events others last notes longer →
     Beyond code (event ∷ events) (event ∷ others) last (note ∷ notes) (note ∷ longer)
 beyond_more code event note events others last notes longer beyond = record {
   more = beyond.more;
@@ -86,14 +87,15 @@ beyond_more code event note events others last notes longer beyond = record {
   run = beyond.run;
 }
 
-along : (code : CodeShape) (es events os others : List Event) (last : WorldShape) (ns notes ls longer : List Note) →
+along : (code : CodeShape) (es events os others : List Event) (last : WorldShape)
+    (ns notes ls longer : List JournalNote) →
     es ≡ events → os ≡ others → ns ≡ notes → ls ≡ longer → Beyond code es os last ns ls →
     Beyond code events others last notes longer
 along code es events os others last ns notes ls longer e o n l beyond =
     subst (λ x. Beyond code events others last notes x) l (subst (λ x. Beyond code events others last x ls) n
     (subst (λ x. Beyond code events x last ns ls) o (subst (λ x. Beyond code x os last ns ls) e beyond)))
 
-begins : (code : CodeShape) (world last final : WorldShape) (others : List Event) (notes longer : List Note) →
+begins : (code : CodeShape) (world last final : WorldShape) (others : List Event) (notes longer : List JournalNote) →
     (world ≡ last) × (notes ≡ []) → IsNotedRun code world others final longer →
     Beyond code [] others last notes longer
 begins code world last final others notes longer stays run = record {
@@ -106,7 +108,7 @@ begins code world last final others notes longer stays run = record {
 }
 
 pub either_begins : (code : CodeShape) (world last final : WorldShape) (events others : List Event)
-    (notes longer : List Note) → IsSingle world → IsNotedRun code world events last notes →
+    (notes longer : List JournalNote) → IsSingle world → IsNotedRun code world events last notes →
     IsNotedRun code world others final longer →
     Beyond code events others last notes longer ⊎ Beyond code others events final longer notes
 either_begins code world last final [] others notes longer single run other =
@@ -127,7 +129,8 @@ either_begins code world last final (event ∷ events) (next ∷ others) notes l
     let step = noted_step code world after event note noted in
     let same : next ≡ event =
     one_event code world there after next event single (noted_step code world there next also happens) step in
-    let again : IsNoted code world event there also = subst (λ e. IsNoted code world e there also) same happens in
+    let again : IsEventNoted code world event there also = subst (λ e. IsEventNoted code world e there also) same
+    happens in
     let note_is : also ≡ note = one_note code world there after event also note again noted in
     let world_is : there ≡ after =
     one_step code world there after event (noted_step code world there event also again) step in

@@ -8,11 +8,11 @@ use Rattle.event_text.specs.Lines.{LineShape}
 use Rattle.host_code.specs.Code.{CodeShape}
 use Rattle.net_world.specs.World.{WorldShape}
 use Rattle.net_world.proofs.Present.{same_id}
-use Rattle.record_merge.specs.Meeting.{Journal, Meets, IsFirstLeft, IsLeftAt, words_in}
+use Rattle.record_merge.specs.Meeting.{Journal, MeetsJournals, IsFirstLeft, IsLeftAt, words_in}
 use Rattle.record_merge.proofs.OneMeeting.{whole_place}
 
 pub never_met : (code : CodeShape) (world : WorldShape) (said : List (List LineShape)) (host : HostId) (number : ℕ)
-    (events : List Event) → IsLeftAt code world said host number → ¬ Meets code world (words_in said) events
+    (events : List Event) → IsLeftAt code world said host number → ¬ MeetsJournals code world (words_in said) events
 never_met code world said host number events left = λ meets.
     let furthest = left.furthest events (map length (words_in said)) meets host in
     let end = whole_place (words_in said) host.0 in

@@ -12,14 +12,14 @@ use Rattle.event_text.specs.Words.{Word}
 use Rattle.host_code.specs.Code.{CodeShape}
 use Rattle.net_world.specs.World.{WorldShape}
 use Rattle.event_text.specs.JournalText.{IsSendLine}
-use Rattle.record_merge.specs.Meeting.{Journal, journal_at, MeetsAt, Meets}
-use Rattle.record_merge.specs.Notes.{Note, IsNoted, IsNotedRun, lines_at}
+use Rattle.record_merge.specs.Meeting.{Journal, journal_at, MeetsAt, MeetsJournals}
+use Rattle.record_merge.specs.Notes.{JournalNote, IsEventNoted, IsNotedRun, lines_at}
 use Rattle.record_merge.specs.Single.{IsSingle}
 use Rattle.record_merge.proofs.NotedRuns.{Beyond, either_begins}
 
 -- ---- the lines of a host
 
-pub lines_append : (host : HostId) (notes more : List Note) →
+pub lines_append : (host : HostId) (notes more : List JournalNote) →
     lines_at host (notes ++ more) ≡ lines_at host notes ++ lines_at host more
 lines_append host [] more = refl
 lines_append host (note ∷ notes) more =
@@ -27,12 +27,12 @@ lines_append host (note ∷ notes) more =
     ap (λ (lines : Journal). own ++ lines) (lines_append host notes more)
     ∙ sym (append_assoc own (lines_at host notes) (lines_at host more))
 
-pub own_lines : (note : Note) (notes : List Note) →
+pub own_lines : (note : JournalNote) (notes : List JournalNote) →
     lines_at note.host (note ∷ notes) ≡ note.lines ++ lines_at note.host notes
 own_lines note notes = rw (eq-eqb note.host.0 note.host.0 refl) refl
 
 -- a note begins with the line of a step, which is none of a message that is sent
-pub record StepLine (note : Note) : Type 0 where
+pub record StepLine (note : JournalNote) : Type 0 where
   pub first : List Word
   pub others : Journal
   pub lines_are : note.lines ≡ first ∷ others
@@ -48,32 +48,33 @@ take_apart same =
     let first : 116 ≡ 115 = ap (λ (word : List ℕ). slice_index word 0) same in
     absurd (omega (arith, first))
 
-pub step_line : (code : CodeShape) (world after : WorldShape) (event : Event) (note : Note) →
-    IsNoted code world event after note → StepLine note
+pub step_line : (code : CodeShape) (world after : WorldShape) (event : Event) (note : JournalNote) →
+    IsEventNoted code world event after note → StepLine note
 step_line code world after (Turn host) note noted = record {
   first = _;
   others = _;
-  lines_are = ap (λ (n : Note). n.lines) noted.1;
+  lines_are = ap (λ (n : JournalNote). n.lines) noted.1;
   step = turn_apart;
 }
 step_line code world after (Take from to place) note noted = record {
   first = _;
   others = _;
-  lines_are = ap (λ (n : Note). n.lines) noted.1;
+  lines_are = ap (λ (n : JournalNote). n.lines) noted.1;
   step = take_apart;
 }
 step_line code world after (Act from to made) note noted = absurd noted
 
 -- the lines of a host after more events, of which the first is a step of it that is noted so
-pub record OneMore (notes longer : List Note) (note : Note) : Type 0 where
+pub record OneMore (notes longer : List JournalNote) (note : JournalNote) : Type 0 where
   pub first : List Word
   pub rest : Journal
   pub lines_are : lines_at note.host longer ≡ lines_at note.host notes ++ first ∷ rest
   pub step : ¬ IsSendLine first
   pub noted : slice_get note.lines 0 ≡ Some first
 
-pub one_more : (code : CodeShape) (world after : WorldShape) (event : Event) (note : Note)
-    (notes later longer : List Note) → IsNoted code world event after note → longer ≡ notes ++ note ∷ later →
+pub one_more : (code : CodeShape) (world after : WorldShape) (event : Event) (note : JournalNote)
+    (notes later longer : List JournalNote) → IsEventNoted code world event after note → longer ≡ notes
+    ++ note ∷ later →
     OneMore notes longer note
 one_more code world after event note notes later longer noted is =
     let line = step_line code world after event note noted in
@@ -138,10 +139,10 @@ no_longer own longer journal first rest is step (inr (sent, sends, one)) (inr (l
 -- ---- one list
 
 -- these notes have the lines of whole journals
-AreWhole : List Journal → List Note → Type 0
+AreWhole : List Journal → List JournalNote → Type 0
 AreWhole journals notes = (host : HostId) → IsWhole (lines_at host notes) (journal_at journals host)
 
-are_whole : (journals : List Journal) (notes : List Note) →
+are_whole : (journals : List Journal) (notes : List JournalNote) →
     ((host : HostId) → MeetsAt (lines_at host notes) (journal_at journals host)
     (slice_index (map length journals) host.0)) → AreWhole journals notes
 unfolding AreWhole
@@ -150,20 +151,20 @@ are_whole journals notes meets host =
     (whole_place journals host.0) (meets host)
 
 no_more : (code : CodeShape) (journals : List Journal) (last final : WorldShape) (more : List Event)
-    (later notes longer : List Note) → IsNotedRun code last more final later → longer ≡ notes ++ later →
+    (later notes longer : List JournalNote) → IsNotedRun code last more final later → longer ≡ notes ++ later →
     AreWhole journals notes → AreWhole journals longer → more ≡ []
 unfolding AreWhole
 no_more code journals last final [] later notes longer run is one two = refl
 no_more code journals last final (event ∷ more) later notes longer (after, note, rest, noted, run, later_is) is one
     two =
     let beyond = one_more code last after event note notes rest longer noted
-    (is ∙ ap (λ (ns : List Note). notes ++ ns) later_is) in
+    (is ∙ ap (λ (ns : List JournalNote). notes ++ ns) later_is) in
     absurd (no_longer (lines_at note.host notes) (lines_at note.host longer) (journal_at journals note.host)
     beyond.first
     beyond.rest beyond.lines_are beyond.step (one note.host) (two note.host))
 
 same_events : (code : CodeShape) (journals : List Journal) (events others : List Event) (last : WorldShape)
-    (notes longer : List Note) → Beyond code events others last notes longer → AreWhole journals notes →
+    (notes longer : List JournalNote) → Beyond code events others last notes longer → AreWhole journals notes →
     AreWhole journals longer → others ≡ events
 same_events code journals events others last notes longer beyond one two =
     beyond.events_are ∙ ap (λ (es : List Event). events ++ es)
@@ -171,7 +172,8 @@ same_events code journals events others last notes longer beyond one two =
     ∙ append-nil events
 
 pub one_meeting : (code : CodeShape) (world : WorldShape) (journals : List Journal) (events others : List Event) →
-    IsSingle world → Meets code world journals events → Meets code world journals others → events ≡ others
+    IsSingle world → MeetsJournals code world journals events → MeetsJournals code world journals others → events
+    ≡ others
 one_meeting code world journals events others single one two =
     let first = are_whole journals one.notes one.meets in
     let second = are_whole journals two.notes two.meets in

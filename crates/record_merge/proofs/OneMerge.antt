@@ -9,7 +9,7 @@ use Rattle.net_world.proofs.Present.{same_id}
 use Rattle.record_merge.specs.declared.journal.MergeError.{MergeError}
 use Rattle.record_merge.specs.declared.journal.MergeError.TheVariants as error
 use Rattle.record_merge.specs.Journals.{Fault, too_long, bad_line, journal_lines}
-use Rattle.record_merge.specs.Merging.{IsMerged, IsRefusedFor}
+use Rattle.record_merge.specs.Merging.{IsMerged, IsMergeRefusedFor}
 use Rattle.record_merge.proofs.OneLeft.{never_met, one_left}
 
 -- no journal is at fault, and one is
@@ -22,8 +22,8 @@ one_fault : (found : Option (ℕ × Fault)) (first second : ℕ × Fault) → fo
 one_fault found first second one two = let both : Some first ≡ Some second = sym one ∙ two in cc
 
 pub one_cause : (code : CodeShape) (world : WorldShape) (journals : List (List ℕ)) (why other : MergeError) →
-    why ≢ error.OutOfMemory → other ≢ error.OutOfMemory → IsRefusedFor code world journals why →
-    IsRefusedFor code world journals other → why ≡ other
+    why ≢ error.OutOfMemory → other ≢ error.OutOfMemory → IsMergeRefusedFor code world journals why →
+    IsMergeRefusedFor code world journals other → why ≡ other
 one_cause code world journals error.OutOfMemory other not also one two = absurd (not refl)
 one_cause code world journals (error.TooLong host) error.OutOfMemory not also one two = absurd (also refl)
 one_cause code world journals (error.BadLine host line) error.OutOfMemory not also one two = absurd (also refl)
@@ -60,7 +60,7 @@ one_cause code world journals (error.NoMatch host line) (error.NoMatch another n
     ap (λ (h : HostId). error.NoMatch h line) same.0 ∙ ap (λ (n : ℕ). error.NoMatch another n) same.1
 
 pub merged_or_refused : (code : CodeShape) (world : WorldShape) (journals : List (List ℕ)) (events : List Event)
-    (why : MergeError) → why ≢ error.OutOfMemory → IsRefusedFor code world journals why →
+    (why : MergeError) → why ≢ error.OutOfMemory → IsMergeRefusedFor code world journals why →
     ¬ IsMerged code world journals events
 merged_or_refused code world journals events error.OutOfMemory not refused merged = not refl
 merged_or_refused code world journals events (error.TooLong host) not refused merged =

@@ -10,11 +10,12 @@ use Rattle.event_text.specs.declared.event.Event.{Event}
 use Rattle.event_text.specs.declared.event.Event.TheVariants.{Take, Turn, Act}
 use Rattle.host_code.specs.Code.{CodeShape}
 use Rattle.host_code.specs.declared.message.Message.{Message}
-use Rattle.host_core.specs.Host.{HostShape, Outcome, Letter, with_label}
+use Rattle.host_core.specs.Host.{HostState, Outcome, Letter, with_label}
 use Rattle.net_world.specs.Choice.{Runs, NoneRuns, Flies, NothingFlies}
 use Rattle.net_world.specs.Flying.{Flight, Flying, with_flights}
 use Rattle.net_world.specs.World.{WorldShape, IsStep, IsTakeStep, IsTurnStep, state_at, misbehaves, with_state}
-use Rattle.net_world.specs.World.{AllObey, without_flight, after_sending, after_posting, after_telling, letter_of, after_step}
+use Rattle.net_world.specs.World.{AllObey, without_flight, after_sending, after_posting, after_telling, letter_of}
+use Rattle.net_world.specs.World.{after_step}
 use Rattle.net_world.proofs.Moved.{Moved, mover_state, other_state, bad_moved}
 use Rattle.net_world.proofs.Present.{same_id}
 use Rattle.record_merge.specs.Single.{Active, nothing, runs, flies, FliesAlone, IsOnly, IsSingle}
@@ -22,11 +23,11 @@ use Rattle.record_merge.proofs.Spent.{IsSpent, turn_spent, take_spent}
 
 -- ---- what runs
 
-pub runs_there : (world : WorldShape) (host : HostId) (state : HostShape) → state_at world host ≡ Some state →
+pub runs_there : (world : WorldShape) (host : HostId) (state : HostState) → state_at world host ≡ Some state →
     IsSome state.running → Runs world host
 runs_there world host state is running = subst (λ o. IsSomeAnd o (λ s. IsSome s.running)) (sym is) running
 
-pub rests_there : (world : WorldShape) (host : HostId) (state : HostShape) → state_at world host ≡ Some state →
+pub rests_there : (world : WorldShape) (host : HostId) (state : HostState) → state_at world host ≡ Some state →
     state.running ≡ None → ¬ Runs world host
 rests_there world host state is rests = λ running.
     let some : IsSome state.running = subst (λ o. IsSomeAnd o (λ s. IsSome s.running)) is running in
@@ -63,7 +64,7 @@ own_flight : (from to : HostId) (flights : List Flight) (flying : Flying) →
 own_flight from to flights flying = rw (eq-eqb from.0 from.0 refl, eq-eqb to.0 to.0 refl) refl
 
 -- others rest after the step of a host
-others_after : (world after : WorldShape) (host : HostId) (state : HostShape) (flying : Flying) →
+others_after : (world after : WorldShape) (host : HostId) (state : HostState) (flying : Flying) →
     OthersRest world host → Moved world host state flying after → OthersRest after host
 others_after world after host state flying rest moved other running = elim (eqb_tells other.0 host.0) [
   | inl same ↦ same_id other host same.1
@@ -72,7 +73,7 @@ others_after world after host state flying rest moved other running = elim (eqb_
 ]
 
 -- nothing more is in flight: a thread goes on, or nothing
-pub quiet_left : (world after : WorldShape) (host : HostId) (old state : HostShape) → AllObey world →
+pub quiet_left : (world after : WorldShape) (host : HostId) (old state : HostState) → AllObey world →
     state_at world host ≡ Some old → OthersRest world host → NothingFlies world →
     Moved world host state world.flying after → IsSingle after
 quiet_left world after host old state obey obeys rest none moved =
@@ -102,14 +103,14 @@ quiet_left world after host old state obey obeys rest none moved =
       }
     ]
 
-pub posted_flights : (world after : WorldShape) (host to : HostId) (state : HostShape) (flight : Flight) →
+pub posted_flights : (world after : WorldShape) (host to : HostId) (state : HostState) (flight : Flight) →
     Moved world host state (with_flights world.flying host to (flight ∷ [])) after →
     after.flying host to ≡ flight ∷ []
 posted_flights world after host to state flight moved =
     ap (λ (f : Flying). f host to) moved.flying ∙ own_flight host to (flight ∷ []) world.flying
 
 -- a message is in flight, and nothing runs
-pub posted_only : (world after : WorldShape) (host to : HostId) (old state : HostShape) (flight : Flight) →
+pub posted_only : (world after : WorldShape) (host to : HostId) (old state : HostState) (flight : Flight) →
     state_at world host ≡ Some old → OthersRest world host → NothingFlies world → state.running ≡ None →
     Moved world host state (with_flights world.flying host to (flight ∷ [])) after →
     NoneRuns after × FliesAlone after host to
@@ -127,7 +128,7 @@ posted_only world after host to old state flight obeys rest none rests moved =
     )
 
 -- what is sent is in flight alone
-pub letter_moved : (world after : WorldShape) (host : HostId) (old state : HostShape) (letter : Letter) →
+pub letter_moved : (world after : WorldShape) (host : HostId) (old state : HostState) (letter : Letter) →
     AllObey world → state_at world host ≡ Some old → NothingFlies world →
     after_sending (with_state world host state) host (Some letter) ≡ after →
     Moved world host state
@@ -149,7 +150,7 @@ letter_moved world after host old state letter obey obeys none leaves =
 
 -- ---- a step
 
-letter_left : (world after : WorldShape) (host : HostId) (old state : HostShape) (letter : Option Letter) →
+letter_left : (world after : WorldShape) (host : HostId) (old state : HostState) (letter : Option Letter) →
     AllObey world → state_at world host ≡ Some old → OthersRest world host → NothingFlies world →
     (state.running ≡ None) ⊎ (letter ≡ None) → after_sending (with_state world host state) host letter ≡ after →
     IsSingle after
@@ -173,7 +174,7 @@ pub nothing_sent : (label : Option ℕ) (sent : Option (HostId × Message)) → 
 nothing_sent None sent is = refl
 nothing_sent (Some label) sent is = ap (with_label label) is
 
-step_left : (world after : WorldShape) (host : HostId) (old : HostShape) (outcome : Outcome) (label : Option ℕ) →
+step_left : (world after : WorldShape) (host : HostId) (old : HostState) (outcome : Outcome) (label : Option ℕ) →
     AllObey world → state_at world host ≡ Some old → OthersRest world host → NothingFlies world →
     IsSpent outcome → after_step world host outcome label ≡ after → IsSingle after
 step_left world after host old outcome label obey obeys rest none spent leaves =

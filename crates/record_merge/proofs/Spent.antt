@@ -17,7 +17,7 @@ use Rattle.host_code.specs.declared.message.Message.{Message}
 use Rattle.host_code.specs.declared.message.Message.TheVariants as message
 use Rattle.host_code.specs.Code.{CodeShape, CodeFieldShape, field_at, entry_at, instruction_at}
 use Rattle.host_code.specs.Thread.{ThreadShape}
-use Rattle.host_core.specs.Host.{HostShape, Outcome, with_running, value_in_thread}
+use Rattle.host_core.specs.Host.{HostState, Outcome, with_running, value_in_thread}
 use Rattle.host_core.specs.Taking.{IsTaking, after_passing}
 use Rattle.host_core.specs.Turn.{IsTurn, IsTurnOf, IsRunning, after_operation, after_read, after_put, after_own_push}
 use Rattle.host_core.specs.Turn.{after_ask, after_go, after_go_with, after_own_call, after_return, after_back}
@@ -31,53 +31,53 @@ one_of false first second is other = other
 
 -- ---- turns
 
-read_spent : (host : HostShape) (thread : ThreadShape) (field : FieldId) (index : List Node)
+read_spent : (host : HostState) (thread : ThreadShape) (field : FieldId) (index : List Node)
     (there : Option CodeFieldShape) → IsSpent (after_read host thread field index there)
 read_spent host thread field index None = inr refl
 read_spent host thread field index (Some there) = one_of (there.host.0 == host.me.0) _ _ (inr refl) (inl refl)
 
-put_spent : (host : HostShape) (thread : ThreadShape) (field : FieldId) (index value : List Node)
+put_spent : (host : HostState) (thread : ThreadShape) (field : FieldId) (index value : List Node)
     (there : Option CodeFieldShape) → IsSpent (after_put host thread field index value there)
 put_spent host thread field index value None = inr refl
 put_spent host thread field index value (Some there) = one_of (there.host.0 == host.me.0) _ _ (inr refl) (inl refl)
 
-push_spent : (host : HostShape) (thread : ThreadShape) (entry : EntryId) (held : Option Token) →
+push_spent : (host : HostState) (thread : ThreadShape) (entry : EntryId) (held : Option Token) →
     IsSpent (after_own_push host thread entry held)
 push_spent host thread entry None = inr refl
 push_spent host thread entry (Some held) = inr refl
 
-ask_spent : (host : HostShape) (thread : ThreadShape) (entry : EntryId) (on : HostId) (held : Option Token) →
+ask_spent : (host : HostState) (thread : ThreadShape) (entry : EntryId) (on : HostId) (held : Option Token) →
     IsSpent (after_ask host thread entry on held)
 ask_spent host thread entry on None = inr refl
 ask_spent host thread entry on (Some held) = inl refl
 
-go_spent : (host : HostShape) (thread : ThreadShape) (frame : FrameId) (entry : EntryId) (on : HostId)
+go_spent : (host : HostState) (thread : ThreadShape) (frame : FrameId) (entry : EntryId) (on : HostId)
     (held : Option Token) → IsSpent (after_go host thread frame entry on held)
 go_spent host thread frame entry on None = inr refl
 go_spent host thread frame entry on (Some held) = inl refl
 
-go_with_spent : (host : HostShape) (thread : ThreadShape) (frame : FrameId) (entry : EntryId) (on : HostId)
+go_with_spent : (host : HostState) (thread : ThreadShape) (frame : FrameId) (entry : EntryId) (on : HostId)
     (variables : List VarId) (held : Option Token) → IsSpent (after_go_with host thread frame entry on variables held)
 go_with_spent host thread frame entry on variables None = inr refl
 go_with_spent host thread frame entry on variables (Some held) = inl refl
 
-own_call_spent : (host : HostShape) (thread : ThreadShape) (there : Option Entry) →
+own_call_spent : (host : HostState) (thread : ThreadShape) (there : Option Entry) →
     IsSpent (after_own_call host thread there)
 own_call_spent host thread None = inr refl
 own_call_spent host thread (Some there) = inr refl
 
-return_spent : (host : HostShape) (thread : ThreadShape) (variable : VarId) (value : List Node) (held : Option Token)
+return_spent : (host : HostState) (thread : ThreadShape) (variable : VarId) (value : List Node) (held : Option Token)
     (passes : Bool) → IsSpent (after_return host thread variable value held passes)
 return_spent host thread variable value None passes = inr refl
 return_spent host thread variable value (Some held) passes =
     one_of (held.host.0 == host.me.0) _ _ (inr refl) (one_of passes _ _ (inl refl) (inr refl))
 
-back_spent : (code : CodeShape) (host : HostShape) (thread : ThreadShape) (held : Option Token) (passes : Bool) →
+back_spent : (code : CodeShape) (host : HostState) (thread : ThreadShape) (held : Option Token) (passes : Bool) →
     IsSpent (after_back code host thread held passes)
 back_spent code host thread None passes = inr refl
 back_spent code host thread (Some held) passes = one_of (held.host.0 == host.me.0) _ _ (inr refl) (inl refl)
 
-operation_spent : (code : CodeShape) (host : HostShape) (thread : ThreadShape) (what : Op) (passes : Bool) →
+operation_spent : (code : CodeShape) (host : HostState) (thread : ThreadShape) (what : Op) (passes : Bool) →
     IsSpent (after_operation code host thread what passes)
 operation_spent code host thread (op.Read field index) passes =
     read_spent host thread field index (field_at code field)
@@ -104,25 +104,25 @@ operation_spent code host thread (op.GoWith entry on riders) passes =
 operation_spent code host thread (op.CallWith entry on riders) passes =
     go_with_spent host thread thread.new_frame entry on riders thread.held
 
-running_spent : (code : CodeShape) (host : HostShape) (thread : ThreadShape) (there : Option Instr)
+running_spent : (code : CodeShape) (host : HostState) (thread : ThreadShape) (there : Option Instr)
     (outcome : Outcome) → IsRunning code host thread there outcome → IsSpent outcome
 running_spent code host thread None outcome is = subst IsSpent is (inr refl)
 running_spent code host thread (Some instruction) outcome is =
     subst IsSpent is.2 (operation_spent code host thread instruction.op is.0)
 
-turn_of_spent : (code : CodeShape) (host : HostShape) (running : Option ThreadShape) (outcome : Outcome) →
+turn_of_spent : (code : CodeShape) (host : HostState) (running : Option ThreadShape) (outcome : Outcome) →
     IsTurnOf code host running outcome → IsSpent outcome
 turn_of_spent code host None outcome is = subst IsSpent is (inr refl)
 turn_of_spent code host (Some thread) outcome is =
     running_spent code (with_running host None) thread (instruction_at code host.me thread.at) outcome is
 
-pub turn_spent : (code : CodeShape) (host : HostShape) (outcome : Outcome) → IsTurn code host outcome →
+pub turn_spent : (code : CodeShape) (host : HostState) (outcome : Outcome) → IsTurn code host outcome →
     IsSpent outcome
 turn_spent code host outcome is = turn_of_spent code host host.running outcome is
 
 -- ---- messages
 
-passing_spent : (code : CodeShape) (host : HostShape) (from : HostId) (m : Message) → host.running ≡ None →
+passing_spent : (code : CodeShape) (host : HostState) (from : HostId) (m : Message) → host.running ≡ None →
     IsSpent (after_passing code host from m)
 passing_spent code host from (message.Get request field index) rests = inl rests
 passing_spent code host from (message.Set request field index value) rests = inl rests
@@ -135,7 +135,7 @@ passing_spent code host from (message.Value request value) rests = inr refl
 passing_spent code host from (message.Ack request) rests = inr refl
 passing_spent code host from (message.Token request token) rests = inr refl
 
-pub take_spent : (code : CodeShape) (host : HostShape) (from : HostId) (m : Message) (outcome : Outcome) →
+pub take_spent : (code : CodeShape) (host : HostState) (from : HostId) (m : Message) (outcome : Outcome) →
     host.running ≡ None → IsTaking code host from m outcome → IsSpent outcome
 take_spent code host from m outcome rests is =
     subst IsSpent is.2 (one_of is.0 _ _ (passing_spent code host from m rests) (inr refl))

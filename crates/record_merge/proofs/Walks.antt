@@ -17,9 +17,9 @@ use Rattle.net_world.specs.World.{WorldShape, IsStep, mover}
 use Rattle.net_world.proofs.Present.{same_id, get_other}
 use Rattle.record_merge.specs.JournalLines.{met, lines_in, next_unless, next_of, IsFitting, IsPassed, IsRead, HasMerged}
 use Rattle.event_text.specs.JournalText.{IsSendLine}
-use Rattle.record_merge.specs.Meeting.{Journal, journal_at, IsKept, IsAtEnd}
+use Rattle.record_merge.specs.Meeting.{Journal, journal_at, IsKeptBefore, IsMetToEnd}
 use Rattle.record_merge.specs.NextLines.{taken_words, step_words, flying_words, sent_next, note_of}
-use Rattle.record_merge.specs.Notes.{Note, IsNoted, IsNotedRun, lines_at}
+use Rattle.record_merge.specs.Notes.{JournalNote, IsEventNoted, IsNotedRun, lines_at}
 use Rattle.record_merge.specs.Single.{IsOnly, IsSingle}
 use Rattle.record_merge.proofs.NextNotes.{step_noted}
 use Rattle.record_merge.proofs.NotedRuns.{noted_step}
@@ -59,15 +59,16 @@ merged_none code world journals single = record {
 -- ---- one event more
 
 run_more : (code : CodeShape) (world last after : WorldShape) (events : List Event) (event : Event)
-    (notes : List Note) (note : Note) → IsNotedRun code world events last notes → IsNoted code last event after note →
+    (notes : List JournalNote) (note : JournalNote) → IsNotedRun code world events last notes →
+    IsEventNoted code last event after note →
     IsNotedRun code world (events ++ event ∷ []) after (notes ++ note ∷ [])
 run_more code world last after [] event notes note run noted = (
   after,
   note,
   [],
-  subst (λ (w : WorldShape). IsNoted code w event after note) (sym run.0) noted,
+  subst (λ (w : WorldShape). IsEventNoted code w event after note) (sym run.0) noted,
   (refl, refl),
-  ap (λ (ns : List Note). ns ++ note ∷ []) run.1,
+  ap (λ (ns : List JournalNote). ns ++ note ∷ []) run.1,
 )
 run_more code world last after (first ∷ events) event notes note (next, one, later, happens, run, notes_are) noted = (
   next,
@@ -75,7 +76,7 @@ run_more code world last after (first ∷ events) event notes note (next, one, l
   later ++ note ∷ [],
   happens,
   run_more code next last after events event later note run noted,
-  ap (λ (ns : List Note). ns ++ note ∷ []) notes_are,
+  ap (λ (ns : List JournalNote). ns ++ note ∷ []) notes_are,
 )
 
 take_next : (journal : Journal) (place : ℕ) (line : List Word) → slice_get journal place ≡ Some line →
@@ -176,7 +177,7 @@ read_on own journal place line sent passed next one pass =
           ]
     ]
 
-other_lines : (host : HostId) (note : Note) → host.0 ≢ note.host.0 → lines_at host (note ∷ []) ≡ []
+other_lines : (host : HostId) (note : JournalNote) → host.0 ≢ note.host.0 → lines_at host (note ∷ []) ≡ []
 other_lines host note apart = rw (ne_eqb note.host.0 host.0 (λ same. apart (sym same))) refl
 
 -- the journal of the event's host, before its step
@@ -260,7 +261,7 @@ merged_more code world last after journals events event next places left passed 
 -- ---- the end
 
 kept_read : (own journal : Journal) (place : ℕ) (left : Option Bool) → IsRead own journal place left →
-    IsKept own journal place
+    IsKeptBefore own journal place
 kept_read own journal place None read = inl read
 kept_read own journal place (Some false) read = inl read
 kept_read own journal place (Some true) read = inr read
@@ -307,19 +308,19 @@ none_happens code world after (Act from to made) single step =
     absurd (act_nowhere world from single.obey step.bad)
 
 -- what is noted first is the line of the step
-record NotedFirst (code : CodeShape) (world : WorldShape) (event : Event) (note : Note) : Type 0 where
+record NotedFirst (code : CodeShape) (world : WorldShape) (event : Event) (note : JournalNote) : Type 0 where
   host : note.host ≡ mover event
   line : slice_get note.lines 0 ≡ Some (step_words code world event)
 
-noted_first : (code : CodeShape) (world after : WorldShape) (event : Event) (note : Note) →
-    IsNoted code world event after note → NotedFirst code world event note
+noted_first : (code : CodeShape) (world after : WorldShape) (event : Event) (note : JournalNote) →
+    IsEventNoted code world event after note → NotedFirst code world event note
 noted_first code world after (Turn host) note noted = record {
-  host = ap (λ (n : Note). n.host) noted.1;
-  line = ap (λ (n : Note). slice_get n.lines 0) noted.1;
+  host = ap (λ (n : JournalNote). n.host) noted.1;
+  line = ap (λ (n : JournalNote). slice_get n.lines 0) noted.1;
 }
 noted_first code world after (Take from to place) note noted = record {
-  host = ap (λ (n : Note). n.host) noted.1;
-  line = ap (λ (n : Note). slice_get n.lines 0) noted.1
+  host = ap (λ (n : JournalNote). n.host) noted.1;
+  line = ap (λ (n : JournalNote). slice_get n.lines 0) noted.1
       ∙ ap (λ found. Some (taken_words code from found)) (sym noted.0.there);
 }
 noted_first code world after (Act from to made) note noted = absurd noted
@@ -335,7 +336,7 @@ stays code last after journals places left event single step (inr (next, is, apa
 
 pub merged_end : (code : CodeShape) (world last : WorldShape) (journals : List Journal) (events : List Event)
     (places : List ℕ) (left : List Bool) → HasMerged code world journals events last places left →
-    IsFitting code last journals places left None → IsAtEnd code world journals places events
+    IsFitting code last journals places left None → IsMetToEnd code world journals places events
 merged_end code world last journals events places left merged fitting = record {
   within = merged.within;
   last = last;

@@ -15,7 +15,7 @@ use Rattle.record_merge.specs.declared.journal.MergeError.{MergeError}
 use Rattle.record_merge.specs.declared.journal.MergeError.TheVariants as error
 use Rattle.event_text.specs.JournalText.{IsSendLine}
 use Rattle.record_merge.specs.Meeting.{Journal, journal_at, IsLeftAt}
-use Rattle.record_merge.specs.Notes.{Note, IsNotedRun, lines_at}
+use Rattle.record_merge.specs.Notes.{JournalNote, IsNotedRun, lines_at}
 use Rattle.record_merge.specs.Single.{IsSingle}
 use Rattle.record_merge.specs.NextLines.{step_words, sent_next}
 
@@ -77,7 +77,7 @@ IsRead own journal place (Some true) =
 pub record HasMerged (code : CodeShape) (world : WorldShape) (journals : List Journal) (events : List Event)
     (last : WorldShape) (places : List ℕ) (left : List Bool) : Type 0 where
   pub within : (host : HostId) → slice_index places host.0 ≤ length (journal_at journals host)
-  pub notes : List Note
+  pub notes : List JournalNote
   pub run : IsNotedRun code world events last notes
   pub read : (host : HostId) →
       IsRead (lines_at host notes) (journal_at journals host) (slice_index places host.0) (slice_get left host.0)

@@ -12,7 +12,7 @@ use Rattle.event_text.specs.Words.{Word}
 use Rattle.host_code.specs.Code.{CodeShape}
 use Rattle.net_world.specs.World.{WorldShape}
 use Rattle.event_text.specs.JournalText.{IsSendLine}
-use Rattle.record_merge.specs.Notes.{Note, IsNoted, IsNotedRun, lines_at}
+use Rattle.record_merge.specs.Notes.{JournalNote, IsEventNoted, IsNotedRun, lines_at}
 
 -- the lines of a journal, by their words
 abbrev pub Journal : Type 0
@@ -34,14 +34,14 @@ pub record MeetsUpTo (code : CodeShape) (world : WorldShape) (journals : List Jo
     (events : List Event) : Type 0 where
   pub within : (host : HostId) → slice_index places host.0 ≤ length (journal_at journals host)
   pub last : WorldShape
-  pub notes : List Note
+  pub notes : List JournalNote
   pub run : IsNotedRun code world events last notes
   pub meets : (host : HostId) →
       MeetsAt (lines_at host notes) (journal_at journals host) (slice_index places host.0)
 
 -- whole journals are met
-abbrev pub Meets : CodeShape → WorldShape → List Journal → List Event → Type 0
-Meets code world journals events = MeetsUpTo code world journals (map length journals) events
+abbrev pub MeetsJournals : CodeShape → WorldShape → List Journal → List Event → Type 0
+MeetsJournals code world journals events = MeetsUpTo code world journals (map length journals) events
 
 -- it is the first journal that is left before its end
 pub record IsFirstLeft (journals : List Journal) (places : List ℕ) (host : HostId) : Type 0 where
@@ -70,21 +70,21 @@ pub record IsLeftAt (code : CodeShape) (world : WorldShape) (said : List (List L
 
 -- These are the lines of a journal before a place, or these and the line of a message that was sent, which is not the
 -- next line of the journal.
-abbrev pub IsKept : Journal → Journal → ℕ → Type 0
-IsKept own journal place =
+abbrev pub IsKeptBefore : Journal → Journal → ℕ → Type 0
+IsKeptBefore own journal place =
     (own ≡ take place journal)
     ⊎ ((sent : List Word) × IsSendLine sent × (own ≡ take place journal ++ sent ∷ [])
     × (slice_get journal place ≢ Some sent))
 
 -- Events happen from a world on, the lines of each host are those of its journal before its place, and no event comes
 -- next whose line is the next line of its host's journal.
-pub record IsAtEnd (code : CodeShape) (world : WorldShape) (journals : List Journal) (places : List ℕ)
+pub record IsMetToEnd (code : CodeShape) (world : WorldShape) (journals : List Journal) (places : List ℕ)
     (events : List Event) : Type 0 where
   pub within : (host : HostId) → slice_index places host.0 ≤ length (journal_at journals host)
   pub last : WorldShape
-  pub notes : List Note
+  pub notes : List JournalNote
   pub run : IsNotedRun code world events last notes
-  pub kept : (host : HostId) → IsKept (lines_at host notes) (journal_at journals host) (slice_index places host.0)
-  pub ends : (event : Event) (after : WorldShape) (note : Note) → IsNoted code last event after note →
+  pub kept : (host : HostId) → IsKeptBefore (lines_at host notes) (journal_at journals host) (slice_index places host.0)
+  pub ends : (event : Event) (after : WorldShape) (note : JournalNote) → IsEventNoted code last event after note →
       lines_at note.host notes ≡ take (slice_index places note.host.0) (journal_at journals note.host) →
       slice_get (journal_at journals note.host) (slice_index places note.host.0) ≢ slice_get note.lines 0

@@ -7,18 +7,18 @@ use Rattle.net_world.specs.World.{WorldShape}
 use Rattle.record_merge.specs.declared.journal.MergeError.{MergeError}
 use Rattle.record_merge.specs.declared.journal.MergeError.TheVariants as error
 use Rattle.record_merge.specs.Journals.{too_long, bad_line, first_fault, journal_lines}
-use Rattle.record_merge.specs.Meeting.{Meets, IsLeftAt, words_in}
+use Rattle.record_merge.specs.Meeting.{MeetsJournals, IsLeftAt, words_in}
 
 -- each journal is read, and events meet them
 abbrev pub IsMerged : CodeShape → WorldShape → List (List ℕ) → List Event → Type 0
 IsMerged code world journals events =
-    (first_fault code 0 journals ≡ None) × Meets code world (words_in (map journal_lines journals)) events
+    (first_fault code 0 journals ≡ None) × MeetsJournals code world (words_in (map journal_lines journals)) events
 
 -- The first journal that is not read is that of the host. Where all are read, no list of events meets them.
-abbrev pub IsRefusedFor : CodeShape → WorldShape → List (List ℕ) → MergeError → Type 0
-IsRefusedFor code world journals error.OutOfMemory = ⊤
-IsRefusedFor code world journals (error.TooLong host) = first_fault code 0 journals ≡ Some (host.0, too_long)
-IsRefusedFor code world journals (error.BadLine host number) =
+abbrev pub IsMergeRefusedFor : CodeShape → WorldShape → List (List ℕ) → MergeError → Type 0
+IsMergeRefusedFor code world journals error.OutOfMemory = ⊤
+IsMergeRefusedFor code world journals (error.TooLong host) = first_fault code 0 journals ≡ Some (host.0, too_long)
+IsMergeRefusedFor code world journals (error.BadLine host number) =
     first_fault code 0 journals ≡ Some (host.0, bad_line number)
-IsRefusedFor code world journals (error.NoMatch host number) =
+IsMergeRefusedFor code world journals (error.NoMatch host number) =
     (first_fault code 0 journals ≡ None) × IsLeftAt code world (map journal_lines journals) host number

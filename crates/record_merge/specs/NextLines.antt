@@ -10,7 +10,7 @@ use Rattle.host_code.specs.Messages.{MessageFits}
 use Rattle.net_world.specs.Flying.{Flight}
 use Rattle.net_world.specs.World.{WorldShape, mover}
 use Rattle.event_text.specs.JournalText.{turn_words, take_words, send_words}
-use Rattle.record_merge.specs.Notes.{Note}
+use Rattle.record_merge.specs.Notes.{JournalNote}
 
 abbrev pub taken_words : CodeShape → HostId → Option Flight → List Word
 taken_words code from None = []
@@ -34,12 +34,12 @@ sent_next code world (Some (Take from to place)) = flying_words code to (slice_g
 sent_next code world (Some (Act from to made)) = []
 
 -- What an event notes, where the other event comes next. Whatever can be taken then was sent by it.
-abbrev pub note_of : CodeShape → WorldShape → Event → WorldShape → Option Event → Note
+abbrev pub note_of : CodeShape → WorldShape → Event → WorldShape → Option Event → JournalNote
 note_of code world event after next =
     record { host = mover event; lines = step_words code world event ∷ sent_next code after next }
 
 -- it is the first of these in flight, and names what is there
-pub record IsFirst (code : CodeShape) (flights : List Flight) (message : Message) : Type 0 where
+pub record IsFirstFlight (code : CodeShape) (flights : List Flight) (message : Message) : Type 0 where
   pub flight : Flight
   pub there : slice_get flights 0 ≡ Some flight
   pub is : flight.message ≡ message

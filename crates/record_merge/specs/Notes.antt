@@ -9,30 +9,30 @@ use Rattle.net_world.specs.World.{WorldShape, IsTurnStep, IsTakeStep}
 use Rattle.event_text.specs.JournalText.{turn_words, take_words, sent_words}
 
 -- the lines that an event adds to the journal of the host whose step it is
-pub record Note : Type 0 where
+pub record JournalNote : Type 0 where
   pub host : HostId
   pub lines : List (List Word)
 
 -- An event happens, and its host notes the step and then what it sends. An act of a misbehaving host is no step of a
 -- journal.
-abbrev pub IsNoted : CodeShape → WorldShape → Event → WorldShape → Note → Type 0
-IsNoted code world (Turn host) after note =
+abbrev pub IsEventNoted : CodeShape → WorldShape → Event → WorldShape → JournalNote → Type 0
+IsEventNoted code world (Turn host) after note =
     (step : IsTurnStep code world host after)
     × (note ≡ record { host = host; lines = turn_words ∷ sent_words code step.outcome.sent })
-IsNoted code world (Take from to place) after note =
+IsEventNoted code world (Take from to place) after note =
     (step : IsTakeStep code world from to place after)
     × (note
     ≡ record { host = to; lines = take_words code from step.flight.message ∷ sent_words code step.outcome.sent })
-IsNoted code world (Act from to made) after note = ⊥
+IsEventNoted code world (Act from to made) after note = ⊥
 
 -- events happen one after the other, leave a world, and are noted so
-abbrev pub IsNotedRun : CodeShape → WorldShape → List Event → WorldShape → List Note → Type 0
+abbrev pub IsNotedRun : CodeShape → WorldShape → List Event → WorldShape → List JournalNote → Type 0
 IsNotedRun code world [] last notes = (world ≡ last) × (notes ≡ [])
 IsNotedRun code world (event ∷ events) last notes =
-    (next : WorldShape) × (note : Note) × (later : List Note) × IsNoted code world event next note
+    (next : WorldShape) × (note : JournalNote) × (later : List JournalNote) × IsEventNoted code world event next note
     × IsNotedRun code next events last later × (notes ≡ note ∷ later)
 
 -- the lines of one host, in order
-abbrev pub lines_at : HostId → List Note → List (List Word)
+abbrev pub lines_at : HostId → List JournalNote → List (List Word)
 lines_at host [] = []
 lines_at host (note ∷ notes) = (if note.host.0 == host.0 then note.lines else []) ++ lines_at host notes

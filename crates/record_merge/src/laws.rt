@@ -7,8 +7,8 @@ ghost use Rattle.event_text.specs.Lines.{LineShape};
 ghost use Rattle.host_code.specs.Code.{CodeShape};
 ghost use Rattle.host_decl.specs.Hosts.{HostShape};
 ghost use Rattle.net_world.specs.World.{WorldShape, IsStep, world_at_start};
-ghost use Rattle.record_merge.specs.Meeting.{Journal, Meets, MeetsUpTo, IsAtEnd, IsLeftAt, words_in};
-ghost use Rattle.record_merge.specs.Merging.{IsMerged, IsRefusedFor};
+ghost use Rattle.record_merge.specs.Meeting.{Journal, MeetsJournals, MeetsUpTo, IsMetToEnd, IsLeftAt, words_in};
+ghost use Rattle.record_merge.specs.Merging.{IsMerged, IsMergeRefusedFor};
 ghost use Rattle.record_merge.specs.declared.journal.MergeError.{MergeError};
 ghost use Rattle.record_merge.specs.declared.journal.MergeError.TheVariants.{OutOfMemory};
 ghost use Rattle.record_merge.specs.Single.{IsSingle};
@@ -29,11 +29,11 @@ pub fn single_laws()
 pub fn merge_laws()
     ensures one_list { (code : CodeShape) (rows : List HostShape) (store : List (List ℤ)) (journals : List Journal)
         (events others : List Event) →
-        Meets code (world_at_start code rows 0 store) journals events →
-        Meets code (world_at_start code rows 0 store) journals others → events ≡ others }
+        MeetsJournals code (world_at_start code rows 0 store) journals events →
+        MeetsJournals code (world_at_start code rows 0 store) journals others → events ≡ others }
     ensures never_both { (code : CodeShape) (world : WorldShape) (said : List (List LineShape)) (host : HostId)
         (number : ℕ) (events : List Event) →
-        IsLeftAt code world said host number → ¬ Meets code world (words_in said) events }
+        IsLeftAt code world said host number → ¬ MeetsJournals code world (words_in said) events }
     ensures one_refusal { (code : CodeShape) (world : WorldShape) (said : List (List LineShape)) (host other : HostId)
         (number another : ℕ) →
         IsLeftAt code world said host number → IsLeftAt code world said other another →
@@ -41,10 +41,10 @@ pub fn merge_laws()
     // Where a list is at its end no list comes further in any journal.
     ensures meets { (code : CodeShape) (world : WorldShape) (journals : List Journal) (places : List ℕ)
         (events : List Event) →
-        IsAtEnd code world journals places events → MeetsUpTo code world journals places events }
+        IsMetToEnd code world journals places events → MeetsUpTo code world journals places events }
     ensures furthest { (code : CodeShape) (rows : List HostShape) (store : List (List ℤ)) (journals : List Journal)
         (places reached : List ℕ) (events others : List Event) (host : HostId) →
-        IsAtEnd code (world_at_start code rows 0 store) journals places events →
+        IsMetToEnd code (world_at_start code rows 0 store) journals places events →
         MeetsUpTo code (world_at_start code rows 0 store) journals reached others →
         slice_index reached host.0 ≤ slice_index places host.0 }
 
@@ -54,9 +54,9 @@ pub fn merge_laws()
         IsMerged code (world_at_start code rows 0 store) journals events →
         IsMerged code (world_at_start code rows 0 store) journals others → events ≡ others }
     ensures one_cause { (code : CodeShape) (world : WorldShape) (journals : List (List ℕ)) (why other : MergeError) →
-        why ≢ OutOfMemory → other ≢ OutOfMemory → IsRefusedFor code world journals why →
-        IsRefusedFor code world journals other → why ≡ other }
+        why ≢ OutOfMemory → other ≢ OutOfMemory → IsMergeRefusedFor code world journals why →
+        IsMergeRefusedFor code world journals other → why ≡ other }
     ensures merged_or_refused { (code : CodeShape) (world : WorldShape) (journals : List (List ℕ))
         (events : List Event) (why : MergeError) → why ≢ OutOfMemory →
-        IsRefusedFor code world journals why → ¬ IsMerged code world journals events }
+        IsMergeRefusedFor code world journals why → ¬ IsMerged code world journals events }
 {}

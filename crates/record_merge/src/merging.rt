@@ -12,11 +12,11 @@ ghost use Rattle.net_world.specs.Steps.{HaveMade};
 ghost use Rattle.net_world.specs.World.{mover, AllObey, IsStep};
 ghost use Rattle.event_text.specs.Lines.{words};
 ghost use Rattle.record_merge.specs.JournalLines.{journal_of, lines_in, met, next_of, IsFitting, IsPassed, HasPassed};
-ghost use Rattle.record_merge.specs.Meeting.{journal_at, IsAtEnd};
+ghost use Rattle.record_merge.specs.Meeting.{journal_at, IsMetToEnd};
 ghost use Rattle.record_merge.specs.Single.{IsSingle};
 ghost use Rattle.event_text.specs.declared.event.Event.{Event};
 ghost use Rattle.event_text.specs.JournalText.{send_words};
-ghost use Rattle.record_merge.specs.NextLines.{IsFirst, step_words, sent_next};
+ghost use Rattle.record_merge.specs.NextLines.{IsFirstFlight, step_words, sent_next};
 
 use crate::step_lines::{is_send_line, is_take_line, is_turn_line};
 use event_text::{BadMessage, Event, Line};
@@ -40,7 +40,7 @@ fn mover(event: &Event) -> HostId
 fn first_flying<'a>(code: &Code, world: &'a World, from: HostId, to: HostId) -> Option<&'a Message>
     requires fits { WorldFits code.now world.now }
     ensures none { IfNone result ((world_of world.now).flying from to ≡ []) }
-    ensures some { IfSome result (λ message. IsFirst code.now ((world_of world.now).flying from to) message.now) }
+    ensures some { IfSome result (λ message. IsFirstFlight code.now ((world_of world.now).flying from to) message.now) }
 {
     match world.flying(from, to) {
         [message, ..] => Some(message),
@@ -220,7 +220,7 @@ pub fn walk(
     requires fresh { HaveMade 0 world.old.hosts }
     requires few { lines_in (map (λ journal. journal_of journal.items) journals.now) < MOST_CALLS }
     requires places { places.old.items ≡ replicate (length journals.now) 0 }
-    ensures end { IfOk result (λ events. IsAtEnd code.now (world_of world.old)
+    ensures end { IfOk result (λ events. IsMetToEnd code.now (world_of world.old)
         (map (λ journal. journal_of journal.items) journals.now) places.new.items events.items) }
     ensures count { IfOk result (λ _. length places.new.items ≡ length journals.now) }
 {

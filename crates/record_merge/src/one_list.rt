@@ -6,8 +6,8 @@ ghost use Rattle.js_base.specs.declared.limits.TheConstants.{HOSTS};
 ghost use Rattle.host_core.specs.declared.host.TheConstants.{MOST_CALLS};
 ghost use Rattle.net_world.specs.World.{AreHostsOf, world_at_start};
 ghost use Rattle.record_merge.specs.JournalLines.{IsNotMerged, all_of, lines_in, number_at};
-ghost use Rattle.record_merge.specs.Meeting.{Meets, IsFirstLeft, journal_at};
-ghost use Rattle.record_merge.specs.Merging.{IsMerged, IsRefusedFor};
+ghost use Rattle.record_merge.specs.Meeting.{MeetsJournals, IsFirstLeft, journal_at};
+ghost use Rattle.record_merge.specs.Merging.{IsMerged, IsMergeRefusedFor};
 ghost use Rattle.record_merge.specs.Reading.{bytes_of};
 
 use crate::journal::MergeError;
@@ -41,7 +41,7 @@ pub fn merge(
     requires count { length journals.now ≡ length code.now.hosts }
     ensures merged { IfOk result (λ events. IsMerged code.now (world_at_start code.now hosts.now.hosts 0 start.now)
         (bytes_of journals.now) events.items) }
-    ensures refused { IfErr result (IsRefusedFor code.now (world_at_start code.now hosts.now.hosts 0 start.now)
+    ensures refused { IfErr result (IsMergeRefusedFor code.now (world_at_start code.now hosts.now.hosts 0 start.now)
         (bytes_of journals.now)) }
 {
     let few = code.hosts().len() <= HOSTS;
@@ -65,7 +65,7 @@ fn merge_lines(
     requires hosts { AreHostsOf code.now hosts.now.hosts }
     requires count { length journals.now ≡ length code.now.hosts }
     requires few { lines_in (all_of journals.now) < MOST_CALLS }
-    ensures meets { IfOk result (λ events. Meets code.now (world_at_start code.now hosts.now.hosts 0 start.now)
+    ensures meets { IfOk result (λ events. MeetsJournals code.now (world_at_start code.now hosts.now.hosts 0 start.now)
         (all_of journals.now) events.items) }
     ensures refused { IfErr result (IsNotMerged code.now
         (world_at_start code.now hosts.now.hosts 0 start.now) journals.now) }

@@ -13,7 +13,7 @@ use Rattle.std.proofs.lemmas.Option.{slice_get-map, slice_get-get_or}
 use Rattle.event_text.specs.declared.event.Event.{Event}
 use Rattle.host_code.specs.Code.{CodeShape}
 use Rattle.net_world.specs.World.{WorldShape}
-use Rattle.net_world.specs.Released.{AreAlike}
+use Rattle.net_world.specs.Released.{OneIsFront}
 use Rattle.run_comparison.specs.Compare.{DifferAt, GoApart, StartsUnlike}
 use Rattle.net_world.specs.Replay.{events_in}
 
@@ -33,7 +33,7 @@ same_more {X} one other i x y first second same before =
 
 -- the end of one of them
 pub are_alike : {X : Type 0} (one other : List X) (i : ℕ) → take i one ≡ take i other → length one ≤ i →
-    AreAlike one other
+    OneIsFront one other
 are_alike {X} one other i same all =
     inl (
       drop i other,
@@ -42,7 +42,7 @@ are_alike {X} one other i same all =
     )
 
 pub are_alike_too : {X : Type 0} (one other : List X) (i : ℕ) → take i one ≡ take i other → length other ≤ i →
-    AreAlike one other
+    OneIsFront one other
 are_alike_too {X} one other i same all =
     inr (
       drop i one,
@@ -51,7 +51,7 @@ are_alike_too {X} one other i same all =
     )
 
 pub alike_by_length : {X : Type 0} (one other : List X) (i : ℕ) → take i one ≡ take i other →
-    ¬ ((i < length one) × (i < length other)) → AreAlike one other
+    ¬ ((i < length one) × (i < length other)) → OneIsFront one other
 alike_by_length one other i same not = elim (cases_lt i (length one)) [
   | inr past ↦ are_alike one other i same past
   | inl inside ↦ elim (cases_lt i (length other)) [

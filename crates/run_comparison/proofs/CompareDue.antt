@@ -11,7 +11,7 @@ use Rattle.js_base.specs.declared.OutOfMemory.{OutOfMemory}
 use Rattle.net_world.specs.Told.{SentMessage}
 use Rattle.net_world.specs.World.{WorldShape}
 use Rattle.run_comparison.specs.Compare.{Premise, fails, SameBits, SameMisbehave, SameValues, SameStarts, Compared}
-use Rattle.run_comparison.specs.Compare.{ScriptFollowed, DueForRuns, DueForSaid, DueForCompare}
+use Rattle.run_comparison.specs.Compare.{ScriptFollowed, DueForRuns, DueForReadScripts, DueForCompare}
 use Rattle.script_stages.specs.FirstWorld.{first_world}
 use Rattle.front_end.specs.PlacedCode.{code_of, program_of}
 use Rattle.split_rules.specs.Releases.{ReleasesShape, releases_of}
@@ -19,7 +19,7 @@ use Rattle.run_comparison.specs.Followed.{FollowedRun, EventsFollowed}
 use Rattle.front_end.specs.Loading.{StopsWith}
 use Rattle.front_end.specs.PlacedSources.{PlacedSource}
 use Rattle.script_stages.specs.Scripts.{ScriptRead}
-use Rattle.front_end.specs.Stages.{Outcome, given, stopped}
+use Rattle.front_end.specs.Stages.{StageEnd, given, stopped}
 use Rattle.front_end.specs.Verdicts.{VerdictShape, verdict_shape}
 use Rattle.front_end.specs.declared.stop.Stop.{Stop}
 use Rattle.front_end.specs.declared.stop.Stop.TheVariants as stop
@@ -28,7 +28,7 @@ use Rattle.front_end.proofs.Stages.{stopped_with}
 
 -- what was followed in a world that is the first, by a code that is that of the program
 pub followed_as : (file : List ℕ) (placed : PlacedSource) (code : CodeShape) (said : ScriptShape) (first : WorldShape)
-    (table : ReleasesShape) (events : List (ℕ × Event)) (end : Outcome FollowedRun) → code ≡ code_of placed →
+    (table : ReleasesShape) (events : List (ℕ × Event)) (end : StageEnd FollowedRun) → code ≡ code_of placed →
     table ≡ releases_of (program_of placed) → first ≡ first_world placed said.bad said.start → events ≡ said.events →
     EventsFollowed file code table first events end → ScriptFollowed placed file said end
 followed_as file placed code said first table events end same tells starts are was =
@@ -49,13 +49,13 @@ premise_stops Holds Fails due why is made =
 
 -- ---- premises, of a program in its places
 
-pub misbehave_as : (one other : ScriptShape) (bad bad_too : ℕ) (end : Outcome ⊤) → bad ≡ one.bad →
+pub misbehave_as : (one other : ScriptShape) (bad bad_too : ℕ) (end : StageEnd ⊤) → bad ≡ one.bad →
     bad_too ≡ other.bad → SameBits bad bad_too end → SameMisbehave one other end
 misbehave_as one other bad bad_too end is is_too was =
     subst (λ (word : ℕ). SameBits one.bad word end) is_too (subst (λ (word : ℕ). SameBits word bad_too end) is was)
 
 pub starts_as : (placed : PlacedSource) (code : CodeShape) (world : WorldShape) (one other : ScriptShape)
-    (start start_too : List (List ℤ)) (end : Outcome ⊤) → code ≡ code_of placed →
+    (start start_too : List (List ℤ)) (end : StageEnd ⊤) → code ≡ code_of placed →
     world ≡ first_world placed one.bad one.start → start ≡ one.start → start_too ≡ other.start →
     SameValues code world start start_too end → SameStarts placed one other end
 starts_as placed code world one other start start_too end same first is is_too was =
@@ -85,7 +85,8 @@ pub runs_due : (placed : PlacedSource) (code : CodeShape) (table : ReleasesShape
     EventsFollowed file code table first events (given run) →
     first_too ≡ first_world placed said_too.bad said_too.start → events_too ≡ said_too.events →
     EventsFollowed other code table first_too events_too (given run_too) →
-    DueForRuns placed file said run other said_too run_too verdict → DueForSaid placed file said other said_too verdict
+    DueForRuns placed file said run other said_too run_too verdict →
+    DueForReadScripts placed file said other said_too verdict
 runs_due placed code table file said run other said_too run_too first first_too events events_too verdict same tells
     starts are was starts_too are_too was_too due =
     inl (
@@ -120,6 +121,7 @@ pub both_read : (file script other script_too : List ℕ) (placed : PlacedSource
     (said said_too : ScriptShape) (verdict : VerdictShape) → program_tree program ≡ placed.source.tree →
     ScriptRead file script (code_of placed) (given said) →
     ScriptRead other script_too (code_of placed) (given said_too) →
-    DueForSaid placed file said other said_too verdict → DueForCompare file script other script_too placed verdict
+    DueForReadScripts placed file said other said_too verdict →
+    DueForCompare file script other script_too placed verdict
 both_read file script other script_too placed program said said_too verdict same was also due =
     (program, same, inl (said, was, inl (said_too, also, due)))

@@ -11,10 +11,10 @@ use Rattle.net_world.specs.Secret.{IsSecret, IsQuiet}
 use Rattle.net_world.specs.World.{WorldShape, IsStep, IsRun}
 use Rattle.split_rules.specs.Releases.{ReleasesShape}
 use Rattle.net_world.proofs.ReleasedValues.{released_last}
-use Rattle.run_comparison.specs.Followed.{Followed, IsKept, IsFollowed}
+use Rattle.run_comparison.specs.Followed.{Followed, IsTraceKept, IsFollowed}
 use Rattle.run_comparison.specs.Followed as kept
 use Rattle.run_comparison.specs.declared.following.Seen.{Seen}
-use Rattle.run_comparison.specs.FollowedRuns.{IsAdded, first_late, run_with}
+use Rattle.run_comparison.specs.FollowedRuns.{IsEventAdded, first_late, run_with}
 use Rattle.run_comparison.specs.FollowedRuns as added
 use Rattle.net_world.specs.Replay.{events_in}
 
@@ -25,12 +25,12 @@ with_last run world = record { seen = run.seen; late = run.late; last = world }
 record IsLonger (code : CodeShape) (world after next : WorldShape) (first one : ℕ × Event) (rest longer : Followed) :
     Type 0 where
   pub more : Followed
-  pub added : IsAdded code after one rest more
-  pub kept : IsKept code world first (with_last more next) (with_last longer next)
+  pub added : IsEventAdded code after one rest more
+  pub kept : IsTraceKept code world first (with_last more next) (with_last longer next)
 
 longer_behind : (code : CodeShape) (world after next : WorldShape) (first one : ℕ × Event)
     (rest run longer : Followed) →
-    IsKept code world first rest run → IsAdded code after one run longer →
+    IsTraceKept code world first rest run → IsEventAdded code after one run longer →
     IsLonger code world after next first one rest longer
 longer_behind code world after next first one rest _ _ (kept.hidden is) (added.hidden secret) =
     record { more = rest; added = added.hidden secret; kept = kept.hidden is }
@@ -52,7 +52,7 @@ longer_behind code world after next first one rest _ _ (kept.untimely seen loud)
     record { more = _; added = added.untimely not noise; kept = kept.untimely seen loud }
 
 last_of_kept : (code : CodeShape) (world : WorldShape) (first : ℕ × Event) (rest run : Followed) →
-    IsKept code world first rest run → rest.last ≡ run.last
+    IsTraceKept code world first rest run → rest.last ≡ run.last
 last_of_kept code world first rest _ (kept.hidden is) = refl
 last_of_kept code world first rest _ (kept.prompt not quiet) = refl
 last_of_kept code world first rest _ (kept.untimely not loud) = refl
@@ -70,7 +70,8 @@ followed_ran code world (event ∷ said) run (next, rest, step, follows, kept) =
 
 -- the first event of all
 first_followed : (code : CodeShape) (world next : WorldShape) (one : ℕ × Event) (longer : Followed) →
-    IsAdded code world one (record { seen = []; late = None; last = world }) longer → IsStep code world one.1 next →
+    IsEventAdded code world one (record { seen = []; late = None; last = world }) longer →
+    IsStep code world one.1 next →
     IsFollowed code world (one ∷ []) (with_last longer next)
 first_followed code world next one _ (added.hidden secret) step =
     (next, record { seen = []; late = None; last = next }, step, refl, kept.hidden secret)
@@ -80,10 +81,10 @@ first_followed code world next one _ (added.untimely not loud) step =
     (next, record { seen = []; late = None; last = next }, step, refl, kept.untimely not loud)
 
 followed_one_more : (code : CodeShape) (world next : WorldShape) (said : List (ℕ × Event)) (one : ℕ × Event)
-    (run longer : Followed) → IsFollowed code world said run → IsAdded code run.last one run longer →
+    (run longer : Followed) → IsFollowed code world said run → IsEventAdded code run.last one run longer →
     IsStep code run.last one.1 next → IsFollowed code world (said ++ one ∷ []) (with_last longer next)
 followed_one_more code world next [] one run longer is more step =
-    let P : Followed → Type 0 = λ r. IsAdded code r.last one r longer in
+    let P : Followed → Type 0 = λ r. IsEventAdded code r.last one r longer in
     let Q : Followed → Type 0 = λ r. IsStep code r.last one.1 next in
     first_followed code world next one longer (subst P is more) (subst Q is step)
 followed_one_more code world next (first ∷ said) one run longer (after, rest, goes, follows, keeps) more step =
@@ -93,7 +94,7 @@ followed_one_more code world next (first ∷ said) one run longer (after, rest, 
       with_last one_more.more next,
       goes,
       followed_one_more code after next said one rest one_more.more follows
-          (subst (λ (w : WorldShape). IsAdded code w one rest one_more.more) (sym lasts) one_more.added)
+          (subst (λ (w : WorldShape). IsEventAdded code w one rest one_more.more) (sym lasts) one_more.added)
           (subst (λ (w : WorldShape). IsStep code w one.1 next) (sym lasts) step),
       one_more.kept,
     )
@@ -101,30 +102,30 @@ followed_one_more code world next (first ∷ said) one run longer (after, rest, 
 pub followed_more : (code : CodeShape) (world middle next : WorldShape) (said : List (ℕ × Event)) (i : ℕ)
     (d : ℕ × Event)
     (run longer : Followed) → i < length said → IsFollowed code world (take i said) run → run.last ≡ middle →
-    IsAdded code middle (get_or said i d) run longer → IsStep code middle (get_or said i d).1 next →
+    IsEventAdded code middle (get_or said i d) run longer → IsStep code middle (get_or said i d).1 next →
     IsFollowed code world (take (i + 1) said) (with_last longer next)
 followed_more code world middle next said i d run longer within follows lasts more step =
     let one = get_or said i d in
     subst (λ (events : List (ℕ × Event)). IsFollowed code world events (with_last longer next))
     (sym (take_more said i d within))
     (followed_one_more code world next (take i said) one run longer follows
-    (subst (λ (w : WorldShape). IsAdded code w one run longer) (sym lasts) more)
+    (subst (λ (w : WorldShape). IsEventAdded code w one run longer) (sym lasts) more)
     (subst (λ (w : WorldShape). IsStep code w one.1 next) (sym lasts) step))
 
 -- an event that may be seen, where it is known whether the world is quiet
 pub seen_added : (code : CodeShape) (world : WorldShape) (one : ℕ × Event) (run longer : Followed) (quiet : Bool) →
     ¬ IsSecret code world one.1 → (IsTrue quiet ↔ IsQuiet code world) → longer.seen ≡ run.seen ++ one ∷ [] →
     longer.late ≡ (if quiet then run.late else first_late run.late one.0) → longer.last ≡ run.last →
-    IsAdded code world one run longer
+    IsEventAdded code world one run longer
 seen_added code world one run longer true not exact seen late last =
     let more : Followed = record { seen = run.seen ++ one ∷ []; late = run.late; last = run.last } in
     let same : more ≡ longer = λ i. record { seen = sym seen i; late = sym late i; last = sym last i } in
-    subst (IsAdded code world one run) same (added.prompt not (exact.0 refl))
+    subst (IsEventAdded code world one run) same (added.prompt not (exact.0 refl))
 seen_added code world one run longer false not exact seen late last =
     let more : Followed =
     record { seen = run.seen ++ one ∷ []; late = first_late run.late one.0; last = run.last } in
     let same : more ≡ longer = λ i. record { seen = sym seen i; late = sym late i; last = sym last i } in
-    subst (IsAdded code world one run) same
+    subst (IsEventAdded code world one run) same
     (added.untimely not (λ quiet. let no : false ≡ true = exact.1 quiet in absurd (false≢true no)))
 
 -- the same of what the program keeps, where it had memory for it
@@ -132,7 +133,7 @@ pub added_on_ok : {T E : Type 0} (code : CodeShape) (world : WorldShape) (one : 
     (quiet : Bool) (result : Result T E) → ¬ IsSecret code world one.1 → (IsTrue quiet ↔ IsQuiet code world) →
     OnOk result (map (λ it. it.now) after.events.items ≡ map (λ it. it.now) before.events.items ++ one ∷ []) →
     OnOk result (after.late ≡ (if quiet then before.late else first_late before.late one.0)) →
-    OnOk result ((last : WorldShape) → IsAdded code world one (run_with before last) (run_with after last))
+    OnOk result ((last : WorldShape) → IsEventAdded code world one (run_with before last) (run_with after last))
 added_on_ok code world one before after quiet (Ok value) not exact seen late =
     λ last. seen_added code world one (run_with before last) (run_with after last) quiet not exact seen late refl
 added_on_ok code world one before after quiet (Err why) not exact seen late = tt

@@ -11,7 +11,7 @@ use Rattle.jif_tree.specs.Trees.{program_tree}
 use Rattle.event_text.specs.declared.event.Event.{Event}
 use Rattle.event_text.specs.Script.{ScriptShape}
 use Rattle.host_code.specs.Code.{CodeShape, CodeFieldShape}
-use Rattle.net_world.specs.Released.{AreAlike}
+use Rattle.net_world.specs.Released.{OneIsFront}
 use Rattle.net_world.specs.Secret.{IsReadable}
 use Rattle.net_world.specs.Told.{SentMessage}
 use Rattle.net_world.specs.World.{WorldShape, state_at}
@@ -24,7 +24,7 @@ use Rattle.run_comparison.specs.ReleaseLines.{release_lines}
 use Rattle.releasing_statements.specs.Releases.{first_release}
 use Rattle.net_world.specs.Replay.{events_in}
 use Rattle.script_stages.specs.Scripts.{ScriptRead}
-use Rattle.front_end.specs.Stages.{Outcome, given, stopped, DueThen}
+use Rattle.front_end.specs.Stages.{StageEnd, given, stopped, DueThen}
 use Rattle.front_end.specs.Text.{line_text}
 use Rattle.front_end.specs.Verdicts.{VerdictShape, Print, bad_differ, starts_differ, events_differ, not_prompt}
 
@@ -63,25 +63,25 @@ pub record IsFirstUnlike (code : CodeShape) (world : WorldShape) (one other : Li
 -- ---- premises
 
 -- a premise holds, or it stops the command with what is then due
-pub data Premise (Holds : Type 0) (Fails : VerdictShape → Type 0) : Outcome ⊤ → Type 0 where
+pub data Premise (Holds : Type 0) (Fails : VerdictShape → Type 0) : StageEnd ⊤ → Type 0 where
   holds : Holds → Premise Holds Fails (given tt)
   fails : (verdict : VerdictShape) → Fails verdict → Premise Holds Fails (stopped verdict)
 
 -- the same hosts misbehave, by a bit for each host
-abbrev pub SameBits : (bad other : ℕ) → Outcome ⊤ → Type 0
+abbrev pub SameBits : (bad other : ℕ) → StageEnd ⊤ → Type 0
 SameBits bad other = Premise (bad ≡ other) (λ verdict. (bad ≢ other) × (verdict ≡ bad_differ))
 
-abbrev pub SameMisbehave : (one other : ScriptShape) → Outcome ⊤ → Type 0
+abbrev pub SameMisbehave : (one other : ScriptShape) → StageEnd ⊤ → Type 0
 SameMisbehave one other = SameBits one.bad other.bad
 
 -- what misbehaving hosts of a world may read of obeying hosts starts alike
-abbrev pub SameValues : CodeShape → WorldShape → (one other : List (List ℤ)) → Outcome ⊤ → Type 0
+abbrev pub SameValues : CodeShape → WorldShape → (one other : List (List ℤ)) → StageEnd ⊤ → Type 0
 SameValues code world one other =
     Premise (StartAlike code world one other)
     (λ verdict. (number : ℕ) × (field : CodeFieldShape) × IsFirstUnlike code world one other number field
     × (verdict ≡ starts_differ field.name))
 
-abbrev pub SameStarts : PlacedSource → (one other : ScriptShape) → Outcome ⊤ → Type 0
+abbrev pub SameStarts : PlacedSource → (one other : ScriptShape) → StageEnd ⊤ → Type 0
 SameStarts placed one other =
     SameValues (code_of placed) (first_world placed one.bad one.start) one.start other.start
 
@@ -93,13 +93,13 @@ pub record GoApart (one other : List (ℕ × Event)) (line : ℕ) : Type 0 where
   pub there : slice_get one place ≡ Some (line, event)
 
 -- what may be seen happens alike
-abbrev pub SameEvents : (file : List ℕ) (one other : Followed) → Outcome ⊤ → Type 0
+abbrev pub SameEvents : (file : List ℕ) (one other : Followed) → StageEnd ⊤ → Type 0
 SameEvents file one other =
-    Premise (AreAlike (events_in one.seen) (events_in other.seen))
+    Premise (OneIsFront (events_in one.seen) (events_in other.seen))
     (λ verdict. (line : ℕ) × GoApart one.seen other.seen line × (verdict ≡ events_differ file line))
 
 -- at each event of a run that may be seen the world is quiet
-abbrev pub IsPromptRun : (file : List ℕ) → Followed → Outcome ⊤ → Type 0
+abbrev pub IsPromptRun : (file : List ℕ) → Followed → StageEnd ⊤ → Type 0
 IsPromptRun file run =
     Premise (run.late ≡ None) (λ verdict. (line : ℕ) × (run.late ≡ Some line) × (verdict ≡ not_prompt file line))
 
@@ -119,7 +119,7 @@ differ_text place statement =
 -- runs released.
 pub data Compared (placed : PlacedSource) (one other : List SentMessage) (released released_too : List ℤ) :
     VerdictShape → Type 0 where
-  agree : AreAlike one other → Compared placed one other released released_too
+  agree : OneIsFront one other → Compared placed one other released released_too
       (Print Done (agree_text one other ++ release_lines released released_too))
   differ : (place : ℕ) → DifferAt one other place → Compared placed one other released released_too
       (Print Differ (differ_text place (first_release placed.source.tree) ++ release_lines released released_too))
@@ -136,15 +136,16 @@ DueForRuns placed file said one other said_too two =
     Compared placed one.run.last.sent two.run.last.sent one.released two.released)))))
 
 -- the events of a script of this name are followed on the hosts of a program
-abbrev pub ScriptFollowed : PlacedSource → (file : List ℕ) → ScriptShape → Outcome FollowedRun → Type 0
+abbrev pub ScriptFollowed : PlacedSource → (file : List ℕ) → ScriptShape → StageEnd FollowedRun → Type 0
 ScriptFollowed placed file said =
     EventsFollowed file (code_of placed) (releases_of (program_of placed)) (first_world placed said.bad said.start)
     said.events
 
 -- two scripts that were read are followed, one after the other
-abbrev pub DueForSaid : PlacedSource → (file : List ℕ) (said : ScriptShape) (other : List ℕ) (said_too : ScriptShape) →
+abbrev pub DueForReadScripts : PlacedSource →
+    (file : List ℕ) (said : ScriptShape) (other : List ℕ) (said_too : ScriptShape) →
     VerdictShape → Type 0
-DueForSaid placed file said other said_too =
+DueForReadScripts placed file said other said_too =
     DueThen (ScriptFollowed placed file said) (λ one.
     DueThen (ScriptFollowed placed other said_too) (λ two. DueForRuns placed file said one other said_too two))
 
@@ -153,7 +154,7 @@ abbrev pub DueForScripts : (file script other script_too : List ℕ) → PlacedS
 DueForScripts file script other script_too placed =
     DueThen (ScriptRead file script (code_of placed)) (λ said.
     DueThen (ScriptRead other script_too (code_of placed)) (λ said_too.
-    DueForSaid placed file said other said_too))
+    DueForReadScripts placed file said other said_too))
 
 -- hosts make both scripts happen; the tree is that of some program
 abbrev pub DueForCompare : (file script other script_too : List ℕ) → PlacedSource → VerdictShape → Type 0

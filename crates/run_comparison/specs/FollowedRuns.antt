@@ -23,9 +23,10 @@ first_late (Some line) later = Some line
 first_late None later = Some later
 
 -- what is kept after one more event, that happens in this world
-pub data IsAdded (code : CodeShape) (world : WorldShape) (one : ℕ × Event) (run : Followed) : Followed → Type 0 where
-  hidden : IsSecret code world one.1 → IsAdded code world one run run
+pub data IsEventAdded (code : CodeShape) (world : WorldShape) (one : ℕ × Event) (run : Followed) : Followed →
+    Type 0 where
+  hidden : IsSecret code world one.1 → IsEventAdded code world one run run
   prompt : ¬ IsSecret code world one.1 → IsQuiet code world →
-      IsAdded code world one run (record { seen = run.seen ++ one ∷ []; late = run.late; last = run.last })
-  untimely : ¬ IsSecret code world one.1 → ¬ IsQuiet code world → IsAdded code world one run
+      IsEventAdded code world one run (record { seen = run.seen ++ one ∷ []; late = run.late; last = run.last })
+  untimely : ¬ IsSecret code world one.1 → ¬ IsQuiet code world → IsEventAdded code world one run
       (record { seen = run.seen ++ one ∷ []; late = first_late run.late one.0; last = run.last })

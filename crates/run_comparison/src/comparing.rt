@@ -7,7 +7,7 @@ ghost use Rattle.host_code.specs.Code.{CodeShape};
 ghost use Rattle.net_world.specs.Fits.{WorldFits, world_of};
 ghost use Rattle.std.specs.String.{string_bytes};
 ghost use Rattle.net_world.specs.World.{WorldShape};
-ghost use Rattle.net_world.specs.Released.{AreAlike};
+ghost use Rattle.net_world.specs.Released.{OneIsFront};
 ghost use Rattle.run_comparison.specs.Compare.{Compared, DifferAt, GoApart, IsFirstUnlike, IsPromptRun};
 ghost use Rattle.run_comparison.specs.Compare.{SameBits, SameEvents, SameValues, StartAlike, StartsUnlike, agree_text};
 ghost use Rattle.run_comparison.specs.Compare.{differ_text};
@@ -127,7 +127,7 @@ pub fn same_events(alloc: Global, name: &str, one: &Seen<'_>, other: &Seen<'_>) 
 /// The line of the first list on which the events go apart.
 fn going_apart(one: &[&(u32, Event)], other: &[&(u32, Event)]) -> Option<u32>
     ensures { MatchOption result
-        (AreAlike (events_in (map (λ it. it.now) one.now)) (events_in (map (λ it. it.now) other.now)))
+        (OneIsFront (events_in (map (λ it. it.now) one.now)) (events_in (map (λ it. it.now) other.now)))
         (GoApart (map (λ it. it.now) one.now) (map (λ it. it.now) other.now)) }
 {
     for place in 0..one.len().min(other.len()) {
@@ -209,7 +209,7 @@ fn first_difference(
     one: &[(HostId, HostId, Message)],
     other: &[(HostId, HostId, Message)],
 ) -> Option<usize>
-    ensures { MatchOption result (AreAlike one.now other.now) (DifferAt one.now other.now) }
+    ensures { MatchOption result (OneIsFront one.now other.now) (DifferAt one.now other.now) }
 {
     for place in 0..one.len().min(other.len()) {
         if !is_same_sent(&one[place], &other[place]) {

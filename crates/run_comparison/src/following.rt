@@ -6,7 +6,7 @@ ghost use Rattle.net_world.specs.Steps.{HaveMade};
 ghost use Rattle.net_world.specs.Released.{AreReleased, Releases};
 ghost use Rattle.net_world.specs.World.{WorldShape};
 ghost use Rattle.run_comparison.specs.Followed.{IsFollowed, EventsFollowed};
-ghost use Rattle.run_comparison.specs.FollowedRuns.{IsAdded, first_late, run_of, run_with};
+ghost use Rattle.run_comparison.specs.FollowedRuns.{IsEventAdded, first_late, run_of, run_with};
 ghost use Rattle.front_end.specs.Loading.{EndsAs};
 ghost use Rattle.net_world.specs.Replay.{IsReplayError, events_in};
 
@@ -75,7 +75,7 @@ impl<'a> Seen<'a> {
         said: &'a (u32, Event),
     ) -> Result<(), OutOfMemory>
         requires { WorldFits code.now world.now }
-        ensures { OnOk result ((last : WorldShape) → IsAdded code.now (world_of world.now) said.now
+        ensures { OnOk result ((last : WorldShape) → IsEventAdded code.now (world_of world.now) said.now
             (run_with self.old last) (run_with self.new last)) }
     {
         if world.secret(code, &said.1) {

@@ -8,7 +8,7 @@ use Rattle.js_base.specs.declared.ids.EntryId.{EntryId}
 use Rattle.ics_stack.specs.declared.stack.StackEntry.{StackEntry}
 use Rattle.host_code.specs.Code.{CodeShape, instruction_at}
 use Rattle.host_code.specs.Thread.{ThreadShape}
-use Rattle.host_core.specs.Host.{HostShape}
+use Rattle.host_core.specs.Host.{HostState}
 use Rattle.event_text.specs.declared.event.Event.{Event}
 use Rattle.event_text.specs.declared.event.Event.TheVariants.{Take, Turn, Act}
 use Rattle.net_world.specs.Fits.{ShapeFits}
@@ -19,7 +19,7 @@ use Rattle.run_rows.specs.declared.row.Change.{Change}
 use Rattle.run_rows.specs.declared.row.What.{What}
 use Rattle.run_rows.specs.declared.row.What.TheVariants as what
 use Rattle.run_rows.specs.Rows.{IsWhat}
-use Rattle.run_rows.specs.Stacks.{HasChanged, IsStackStep, IsFollowed, AreStacks, entries_in, entries_of, stack_at}
+use Rattle.run_rows.specs.Stacks.{HasChanged, IsStackStep, IsStackChange, AreStacks, entries_in, entries_of, stack_at}
 use Rattle.run_rows.specs.Stacks.{pushed_in, instruction_pushes}
 use Rattle.run_rows.proofs.AskedIn.{same_pushes}
 use Rattle.run_rows.specs.Stacks.{HaveFirstStacks, first_stack}
@@ -37,7 +37,7 @@ ok_both (Err e) P Q R both one other = tt
 -- ---- one stack
 
 changed : (pushes : Option EntryId) (before after : List StackEntry) (old new : List EntryId) (did : Change) →
-    IsStackStep pushes before after → IsFollowed pushes (length before) (length after) old new did →
+    IsStackStep pushes before after → IsStackChange pushes (length before) (length after) old new did →
     entries_of before ≡ old → HasChanged before after did × (entries_of after ≡ new)
 changed pushes before after old new did (inl same) follows is =
     let it = follows.same (ap length (sym same)) in
@@ -57,8 +57,8 @@ changed pushes before after old new did (inr (inr (top, less))) follows is =
 
 -- the states of an event's host
 pub record Moves (world next : WorldShape) (host : HostId) (pushes : Option EntryId) : Type 0 where
-  pub before : HostShape
-  pub after : HostShape
+  pub before : HostState
+  pub after : HostState
   pub was : state_at world host ≡ Some before
   pub is : state_at next host ≡ Some after
   pub steps : IsStackStep pushes before.entries after.entries
@@ -110,35 +110,35 @@ moves code world next (Act from to made) found fits step is = record {
 
 -- ---- all stacks
 
-stands : (world : WorldShape) (stacks : List (List EntryId)) (host : HostId) (state : HostShape) →
+stands : (world : WorldShape) (stacks : List (List EntryId)) (host : HostId) (state : HostState) →
     AreStacks world stacks → state_at world host ≡ Some state →
     (host.0 < length stacks) × (entries_of state.entries ≡ stack_at stacks host)
 stands world stacks host state are is =
-    subst (λ (o : Option HostShape). IfSome o (λ one.
+    subst (λ (o : Option HostState). IfSome o (λ one.
     (host.0 < length stacks) × (entries_of one.entries ≡ stack_at stacks host))) is (are host)
 
 follow_all : (code : CodeShape) (world next : WorldShape) (event : Event) (stacks : List (List EntryId))
-    (new : List EntryId) (after : HostShape) → IsStep code world event next → AreStacks world stacks →
+    (new : List EntryId) (after : HostState) → IsStep code world event next → AreStacks world stacks →
     (mover event).0 < length stacks → state_at next (mover event) ≡ Some after → entries_of after.entries ≡ new →
     AreStacks next (slice_set stacks (mover event).0 new)
 follow_all code world next event stacks new after step are within is same host =
     let host_is = mover event in
     let all = slice_set stacks host_is.0 new in
     let long : length all ≡ length stacks = length-set stacks host_is.0 new in
-    let P : HostId → HostShape → Type 0 =
+    let P : HostId → HostState → Type 0 =
     λ h one. (h.0 < length all) × (entries_of one.entries ≡ stack_at all h) in
     elim (eqb_tells host.0 host_is.0) [
       | inl at ↦
           subst (λ (h : HostId). IfSome (state_at next h) (P h)) (sym (same_id host host_is at.1))
-          (subst (λ (o : Option HostShape). IfSome o (P host_is)) (sym is)
+          (subst (λ (o : Option HostState). IfSome o (P host_is)) (sym is)
           (omega (arith, long, within), same ∙ sym (stack_put stacks host_is new within)))
       | inr apart ↦
-          subst (λ (o : Option HostShape). IfSome o (P host))
+          subst (λ (o : Option HostState). IfSome o (P host))
           (sym (ap given (others_stay code world next event host step apart.1)))
           (kept (state_at world host) host all stacks long (stack_beside stacks host_is host new apart.1) (are host))
     ]
   where
-    kept : (o : Option HostShape) (h : HostId) (all some : List (List EntryId)) → length all ≡ length some →
+    kept : (o : Option HostState) (h : HostId) (all some : List (List EntryId)) → length all ≡ length some →
         stack_at all h ≡ stack_at some h →
         IfSome o (λ one. (h.0 < length some) × (entries_of one.entries ≡ stack_at some h)) →
         IfSome o (λ one. (h.0 < length all) × (entries_of one.entries ≡ stack_at all h))
@@ -152,7 +152,7 @@ pub did_after : (code : CodeShape) (world next : WorldShape) (event : Event) (fo
     depth ≡ length (entries_in (state_at world (mover event))) →
     later ≡ length (entries_in (state_at next (mover event))) →
     ((mover event).0 < length stacks →
-    IsFollowed (pushed_in code found) depth later (stack_at stacks (mover event)) (stack_at new (mover event)) did) →
+    IsStackChange (pushed_in code found) depth later (stack_at stacks (mover event)) (stack_at new (mover event)) did) →
     ((mover event).0 < length stacks → new ≡ slice_set stacks (mover event).0 (stack_at new (mover event))) →
     HasChanged (entries_in (state_at world (mover event))) (entries_in (state_at next (mover event))) did
     × AreStacks next new
@@ -162,9 +162,9 @@ did_after code world next event found did stacks new depth later fits step is ar
     let stood = stands world stacks host moved.before are moved.was in
     let was : entries_in (state_at world host) ≡ moved.before.entries = ap entries_in moved.was in
     let now : entries_in (state_at next host) ≡ moved.after.entries = ap entries_in moved.is in
-    let counted = subst (λ (n : ℕ). IsFollowed (pushed_in code found) n (length moved.after.entries)
+    let counted = subst (λ (n : ℕ). IsStackChange (pushed_in code found) n (length moved.after.entries)
     (stack_at stacks host) (stack_at new host) did) (deep ∙ ap length was)
-    (subst (λ (n : ℕ). IsFollowed (pushed_in code found) depth n (stack_at stacks host) (stack_at new host) did)
+    (subst (λ (n : ℕ). IsStackChange (pushed_in code found) depth n (stack_at stacks host) (stack_at new host) did)
     (deeper ∙ ap length now) (follows stood.0)) in
     let both = changed (pushed_in code found) moved.before.entries moved.after.entries (stack_at stacks host)
     (stack_at new host) did moved.steps counted stood.1 in (
@@ -181,12 +181,12 @@ pub are_first : (code : CodeShape) (world : WorldShape) (stacks : List (List Ent
     AreStacks world stacks
 are_first code world stacks fits have long first host = at (state_at world host) refl
   where
-    at : (o : Option HostShape) → state_at world host ≡ o →
+    at : (o : Option HostState) → state_at world host ≡ o →
         IfSome o (λ state. (host.0 < length stacks) × (entries_of state.entries ≡ stack_at stacks host))
     at None is = tt
     at (Some state) is =
         let within : host.0 < length code.hosts = numbered_host code world host state fits is in
         let own : entries_of state.entries ≡ first_stack code host =
-        subst (λ (o : Option HostShape). IfSome o (λ one. entries_of one.entries ≡ first_stack code host)) is
+        subst (λ (o : Option HostState). IfSome o (λ one. entries_of one.entries ≡ first_stack code host)) is
         (have host) in
         (omega arith, own ∙ sym (first host within))

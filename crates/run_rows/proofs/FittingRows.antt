@@ -4,7 +4,7 @@ use Rattle.std.proofs.Common.{arith}
 use Rattle.std.specs.Prelude.{All, IfSome, IsSome, IsSomeAnd, slice_get}
 use Rattle.js_base.specs.declared.ids.HostId.{HostId}
 use Rattle.host_code.specs.Code.{CodeShape, part_of, instruction_at}
-use Rattle.host_core.specs.Host.{HostShape}
+use Rattle.host_core.specs.Host.{HostState}
 use Rattle.host_core.specs.Fits.{RunningFits}
 use Rattle.host_code.specs.Thread.{ThreadShape}
 use Rattle.event_text.specs.declared.event.Event.{Event}
@@ -31,7 +31,7 @@ what_fits code world (Turn host) found fits is =
     let state = some_there (state_at world host) _ is in
     let thread = some_there state.0.running _ state.2 in
     let own : IsStateOf code host state.0 =
-    subst (λ (o : Option HostShape). IfSome o (IsStateOf code host)) state.1 (fits.states host) in
+    subst (λ (o : Option HostState). IfSome o (IsStateOf code host)) state.1 (fits.states host) in
     let runs : RunningFits code state.0.me thread.0 =
     subst (λ (o : Option ThreadShape). IfSome o (RunningFits code state.0.me)) thread.1 own.fits.running in
     let there : IsSome (instruction_at code state.0.me thread.0.at) =

@@ -6,8 +6,8 @@ use Rattle.js_base.specs.declared.ids.HostId.{HostId}
 use Rattle.host_code.specs.declared.message.Message.{Message}
 use Rattle.host_code.specs.Code.{CodeShape}
 use Rattle.host_code.specs.Thread.{ThreadShape}
-use Rattle.host_core.specs.Host.{HostShape, Outcome}
-use Rattle.host_core.specs.Taking.{Passes, IsTaking}
+use Rattle.host_core.specs.Host.{HostState, Outcome}
+use Rattle.host_core.specs.Taking.{PassesCheck, IsTaking}
 use Rattle.event_text.specs.declared.event.BadMessage.{BadMessage}
 use Rattle.event_text.specs.declared.event.Event.{Event}
 use Rattle.event_text.specs.declared.event.Event.TheVariants.{Take, Turn, Act}
@@ -26,24 +26,24 @@ use Rattle.run_rows.proofs.TurnTraces.{turn_ignores, TurnIgnores}
 abbrev pub SameCount : WorldShape → WorldShape → HostId → Type 0
 SameCount world next host = (seen_in (state_at next host)).ignored ≡ (seen_in (state_at world host)).ignored
 
-same_count : (world next : WorldShape) (host : HostId) (before after : HostShape) → state_at world host ≡ Some before →
+same_count : (world next : WorldShape) (host : HostId) (before after : HostState) → state_at world host ≡ Some before →
     state_at next host ≡ Some after → (SameCount world next host ↔ (after.ignored ≡ before.ignored))
 same_count world next host before after was is =
     let one : (seen_in (state_at world host)).ignored ≡ before.ignored =
-    ap (λ (o : Option HostShape). (seen_in o).ignored) was in
+    ap (λ (o : Option HostState). (seen_in o).ignored) was in
     let other : (seen_in (state_at next host)).ignored ≡ after.ignored =
-    ap (λ (o : Option HostShape). (seen_in o).ignored) is in
+    ap (λ (o : Option HostState). (seen_in o).ignored) is in
     (λ same. sym other ∙ same ∙ one, λ same. other ∙ same ∙ sym one)
 
 -- what the law of counts says of one message
 abbrev pub Seen : CodeShape → Type 0
-Seen code = (host : HostShape) (from : HostId) (taken : Message) (outcome : Outcome) →
-    IsTaking code host from taken outcome → ((outcome.state.ignored ≡ host.ignored) ↔ Passes code host from taken)
+Seen code = (host : HostState) (from : HostId) (taken : Message) (outcome : Outcome) →
+    IsTaking code host from taken outcome → ((outcome.state.ignored ≡ host.ignored) ↔ PassesCheck code host from taken)
 
 chain : {A B C D : Type 0} → (A ↔ B) → (B ↔ C) → (C ↔ D) → (A ↔ D)
 chain one two three = (λ a. three.0 (two.0 (one.0 a)), λ d. one.1 (two.1 (three.1 d)))
 
-ignored_turn : (code : CodeShape) (host : HostShape) (outcome : Outcome) (passes : Bool) →
+ignored_turn : (code : CodeShape) (host : HostState) (outcome : Outcome) (passes : Bool) →
     TurnIgnores code host outcome → (IsTrue passes ↔ (outcome.state.ignored ≡ host.ignored)) →
     let found : Option Why = if passes then None else Some why.NotOnTop in
     (TurnsWrong code host × (found ≡ Some why.NotOnTop)) ⊎ (¬ TurnsWrong code host × (found ≡ None))
@@ -75,19 +75,19 @@ turned code world next host step found passes reason is tells counted =
     (λ is. counts.0 (counted.0 is), λ same. counted.1 (counts.1 same))))
 
 -- the host of a state has its number
-pub numbered : (code : CodeShape) (world : WorldShape) (host : HostId) (state : HostShape) → ShapeFits code world →
+pub numbered : (code : CodeShape) (world : WorldShape) (host : HostId) (state : HostState) → ShapeFits code world →
     state_at world host ≡ Some state → state.me ≡ host
 numbered code world host state fits obeys =
     let own : IsStateOf code host state =
-    subst (λ (o : Option HostShape). IfSome o (IsStateOf code host)) obeys (fits.states host) in
+    subst (λ (o : Option HostState). IfSome o (IsStateOf code host)) obeys (fits.states host) in
     own.me
 
 -- and is one of the code's
-pub numbered_host : (code : CodeShape) (world : WorldShape) (host : HostId) (state : HostShape) → ShapeFits code world →
+pub numbered_host : (code : CodeShape) (world : WorldShape) (host : HostId) (state : HostState) → ShapeFits code world →
     state_at world host ≡ Some state → host.0 < length code.hosts
 numbered_host code world host state fits obeys =
     let own : IsStateOf code host state =
-    subst (λ (o : Option HostShape). IfSome o (IsStateOf code host)) obeys (fits.states host) in
+    subst (λ (o : Option HostState). IfSome o (IsStateOf code host)) obeys (fits.states host) in
     subst (λ (h : HostId). h.0 < length code.hosts) own.me own.fits.me
 
 took : (code : CodeShape) (world next : WorldShape) (from to : HostId) (place : ℕ)

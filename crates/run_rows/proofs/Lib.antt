@@ -9,7 +9,7 @@ mod RowLaws
 mod SeenAfter
 mod SlotLists
 mod StackLists
-mod StatesOf
-mod TakenOff
-mod Tellings
-mod TurnTraces
+pub mod StatesOf
+pub mod TakenOff
+pub mod Tellings
+pub mod TurnTraces

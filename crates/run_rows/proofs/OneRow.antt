@@ -8,7 +8,7 @@ use Rattle.ics_stack.specs.declared.stack.StackEntry.{StackEntry}
 use Rattle.js_base.specs.declared.ids.EntryId.{EntryId}
 use Rattle.host_code.specs.declared.message.Message.{Message}
 use Rattle.host_code.specs.Code.{CodeShape}
-use Rattle.host_core.specs.Host.{HostShape}
+use Rattle.host_core.specs.Host.{HostState}
 use Rattle.event_text.specs.declared.event.Event.{Event}
 use Rattle.event_text.specs.declared.event.Event.TheVariants.{Take, Turn, Act}
 use Rattle.net_world.specs.Flying.{Flight, Flying, with_flights}
@@ -22,7 +22,7 @@ use Rattle.run_rows.specs.declared.row.Change.{Change}
 use Rattle.run_rows.specs.declared.row.Change.TheVariants as change
 use Rattle.run_rows.specs.declared.row.Row.{Row}
 use Rattle.run_rows.specs.declared.row.What.{What}
-use Rattle.run_rows.specs.Rows.{Moment, IsWhat, IsIgnoring, IsTelling, IsRow, IsSending, IsPictured, moment_after}
+use Rattle.run_rows.specs.Rows.{Moment, IsWhat, IsIgnoring, IsTelling, IsRunRow, IsSending, IsPictured, moment_after}
 use Rattle.run_rows.specs.Senders.{IsPosting, flying_left}
 use Rattle.run_rows.specs.Stacks.{HasChanged}
 use Rattle.run_rows.proofs.Postings.{cell_same, cell_other}
@@ -44,7 +44,7 @@ one_what world (Take from to place) first second one other =
 one_what world (Act from to made) first second one other = one ∙ sym other
 
 abbrev pub OneWhy : CodeShape → Type 0
-OneWhy code = (host : HostShape) (from : HostId) (taken : Message) (one other : Option Why) →
+OneWhy code = (host : HostState) (from : HostId) (taken : Message) (one other : Option Why) →
     IsWhy code host from taken one → IsWhy code host from taken other → one ≡ other
 
 either_way : {P : Type 0} (first second wrong right : Option Why) → (P × (first ≡ wrong)) ⊎ (¬ P × (first ≡ right)) →
@@ -127,7 +127,7 @@ one_posting world event next (Some to) (Some other) (flight, more) (letter, too)
 -- ---- rows
 
 one_row : (code : CodeShape) (at : Moment) (one : ℕ × Event) (next : WorldShape) (first second : Row) → OneWhy code →
-    IsRow code at.world one next first → IsSending at one.1 next first → IsRow code at.world one next second →
+    IsRunRow code at.world one next first → IsSending at one.1 next first → IsRunRow code at.world one next second →
     IsSending at one.1 next second → first ≡ second
 one_row code at one next first second why is sends too sends_too =
     let line = is.line ∙ sym too.line in
@@ -160,7 +160,7 @@ one_list code at last ends [] rows others why one other = (one.0 ∙ sym other.0
 one_list code at last ends (event ∷ said) rows others why
     (next, row, rest, step, is, sends, same_rows, behind) (after, second, more, leads, has, posts, same_others, later) =
     let world : after ≡ next = one_step code at.world after next event.1 leads step in
-    let has_too = subst (λ (w : WorldShape). IsRow code at.world event w second) world has in
+    let has_too = subst (λ (w : WorldShape). IsRunRow code at.world event w second) world has in
     let posts_too = subst (λ (w : WorldShape). IsSending at event.1 w second) world posts in
     let first : row ≡ second = one_row code at event next row second why is sends has_too posts_too in
     let moment : moment_after at event.1 after second.posts ≡ moment_after at event.1 next row.posts =

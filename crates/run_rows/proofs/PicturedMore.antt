@@ -7,7 +7,7 @@ use Rattle.host_code.specs.Code.{CodeShape}
 use Rattle.net_world.specs.World.{WorldShape, IsStep, IsRun}
 use Rattle.net_world.specs.Replay.{events_in}
 use Rattle.run_rows.specs.declared.row.Row.{Row}
-use Rattle.run_rows.specs.Rows.{Moment, IsRow, IsSending, IsPictured, moment_after}
+use Rattle.run_rows.specs.Rows.{Moment, IsRunRow, IsSending, IsPictured, moment_after}
 
 -- events that have rows have happened
 pub pictured_ran : (code : CodeShape) (at : Moment) (said : List (ℕ × Event)) (rows : List Row) (last : Moment) →
@@ -18,7 +18,7 @@ pictured_ran code at (one ∷ said) rows last (next, row, others, step, is, send
 
 one_more : (code : CodeShape) (at middle : Moment) (next : WorldShape) (said : List (ℕ × Event)) (one : ℕ × Event)
     (rows : List Row) (row : Row) → IsPictured code at said rows middle → IsStep code middle.world one.1 next →
-    IsRow code middle.world one next row → IsSending middle one.1 next row →
+    IsRunRow code middle.world one next row → IsSending middle one.1 next row →
     IsPictured code at (said ++ one ∷ []) (rows ++ row ∷ []) (moment_after middle one.1 next row.posts)
 one_more code at middle next [] one rows row is step its sends =
     let start = sym is.1 in (
@@ -26,7 +26,7 @@ one_more code at middle next [] one rows row is step its sends =
       row,
       [],
       subst (λ (m : Moment). IsStep code m.world one.1 next) start step,
-      subst (λ (m : Moment). IsRow code m.world one next row) start its,
+      subst (λ (m : Moment). IsRunRow code m.world one next row) start its,
       subst (λ (m : Moment). IsSending m one.1 next row) start sends,
       ap (λ (before : List Row). before ++ row ∷ []) is.0,
       (refl, ap (λ (m : Moment). moment_after m one.1 next row.posts) is.1),
@@ -45,7 +45,7 @@ one_more code at middle next (first ∷ said) one rows row (after, second, other
 
 pub pictured_more : (code : CodeShape) (at middle : Moment) (next : WorldShape) (said : List (ℕ × Event)) (i : ℕ)
     (d : ℕ × Event) (rows : List Row) (row : Row) → i < length said → IsPictured code at (take i said) rows middle →
-    IsStep code middle.world (get_or said i d).1 next → IsRow code middle.world (get_or said i d) next row →
+    IsStep code middle.world (get_or said i d).1 next → IsRunRow code middle.world (get_or said i d) next row →
     IsSending middle (get_or said i d).1 next row →
     IsPictured code at (take (i + 1) said) (rows ++ row ∷ [])
     (moment_after middle (get_or said i d).1 next row.posts)

@@ -9,7 +9,7 @@ use Rattle.js_base.specs.declared.ids.EntryId.{EntryId}
 use Rattle.ics_stack.specs.declared.stack.StackEntry.{StackEntry}
 use Rattle.host_decl.specs.Hosts as declared_hosts
 use Rattle.host_code.specs.Code.{CodeShape, halt, entry_at}
-use Rattle.host_core.specs.Host.{HostShape, after_push, new_token}
+use Rattle.host_core.specs.Host.{HostState, after_push, new_token}
 use Rattle.host_core.specs.Start.{host_at_start, idle_host, root_host, main_frame, last_token}
 use Rattle.event_text.specs.declared.event.Event.{Event}
 use Rattle.net_world.specs.Told.{SentMessage}
@@ -106,7 +106,7 @@ same before after (change.TakenOff entry) (one, is, it) stays = absurd (longer a
 
 -- ---- the first world
 
-stack_if : (code : CodeShape) (idle : HostShape) (root : Bool) → idle.entries ≡ [] →
+stack_if : (code : CodeShape) (idle : HostState) (root : Bool) → idle.entries ≡ [] →
     entries_of (if root then root_host code idle else idle).entries ≡ (if root then halt ∷ [] else [])
 stack_if code idle true none =
     ap entries_of (entered (after_push idle halt main_frame (last_token idle.me)) (entry_at code code.main) main_frame

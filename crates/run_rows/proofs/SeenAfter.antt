@@ -5,16 +5,16 @@ use Rattle.std.specs.Prelude.{◌↔◌, ◌==◌, IsTrue, IsSome, IsSomeAnd}
 use Rattle.std.proofs.lemmas.Bool.{false≢true, lt-ltb, ltb-true}
 use Rattle.std.proofs.lemmas.Bool.Decides.{eqb_tells}
 use Rattle.js_base.specs.declared.ids.HostId.{HostId}
-use Rattle.host_core.specs.Host.{HostShape}
+use Rattle.host_core.specs.Host.{HostState}
 use Rattle.net_world.specs.World.{WorldShape, has_halted}
 use Rattle.run_rows.specs.Rows.{seen_in, runs_in, waits_in}
 use Rattle.run_rows.specs.Stacks.{entries_in}
 
-pub runs_is : (host : Option HostShape) → (seen_in host).runs ≡ runs_in host
+pub runs_is : (host : Option HostState) → (seen_in host).runs ≡ runs_in host
 runs_is None = refl
 runs_is (Some host) = refl
 
-pub waits_is : (host : Option HostShape) → (seen_in host).waits ≡ waits_in host
+pub waits_is : (host : Option HostState) → (seen_in host).waits ≡ waits_in host
 waits_is None = refl
 waits_is (Some host) = refl
 
@@ -38,18 +38,18 @@ halts_now root other old next before now is same turns after was =
       λ both. turns.1 (after_too.1 both.0, λ it. both.1 (was.0 it)),
     )
 
-pub depth_is : (host : Option HostShape) → (seen_in host).depth ≡ length (entries_in host)
+pub depth_is : (host : Option HostState) → (seen_in host).depth ≡ length (entries_in host)
 depth_is None = refl
 depth_is (Some host) = refl
 
 -- ---- threads
 
-pub runs_there : (host : Option HostShape) →
+pub runs_there : (host : Option HostState) →
     (IsTrue (runs_in host) ↔ IsSomeAnd host (λ state. IsSome state.running))
 runs_there None = (λ is. false≢true is, λ none. absurd none)
 runs_there (Some host) = (λ is. is, λ is. is)
 
-pub waits_there : (host : Option HostShape) →
+pub waits_there : (host : Option HostState) →
     (IsTrue (waits_in host) ↔ IsSomeAnd host (λ state. 0 < length state.waiting))
 waits_there None = (λ is. false≢true is, λ none. absurd none)
 waits_there (Some host) = (ltb-true 0 (length host.waiting), lt-ltb 0 (length host.waiting))

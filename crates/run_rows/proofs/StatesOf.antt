@@ -3,7 +3,7 @@ use Rattle.std.proofs.Common.{◌≡◌, ◌∙◌, ℕ, List, Option, Some, Non
 use Rattle.std.specs.Prelude.{IsSomeAnd, slice_get, slice_set}
 use Rattle.js_base.specs.declared.ids.HostId.{HostId}
 use Rattle.host_code.specs.Code.{CodeShape}
-use Rattle.host_core.specs.Host.{HostShape}
+use Rattle.host_core.specs.Host.{HostState}
 use Rattle.event_text.specs.declared.event.BadMessage.{BadMessage}
 use Rattle.event_text.specs.declared.event.Event.{Event}
 use Rattle.event_text.specs.declared.event.Event.TheVariants.{Take, Turn, Act}
@@ -49,7 +49,7 @@ after_act code world next from to made step =
 
 -- the state of an event's host before it
 pub moved_state : (code : CodeShape) (world next : WorldShape) (event : Event) → IsStep code world event next →
-    (state : HostShape) × (state_at world (mover event) ≡ Some state)
+    (state : HostState) × (state_at world (mover event) ≡ Some state)
 moved_state code world next (Take from to place) step = (step.state, step.obeys)
 moved_state code world next (Turn host) step = (step.state, step.obeys)
 moved_state code world next (Act from to made) step = (step.state, step.obeys)

@@ -13,8 +13,8 @@ use Rattle.host_code.specs.declared.instruction.Op.TheVariants as op
 use Rattle.host_code.specs.Messages.{MessageFits}
 use Rattle.host_code.specs.Code.{CodeShape, instruction_at}
 use Rattle.host_code.specs.declared.message.Message.{Message}
-use Rattle.host_core.specs.Host.{HostShape}
-use Rattle.host_core.specs.Taking.{Passes}
+use Rattle.host_core.specs.Host.{HostState}
+use Rattle.host_core.specs.Taking.{PassesCheck}
 use Rattle.event_text.specs.declared.event.Event.{Event}
 use Rattle.event_text.specs.declared.event.Event.TheVariants.{Take, Turn, Act}
 use Rattle.net_world.specs.Told.{SentMessage, message_made}
@@ -50,12 +50,12 @@ WhatFits code (what.Act from to made) = ⊤
 -- ---- what was ignored
 
 -- the thread gives its token back on its own host, where it is not that of the top entry
-abbrev pub GivesWrong : HostShape → Op → Option Token → Type 0
+abbrev pub GivesWrong : HostState → Op → Option Token → Type 0
 GivesWrong host op.Back (Some held) = (held.host.0 ≡ host.me.0) × ¬ (top_token host.entries ≡ Some held)
 GivesWrong host operation held = ⊥
 
 -- the running thread of a host does so at its turn
-abbrev pub TurnsWrong : CodeShape → HostShape → Type 0
+abbrev pub TurnsWrong : CodeShape → HostState → Type 0
 TurnsWrong code host =
     IsSomeAnd host.running (λ thread.
     IsSomeAnd (instruction_at code host.me thread.at) (λ instruction. GivesWrong host instruction.op thread.held))
@@ -82,18 +82,18 @@ IsTelling before after (Some number) =
 
 -- ---- the threads of a host
 
-abbrev pub runs_in : Option HostShape → Bool
+abbrev pub runs_in : Option HostState → Bool
 runs_in None = false
 runs_in (Some host) = is_some host.running
 
-abbrev pub waits_in : Option HostShape → Bool
+abbrev pub waits_in : Option HostState → Bool
 waits_in None = false
 waits_in (Some host) = nat_lt 0 (length host.waiting)
 
 -- ---- a row
 
 -- this is the row of an event with its line, which happens in a world and leaves the next
-pub record IsRow (code : CodeShape) (world : WorldShape) (said : ℕ × Event) (next : WorldShape) (row : Row) :
+pub record IsRunRow (code : CodeShape) (world : WorldShape) (said : ℕ × Event) (next : WorldShape) (row : Row) :
     Type 0 where
   pub line : row.line ≡ said.0
   pub what : IsWhat world said.1 row.what
@@ -133,17 +133,17 @@ abbrev pub IsPictured : CodeShape → Moment → List (ℕ × Event) → List Ro
 IsPictured code at [] rows last = (rows ≡ []) × (at ≡ last)
 IsPictured code at (one ∷ said) rows last =
     (next : WorldShape) × (row : Row) × (others : List Row)
-    × IsStep code at.world one.1 next × IsRow code at.world one next row × IsSending at one.1 next row
+    × IsStep code at.world one.1 next × IsRunRow code at.world one next row × IsSending at one.1 next row
     × (rows ≡ row ∷ others) × IsPictured code (moment_after at one.1 next row.posts) said others last
 
 -- ---- in the program
 
 -- the place of the next instruction of a host
-abbrev pub place_in : Option HostShape → Option ℕ
+abbrev pub place_in : Option HostState → Option ℕ
 place_in None = None
 place_in (Some host) = option_map (λ thread. thread.at) host.running
 
-abbrev pub seen_in : Option HostShape → Seen
+abbrev pub seen_in : Option HostState → Seen
 seen_in None = record { ignored = 0; depth = 0; runs = false; waits = false }
 seen_in (Some host) =
     record {
@@ -154,7 +154,7 @@ seen_in (Some host) =
     }
 
 -- this is what is seen before an event, with this root host
-pub record IsBefore (root : HostId) (world : WorldShape) (event : Event) (before : Before) : Type 0 where
+pub record IsSeenBefore (root : HostId) (world : WorldShape) (event : Event) (before : Before) : Type 0 where
   pub what : IsWhat world event before.what
   pub host : before.host ≡ seen_in (state_at world (mover event))
   pub sent : before.sent ≡ length world.sent
@@ -165,7 +165,8 @@ pub record IsBefore (root : HostId) (world : WorldShape) (event : Event) (before
 abbrev pub IsReason : CodeShape → What → Bool → Option Why → Type 0
 IsReason code (what.Turn host at) passes found = found ≡ (if passes then None else Some why.NotOnTop)
 IsReason code (what.Take from to taken) passes found =
-    (host : HostShape) → host.me ≡ to → (IsTrue passes ↔ Passes code host from taken) → IsWhy code host from taken found
+    (host : HostState) → host.me ≡ to → (IsTrue passes ↔ PassesCheck code host from taken) →
+    IsWhy code host from taken found
 IsReason code (what.Act from to made) passes found =
-    (host : HostShape) (taken : Message) (tokens : List Token) → host.me ≡ to → message_made tokens made ≡ Some taken →
-    (IsTrue passes ↔ Passes code host from taken) → IsWhy code host from taken found
+    (host : HostState) (taken : Message) (tokens : List Token) → host.me ≡ to → message_made tokens made ≡ Some taken →
+    (IsTrue passes ↔ PassesCheck code host from taken) → IsWhy code host from taken found

@@ -10,7 +10,7 @@ use Rattle.host_code.specs.declared.instruction.Op.TheVariants as op
 use Rattle.host_code.specs.declared.message.Message.{Message}
 use Rattle.host_code.specs.declared.message.Message.TheVariants as message
 use Rattle.host_code.specs.Code.{CodeShape, halt, instruction_at}
-use Rattle.host_core.specs.Host.{HostShape}
+use Rattle.host_core.specs.Host.{HostState}
 use Rattle.event_text.specs.declared.event.BadMessage.{BadMessage}
 use Rattle.event_text.specs.declared.event.BadMessage.TheVariants as bad
 use Rattle.net_world.specs.World.{WorldShape, state_at}
@@ -19,7 +19,7 @@ use Rattle.run_rows.specs.declared.row.Change.TheVariants as change
 use Rattle.run_rows.specs.declared.row.What.{What}
 use Rattle.run_rows.specs.declared.row.What.TheVariants as what
 
-abbrev pub entries_in : Option HostShape → List StackEntry
+abbrev pub entries_in : Option HostState → List StackEntry
 entries_in None = []
 entries_in (Some host) = host.entries
 
@@ -84,7 +84,7 @@ AreStacks world stacks =
     (host.0 < length stacks) × (entries_of state.entries ≡ stack_at stacks host))
 
 -- this is what an event did to a stack that had so many entries, and has so many now
-pub record IsFollowed (pushes : Option EntryId) (before after : ℕ) (old new : List EntryId) (did : Change) :
+pub record IsStackChange (pushes : Option EntryId) (before after : ℕ) (old new : List EntryId) (did : Change) :
     Type 0 where
   pub pushed : before < after → (entry : EntryId) → pushes ≡ Some entry →
       (did ≡ change.Pushed entry) × (new ≡ entry ∷ old)

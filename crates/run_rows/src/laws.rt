@@ -8,8 +8,8 @@ ghost use Rattle.ics_stack.specs.declared.stack.StackEntry.{StackEntry};
 ghost use Rattle.host_decl.specs.Hosts as declared_hosts;
 ghost use Rattle.host_code.specs.Code.{CodeShape};
 ghost use Rattle.host_code.specs.declared.message.Message.{Message};
-ghost use Rattle.host_core.specs.Host.{HostShape};
-ghost use Rattle.host_core.specs.Taking.{Passes};
+ghost use Rattle.host_core.specs.Host.{HostState};
+ghost use Rattle.host_core.specs.Taking.{PassesCheck};
 ghost use Rattle.event_text.specs.declared.event.Event.{Event};
 ghost use Rattle.event_text.specs.declared.event.Event.TheVariants.{Take, Act};
 ghost use Rattle.event_text.specs.declared.event.BadMessage.{BadMessage};
@@ -21,7 +21,7 @@ ghost use Rattle.net_world.specs.World.{WorldShape, IsRun, state_at, mover, toke
 ghost use Rattle.run_rows.specs.declared.row.Change.{Change};
 ghost use Rattle.run_rows.specs.declared.row.Change.TheVariants as change;
 ghost use Rattle.run_rows.specs.declared.row.Row.{Row};
-ghost use Rattle.run_rows.specs.Rows.{Moment, IsRow, IsPictured};
+ghost use Rattle.run_rows.specs.Rows.{Moment, IsRunRow, IsPictured};
 ghost use Rattle.run_rows.specs.Stacks.{HasChanged, HaveFirstStacks};
 
 use ignored_reasons::reason_laws;
@@ -40,14 +40,14 @@ pub fn row_laws()
     // Of a message that is taken there is a reason exactly where its check is false of the host's state, the sender and
     // the message.
     ensures take_ignored { (code : CodeShape) (world next : WorldShape) (line place : ℕ) (from to : HostId)
-        (state : HostShape) (flight : Flight) (row : Row) → IsRow code world (line, Take from to place) next row →
+        (state : HostState) (flight : Flight) (row : Row) → IsRunRow code world (line, Take from to place) next row →
         slice_get (world.flying from to) place ≡ Some flight → state_at world to ≡ Some state →
-        ((row.ignored ≡ None) ↔ Passes code state from flight.message) }
+        ((row.ignored ≡ None) ↔ PassesCheck code state from flight.message) }
     ensures act_ignored { (code : CodeShape) (world next : WorldShape) (line : ℕ) (from to : HostId)
-        (made : BadMessage) (state : HostShape) (taken : Message) (row : Row) →
-        IsRow code world (line, Act from to made) next row →
+        (made : BadMessage) (state : HostState) (taken : Message) (row : Row) →
+        IsRunRow code world (line, Act from to made) next row →
         message_made (tokens_sent world) made ≡ Some taken → state_at world to ≡ Some state →
-        ((row.ignored ≡ None) ↔ Passes code state from taken) }
+        ((row.ignored ≡ None) ↔ PassesCheck code state from taken) }
     // The numbers of what misbehaving hosts were sent count on, and none is left out.
     ensures told { (code : CodeShape) (at last : Moment) (said : List (ℕ × Event)) (rows : List Row) →
         IsPictured code at said rows last →
@@ -62,9 +62,9 @@ pub fn row_laws()
         after ≡ before → did ≡ change.Same }
     // After an event a thread runs on its host, or one waits there, exactly where the row says so.
     ensures runs { (code : CodeShape) (world next : WorldShape) (said : ℕ × Event) (row : Row) →
-        IsRow code world said next row → (IsTrue row.runs ↔ Runs next (mover said.1)) }
+        IsRunRow code world said next row → (IsTrue row.runs ↔ Runs next (mover said.1)) }
     ensures waits { (code : CodeShape) (world next : WorldShape) (said : ℕ × Event) (row : Row) →
-        IsRow code world said next row →
+        IsRunRow code world said next row →
         (IsTrue row.waits ↔ IsSomeAnd (state_at next (mover said.1)) (λ state. 0 < length state.waiting)) }
     // A world before its first event has the first stacks.
     ensures first { (code : CodeShape) (hosts : List declared_hosts.HostShape) (bad : ℕ) (store : List (List ℤ)) →

@@ -8,7 +8,7 @@ ghost use Rattle.net_world.specs.World.{WorldShape, IsStep, mover, state_at};
 ghost use Rattle.js_base.specs.declared.ids.HostId.{HostId};
 ghost use Rattle.run_rows.specs.Senders.{AreBeside, IsPosting, senders_after};
 ghost use Rattle.run_rows.specs.Stacks.{AreStacks, HasChanged, HaveFirstStacks, entries_in};
-ghost use Rattle.run_rows.specs.Rows.{IsBefore, IsPictured, IsRow, IsReason, WhatFits, first_moment};
+ghost use Rattle.run_rows.specs.Rows.{IsSeenBefore, IsPictured, IsRunRow, IsReason, WhatFits, first_moment};
 
 use crate::asking::asked_in;
 use crate::row::{Change, Row, What, keep};
@@ -48,11 +48,11 @@ fn row_after(
     marks: Marks,
 ) -> Row
     requires { WorldFits code.now world.now }
-    ensures row { (old : WorldShape) → ShapeFits code.now old → IsBefore code.now.root old event.now before.now →
+    ensures row { (old : WorldShape) → ShapeFits code.now old → IsSeenBefore code.now.root old event.now before.now →
         IsStep code.now old event.now (world_of world.now) →
         HasChanged (entries_in (state_at old (mover event.now)))
         (entries_in (state_at (world_of world.now) (mover event.now))) marks.change →
-        IsRow code.now old (line, event.now) (world_of world.now) result }
+        IsRunRow code.now old (line, event.now) (world_of world.now) result }
     ensures marks { (result.sent_by ≡ marks.sent_by) × (result.posts ≡ marks.posts) }
 {
     reason_laws();
@@ -81,7 +81,7 @@ fn change_after(
     stacks: &mut Stacks,
 ) -> Result<Change, OutOfMemory>
     ensures { IfOk result (λ change. (old : WorldShape) → ShapeFits code.now old →
-        IsBefore code.now.root old event.now before.now → IsStep code.now old event.now (world_of world.now) →
+        IsSeenBefore code.now.root old event.now before.now → IsStep code.now old event.now (world_of world.now) →
         AreStacks old stacks.old →
         HasChanged (entries_in (state_at old (mover event.now)))
         (entries_in (state_at (world_of world.now) (mover event.now))) change

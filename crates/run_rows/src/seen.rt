@@ -3,7 +3,7 @@
 ghost use Rattle.std.specs.Prelude.{◌≡◌, ◌↔◌, IsTrue, IfSome, IfNone, Some, length};
 ghost use Rattle.net_world.specs.Fits.{WorldFits, world_of};
 ghost use Rattle.net_world.specs.World.{state_at, refusal_of, not_there, mover};
-ghost use Rattle.run_rows.specs.Rows.{IsWhat, IsBefore, place_in, seen_in};
+ghost use Rattle.run_rows.specs.Rows.{IsWhat, IsSeenBefore, place_in, seen_in};
 
 use crate::row::What;
 use event_text::Event;
@@ -38,7 +38,7 @@ pub struct Before {
 
 /// What is seen before an event of a world, none where there is no such event.
 pub fn before_of(world: &World, event: &Event) -> Option<Before>
-    ensures before { IfSome result (IsBefore world.now.root (world_of world.now) event.now) }
+    ensures before { IfSome result (IsSeenBefore world.now.root (world_of world.now) event.now) }
     ensures none { IfNone result (refusal_of (world_of world.now) event.now ≡ Some not_there) }
 {
     let what = what_of(world, event)?;

@@ -4,7 +4,7 @@
 //! pushed stands in the event, and what is taken off was on top.
 
 ghost use Rattle.std.specs.Prelude.{◌≡◌, ◌<◌, ◌∷◌, IfOk, OnOk, length, reverse, slice_set};
-ghost use Rattle.run_rows.specs.Stacks.{IsFollowed, first_stack, stack_at, op_pushes, message_pushes, made_pushes};
+ghost use Rattle.run_rows.specs.Stacks.{IsStackChange, first_stack, stack_at, op_pushes, message_pushes, made_pushes};
 ghost use Rattle.run_rows.specs.Stacks.{pushed_in};
 ghost use Rattle.js_base.specs.declared.ids.HostId.{HostId};
 ghost use Rattle.run_rows.specs.declared.row.Change.TheVariants as change;
@@ -62,7 +62,7 @@ impl Stacks {
         after: u64,
     ) -> Result<Change, OutOfMemory>
         ensures change { IfOk result (λ change. host.0 < length self.old →
-            IsFollowed pushes before after (stack_at self.old host) (stack_at self.new host) change) }
+            IsStackChange pushes before after (stack_at self.old host) (stack_at self.new host) change) }
         ensures others { IfOk result (λ change. host.0 < length self.old →
             self.new ≡ slice_set self.old host.0 (stack_at self.new host)) }
     {
@@ -94,7 +94,7 @@ fn follow_one(
     after: u64,
 ) -> Result<Change, OutOfMemory>
     ensures { IfOk result
-        (IsFollowed pushes before after (reverse stack.old.items) (reverse stack.new.items)) }
+        (IsStackChange pushes before after (reverse stack.old.items) (reverse stack.new.items)) }
 {
     if before < after {
         return match pushes {

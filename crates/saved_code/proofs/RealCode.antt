@@ -1,5 +1,6 @@
 -- The code of a real program is real.
-use Rattle.std.proofs.Common.{◌≡◌, ℕ, suc, ◌≤◌, ◌<◌, ◌^◌, Bool, true, false, List, [], ◌∷◌, ◌++◌, map, length, Option, Some, None}
+use Rattle.std.proofs.Common.{◌≡◌, ℕ, suc, ◌≤◌, ◌<◌, ◌^◌, Bool, true, false, List, [], ◌∷◌, ◌++◌, map, length, Option}
+use Rattle.std.proofs.Common.{Some, None}
 use Rattle.std.proofs.Common.{refl, arith, All, subst, sym, nat_eq, get_or, zero, ◌+◌}
 use Rattle.std.specs.Prelude.{FitsSigned, if◌then◌else◌}
 use Rattle.std.specs.Int.{w64}
@@ -24,7 +25,7 @@ use Rattle.need_labels.specs.Needs.{Backing, StatementUse, IsNeed, statement_use
 use Rattle.need_labels.specs.Plan.{PlanShape}
 use Rattle.msg_cost.specs.Moves.{PlannedShape}
 use Rattle.split_file.specs.File.{HasExpressions, IsRealInstruction, IsRealCode}
-use Rattle.split_rules.specs.Emissions.{Emission, instruction, entry, stands, lands, Emitted, Named, counts_after}
+use Rattle.split_rules.specs.Emissions.{Emission, instruction, entry, stands, lands, Emitted, NamedEntry, counts_after}
 use Rattle.split_rules.specs.Placed.{PlacedProgram, planned_from}
 use Rattle.split_rules.specs.SplitCode.{emitted_on, same_label, with_labels, label_of_emission, entries_in, landed}
 use Rattle.split_rules.specs.SplitCode.{placed_instruction, part_on, placed_entries, placed_code_fields, split_code}
@@ -80,7 +81,7 @@ first_values labels plan number (field ∷ fields) all =
 
 -- ---- entries
 
-abbrev IsSmallNeed : Named → Type 0
+abbrev IsSmallNeed : NamedEntry → Type 0
 IsSmallNeed named = named.need < 2 ^ 64
 
 named_real : (xs : List Emission) → AllByRecursion IsRealEmission xs → All IsSmallNeed (entries_in xs)
@@ -93,7 +94,8 @@ named_real (lands host number ∷ xs) all = named_real xs all.1
 abbrev HasNeed : Entry → Type 0
 HasNeed there = there.need < 2 ^ 64
 
-entries_real : (labels : List Label) (all : List Emission) (number : ℕ) (named : List Named) → All IsSmallNeed named →
+entries_real : (labels : List Label) (all : List Emission) (number : ℕ) (named : List NamedEntry) →
+    All IsSmallNeed named →
     All HasNeed (placed_entries labels all number named)
 entries_real labels all number [] small = All-nil HasNeed
 entries_real labels all number (one ∷ named) small =
@@ -211,7 +213,8 @@ emissions_real placed splittable allowed numbers real =
     both_real (both_real (halt_real planned needs (method_at program program.main)
     (λ main is. at_all IsRealMethod program.methods program.main.0 main real.methods is))
     (entries_of_methods planned needs program.methods real.methods))
-    (methods_real placed.hosts.principals labelled planned walk 0 program.methods real.methods numbers.methods splittable.within.nodes
+    (methods_real placed.hosts.principals labelled planned walk 0 program.methods real.methods numbers.methods
+    splittable.within.nodes
     (statements_small placed splittable allowed)
     (counts_after (record { entries = 0; branches = 0 }) front))
 

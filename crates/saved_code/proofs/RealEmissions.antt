@@ -16,7 +16,8 @@ use Rattle.js_base.specs.declared.limits.TheConstants.{EXPRESSION_NODES}
 use Rattle.principals.specs.ActsFor.{Declared}
 use Rattle.label_lattice.specs.declared.label.Label.{Label}
 use Rattle.label_lattice.specs.Label.{IsLabel}
-use Rattle.jif_tree.specs.Trees.{ExprTree, local, Heading, BlockTree, done, set_local, set_field, set_element, branch, loop}
+use Rattle.jif_tree.specs.Trees.{ExprTree, local, Heading, BlockTree, done, set_local, set_field, set_element, branch}
+use Rattle.jif_tree.specs.Trees.{loop}
 use Rattle.jif_tree.specs.Trees.{call, give_back, MethodTree}
 use Rattle.jif_tree.specs.LabelRules.{method_at, params_of, result_of}
 use Rattle.jif_tree.specs.Numbering.{block_statements}
@@ -31,7 +32,7 @@ use Rattle.msg_cost.specs.Moves.{PlannedShape, is_same, end_of, next_spot, own_s
 use Rattle.msg_cost.proofs.Bounds.{all_left, all_right}
 use Rattle.split_file.specs.File.{HasExpressions, IsWordExpression}
 use Rattle.split_rules.specs.Emissions.{Emission, instruction, entry, stands, lands, Counts, counts_after}
-use Rattle.split_rules.specs.Expressions.{Reading, reads_in, readings_of}
+use Rattle.split_rules.specs.Expressions.{ElementReading, reads_in, readings_of}
 use Rattle.split_rules.specs.Walk.{Walked, Around, Lane, lane_on, under_token, emitted, need_of, entry_id}
 use Rattle.split_rules.specs.Walk.{push_or_ask, expr_emissions, told_readers, leave_emissions, enter_emissions}
 use Rattle.split_rules.specs.Walk.{read_emissions, send_emissions, pass_emissions, go_with, call_with}
@@ -75,7 +76,7 @@ mapped_real make real (x ∷ xs) = more_real (real x) (mapped_real make real xs)
 -- ---- expressions
 
 reads_real : (host : HostId) (pc : Label) (statement : StmtId) → IsLabel pc → statement.0 < 2 ^ 32 →
-    (readings : List Reading) → AreRealReadings readings →
+    (readings : List ElementReading) → AreRealReadings readings →
     AreReal (read_emissions host pc statement readings)
 reads_real host pc statement under small [] real = none_real
 reads_real host pc statement under small (reading ∷ readings) real =
@@ -186,7 +187,8 @@ module _ (walked : Walked) (walk : IsRealWalk walked) (pc : Label) (statement : 
   kept_real : (host : HostId) (result into : Option VarId) (carried : Option HostId) →
       AreReal (kept_emissions walked host pc statement result into carried)
   kept_real host (Some result) (Some into) carried =
-      more_real (under, small, result_real result) (sends_real pc statement under small host walked.planned into carried)
+      more_real (under, small, result_real result)
+      (sends_real pc statement under small host walked.planned into carried)
     where
       result_real : (x : VarId) → IsWordExpression (node.Var x ∷ [])
       result_real x = expression_real 0 (local x) tt (omega arith)
@@ -235,11 +237,13 @@ statement_real walked around walk known counts lane statement others own rest ow
     both_real (both_real (move_real walked around walk known counts lane next (statement ∷ others)) owns) follows
 
 branch_real : (walked : Walked) (around : Around) → IsRealWalk walked → IsRealAround around → (heading : Heading)
-    (guard : ExprTree) → IsSmall heading.id.0 → ExprHasNumbers guard → All IsLabel (written_in guard) → IsFew (expr_nodes guard) → (next : Spot)
+    (guard : ExprTree) → IsSmall heading.id.0 → ExprHasNumbers guard → All IsLabel (written_in guard) →
+    IsFew (expr_nodes guard) → (next : Spot)
     (others : List StmtId) (first second : Counts → List Emission) (here : Counts) →
     ((counts : Counts) → AreReal (first counts)) → ((counts : Counts) → AreReal (second counts)) →
     AreReal (branch_own (branch_front walked around here heading guard next others) here next.host first second)
-branch_real walked around walk known heading guard small real written few next others first second here first_real second_real =
+branch_real walked around walk known heading guard small real written few next others first second here first_real
+    second_real =
     let inside = inside_real walked around heading guard walk known small written in
     let front = more_real (inside.pc, walk.needs _) (more_real (known.pc, small, tt)
     (both_real (expr_real around.pc heading.id known.pc small next.host 0 guard real few)
@@ -248,7 +252,8 @@ branch_real walked around walk known heading guard small real written few next o
     (more_real tt none_real)
 
 loop_real : (walked : Walked) (around : Around) → IsRealWalk walked → IsRealAround around → (heading : Heading)
-    (guard : ExprTree) → IsSmall heading.id.0 → ExprHasNumbers guard → All IsLabel (written_in guard) → IsFew (expr_nodes guard) → (next : Spot)
+    (guard : ExprTree) → IsSmall heading.id.0 → ExprHasNumbers guard → All IsLabel (written_in guard) →
+    IsFew (expr_nodes guard) → (next : Spot)
     (others : List StmtId) (body : Counts → List Emission) (here : Counts) →
     ((counts : Counts) → AreReal (body counts)) →
     AreReal (loop_own (loop_front walked around here heading guard next others) here next.host body)
@@ -261,7 +266,8 @@ loop_real walked around walk known heading guard small real written few next oth
     both_real (both_real front (body_real _)) (more_real tt none_real)
 
 block_real : (walked : Walked) → IsRealWalk walked → (block : BlockTree) → BlockHasNumbers block →
-    All IsLabel (written_in_block block) → All IsFew (block_nodes block) → All IsSmall (block_statements block) → (around : Around) → IsRealAround around →
+    All IsLabel (written_in_block block) → All IsFew (block_nodes block) → All IsSmall (block_statements block) →
+    (around : Around) → IsRealAround around →
     (counts : Counts) (lane : Lane) → AreReal (block_emissions walked around counts lane block)
 block_real walked walk done real written few ids around known counts lane = end_real around lane known
 block_real walked walk (set_local heading x value rest) real written few ids around known counts lane =
@@ -273,7 +279,8 @@ block_real walked walk (set_local heading x value rest) real written few ids aro
     (more_real (known.pc, small, expression_real 0 value real.0 own)
     (sends_real around.pc heading.id known.pc small host walked.planned x _)))
     (block_real walked walk rest real.1
-    (all_right IsLabel (written_in value) (written_in_block rest) written) (All-tail IsFew (expr_nodes value) (block_nodes rest) few)
+    (all_right IsLabel (written_in value) (written_in_block rest) written)
+    (All-tail IsFew (expr_nodes value) (block_nodes rest) few)
     (All-tail IsSmall heading.id.0 (block_statements rest) ids) around known _ _)
 block_real walked walk (set_field heading field value rest) real written few ids around known counts lane =
     let small = All-head IsSmall heading.id.0 (block_statements rest) ids in
@@ -283,7 +290,8 @@ block_real walked walk (set_field heading field value rest) real written few ids
     (both_real (expr_real around.pc heading.id known.pc small host 0 value real.0 own)
     (more_real (known.pc, small, (first_real, expression_real 0 value real.0 own)) none_real))
     (block_real walked walk rest real.1
-    (all_right IsLabel (written_in value) (written_in_block rest) written) (All-tail IsFew (expr_nodes value) (block_nodes rest) few)
+    (all_right IsLabel (written_in value) (written_in_block rest) written)
+    (All-tail IsFew (expr_nodes value) (block_nodes rest) few)
     (All-tail IsSmall heading.id.0 (block_statements rest) ids) around known _ _)
 block_real walked walk (set_element heading field index value rest) real written few ids around known counts lane =
     let small = All-head IsSmall heading.id.0 (block_statements rest) ids in
@@ -304,7 +312,8 @@ block_real walked walk (set_element heading field index value rest) real written
       ),
     ) none_real))
     (block_real walked walk rest real.2
-    (all_right IsLabel (written_in index ++ written_in value) (written_in_block rest) written) (All-tail IsFew both (block_nodes rest) few)
+    (all_right IsLabel (written_in index ++ written_in value) (written_in_block rest) written)
+    (All-tail IsFew both (block_nodes rest) few)
     (All-tail IsSmall heading.id.0 (block_statements rest) ids) around known _ _)
 block_real walked walk (branch heading guard first second rest) real written few ids around known counts lane =
     let numbers = block_statements first ++ block_statements second in
@@ -329,13 +338,17 @@ block_real walked walk (branch heading guard first second rest) real written few
     (λ it. block_emissions walked inside it (lane_on next.host) first)
     (λ it. block_emissions walked inside it (lane_on next.host) second) here
     (λ it. block_real walked walk first real.1
-    (all_right IsLabel (written_in guard) (written_in_block first) front) (all_left IsFew (block_nodes first) (block_nodes second) both)
+    (all_right IsLabel (written_in guard) (written_in_block first) front)
+    (all_left IsFew (block_nodes first) (block_nodes second) both)
     (all_left IsSmall (block_statements first) (block_statements second) both_ids) inside there it (lane_on next.host))
     (λ it. block_real walked walk second real.2
-    (all_right IsLabel firsts (written_in_block second) blocks) (all_right IsFew (block_nodes first) (block_nodes second) both)
-    (all_right IsSmall (block_statements first) (block_statements second) both_ids) inside there it (lane_on next.host)))
+    (all_right IsLabel firsts (written_in_block second) blocks)
+    (all_right IsFew (block_nodes first) (block_nodes second) both)
+    (all_right IsSmall (block_statements first) (block_statements second) both_ids) inside there it
+    (lane_on next.host)))
     (block_real walked walk rest real.3
-    (all_right IsLabel (firsts ++ written_in_block second) (written_in_block rest) written) (all_right IsFew in_blocks (block_nodes rest) behind)
+    (all_right IsLabel (firsts ++ written_in_block second) (written_in_block rest) written)
+    (all_right IsFew in_blocks (block_nodes rest) behind)
     (all_right IsSmall numbers (block_statements rest) behind_ids) around known _ _)
 block_real walked walk (loop heading guard inner rest) real written few ids around known counts lane =
     let numbers = block_statements inner in
@@ -355,10 +368,12 @@ block_real walked walk (loop heading guard inner rest) real written few ids arou
     (All-head IsFew (expr_nodes guard) (block_nodes inner ++ block_nodes rest) few) next others
     (λ it. block_emissions walked inside it (lane_on next.host) inner) here
     (λ it. block_real walked walk inner real.1
-    (all_right IsLabel (written_in guard) (written_in_block inner) front) (all_left IsFew (block_nodes inner) (block_nodes rest) behind)
+    (all_right IsLabel (written_in guard) (written_in_block inner) front)
+    (all_left IsFew (block_nodes inner) (block_nodes rest) behind)
     (all_left IsSmall numbers (block_statements rest) behind_ids) inside there it (lane_on next.host)))
     (block_real walked walk rest real.2
-    (all_right IsLabel firsts (written_in_block rest) written) (all_right IsFew (block_nodes inner) (block_nodes rest) behind)
+    (all_right IsLabel firsts (written_in_block rest) written)
+    (all_right IsFew (block_nodes inner) (block_nodes rest) behind)
     (all_right IsSmall numbers (block_statements rest) behind_ids) around known _ _)
 block_real walked walk (call heading site called arguments into rest) real written few ids around known counts lane =
     let small = All-head IsSmall heading.id.0 (block_statements rest) ids in
@@ -370,7 +385,8 @@ block_real walked walk (call heading site called arguments into rest) real writt
     (call_real walked walk around.pc heading.id known.pc small here next.host site called arguments into _
     (under_token walked.planned next others) real.0 (All-head IsFew nodes (block_nodes rest) few))
     (block_real walked walk rest real.1
-    (all_right IsLabel (flat_map written_in arguments) (written_in_block rest) written) (All-tail IsFew nodes (block_nodes rest) few)
+    (all_right IsLabel (flat_map written_in arguments) (written_in_block rest) written)
+    (All-tail IsFew nodes (block_nodes rest) few)
     (All-tail IsSmall heading.id.0 (block_statements rest) ids) around known _ _)
 block_real walked walk (give_back heading value rest) real written few ids around known counts lane =
     let small = All-head IsSmall heading.id.0 (block_statements rest) ids in
@@ -380,7 +396,8 @@ block_real walked walk (give_back heading value rest) real written few ids aroun
     (both_real (expr_real around.pc heading.id known.pc small host 0 value real.0 own)
     (result_real walked walk around.pc heading.id known.pc small host value real.0 own))
     (block_real walked walk rest real.1
-    (all_right IsLabel (written_in value) (written_in_block rest) written) (All-tail IsFew (expr_nodes value) (block_nodes rest) few)
+    (all_right IsLabel (written_in value) (written_in_block rest) written)
+    (All-tail IsFew (expr_nodes value) (block_nodes rest) few)
     (All-tail IsSmall heading.id.0 (block_statements rest) ids) around known _ _)
 
 -- ---- methods

@@ -14,7 +14,7 @@ use Rattle.host_code.specs.declared.code_expr.Node.{Node}
 use Rattle.host_code.specs.declared.code_expr.Node.TheVariants as node
 use Rattle.host_code.specs.CodeExpr.{depth_after}
 use Rattle.split_file.specs.File.{HasWord, IsWordExpression}
-use Rattle.split_rules.specs.Expressions.{reads_in, nodes_of, first_element, Reading, readings_of}
+use Rattle.split_rules.specs.Expressions.{reads_in, nodes_of, first_element, ElementReading, readings_of}
 
 -- ---- one value
 
@@ -107,10 +107,10 @@ pub first_real : IsWordExpression first_element
 first_real = expression_real 0 (number (pos 0)) (record { sfits = omega arith }) (omega arith)
 
 -- each read has an index that is real
-abbrev pub AreRealReadings : List Reading → Type 0
+abbrev pub AreRealReadings : List ElementReading → Type 0
 AreRealReadings readings = AllByRecursion (λ reading. IsWordExpression reading.index) readings
 
-both_readings : (xs ys : List Reading) → AreRealReadings xs → AreRealReadings ys → AreRealReadings (xs ++ ys)
+both_readings : (xs ys : List ElementReading) → AreRealReadings xs → AreRealReadings ys → AreRealReadings (xs ++ ys)
 both_readings [] ys one two = two
 both_readings (x ∷ xs) ys one two = (one.0, both_readings xs ys one.1 two)
 

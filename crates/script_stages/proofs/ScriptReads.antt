@@ -16,7 +16,7 @@ use Rattle.front_end.specs.PlacedCode.{code_of}
 use Rattle.front_end.specs.Loading.{IsLoaded}
 use Rattle.front_end.specs.PlacedSources.{PlacedSource}
 use Rattle.script_stages.specs.Scripts.{ScriptRead, long, bad_line, read, EventsHappen}
-use Rattle.front_end.specs.Stages.{Outcome, given, stopped}
+use Rattle.front_end.specs.Stages.{StageEnd, given, stopped}
 use Rattle.front_end.specs.Verdicts.{too_long, no_form}
 use Rattle.front_end.proofs.StartingDue.{AreBytes}
 
@@ -56,7 +56,7 @@ own_in_first law code rows bad store said first events are starts bad_is events_
 -- ---- of a program in its places
 
 -- what was read by a code that is that of the program
-pub script_of_program : (file script : List ℕ) (placed : PlacedSource) (code : CodeShape) (end : Outcome ScriptShape) →
+pub script_of_program : (file script : List ℕ) (placed : PlacedSource) (code : CodeShape) (end : StageEnd ScriptShape) →
     code ≡ code_of placed → ScriptRead file script code end → ScriptRead file script (code_of placed) end
 script_of_program file script placed code end same was =
     subst (λ (c : CodeShape). ScriptRead file script c end) same was
@@ -73,7 +73,7 @@ first_of_program placed code said first bad start same starts bad_is start_is =
 
 -- what happened in a world that is its first
 pub events_as : (file : List ℕ) (placed : PlacedSource) (code : CodeShape) (said : ScriptShape) (first : WorldShape)
-    (events : List (ℕ × Event)) (end : Outcome WorldShape) → code ≡ code_of placed →
+    (events : List (ℕ × Event)) (end : StageEnd WorldShape) → code ≡ code_of placed →
     first ≡ first_world placed said.bad said.start → events ≡ said.events → EventsHappen file code first events end →
     EventsHappen file (code_of placed) (first_world placed said.bad said.start) said.events end
 events_as file placed code said first events end same starts are was =

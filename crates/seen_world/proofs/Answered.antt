@@ -22,17 +22,18 @@ use Rattle.host_code.specs.Thread.Awaited.{value_of_field, acknowledgement, toke
 use Rattle.entry_check.specs.Checks.{MayEnter, IsTrustedFor, MaySee, label_at, label_of_host}
 use Rattle.host_core.specs.Awaiting.{awaits, is_same_answer}
 use Rattle.host_core.specs.Fits.{StateFits}
-use Rattle.host_core.specs.Host.{HostShape, Outcome, new_token}
-use Rattle.host_core.specs.Taking.{IsTaking, Passes, after_passing, after_taking, place_of_awaiting}
+use Rattle.host_core.specs.Host.{HostState, Outcome, new_token}
+use Rattle.host_core.specs.Taking.{IsTaking, PassesCheck, after_passing, after_taking, place_of_awaiting}
 use Rattle.net_world.proofs.Present.{same_id}
 use Rattle.split_shades.specs.ShadedCode.{IsShadedOp}
-use Rattle.split_shades.specs.Shades.{EntryShade, Ahead, Meets}
+use Rattle.split_shades.specs.Shades.{EntryShade, Ahead, MeetsShade}
 use Rattle.split_shades.specs.Shading.{IsUnderBlock, PushesAt}
 use Rattle.split_rules.specs.Positions.{under}
 use Rattle.token_laws.proofs.Tests.{parts_same, number_same, some_found}
 use Rattle.seen_world.specs.Eyes.{Eyes, AreEyes, is_hidden, sees_level}
-use Rattle.seen_world.specs.Points.{IsTokenOf, IsHiddenToken, MayHold, MayEnterWith, IsAt, AsksFor, AsksAt, HostKeeps}
-use Rattle.seen_world.specs.Points.{CarriesWell, IsAskedBy, FliesWell, ShowsNoHidden}
+use Rattle.seen_world.specs.Points.{IsTokenOf, IsHiddenToken, MayHoldToken, MayEnterWith, IsInstructionAt, AsksFor}
+use Rattle.seen_world.specs.Points.{AsksAt, HostKeeps}
+use Rattle.seen_world.specs.Points.{MessageCarriesWell, IsAskedBy, FliesWell, ShowsNoHidden}
 use Rattle.seen_world.proofs.SeenPlaces.{entry_seen, own_entry}
 use Rattle.seen_world.proofs.TakesKept.{on_me, waits_at, same_place}
 use Rattle.seen_world.proofs.TurnsKept.{pushed_at, pushed_holds, meets_next}
@@ -45,10 +46,10 @@ pub record Asking (eyes : Eyes) (host : HostId) (place : ℕ) (number : ℕ) : T
   pub below : IsUnderBlock None (eyes.shades.at host place).block (eyes.shades.at host place).pc
   pub calls : (eyes.shades.at host place).calls ≡ false
   pub pushes : PushesAt None eyes.shades.entries (eyes.shades.at host place) number next
-  pub meets : Meets next (eyes.shades.at host (place + 1))
+  pub meets : MeetsShade next (eyes.shades.at host (place + 1))
 
 pub asking_at : (eyes : Eyes) → AreEyes eyes → (host : HostId) (place : ℕ) (entry : EntryId) (on : HostId) →
-    IsAt eyes host place (op.Ask entry on) → Asking eyes host place entry.0
+    IsInstructionAt eyes host place (op.Ask entry on) → Asking eyes host place entry.0
 asking_at eyes are host place entry on at =
     let here = eyes.shades.at host place in
     let shaded = are.shaded.instructions host place at.0 at.1 in
@@ -64,9 +65,9 @@ asking_at eyes are host place entry on at =
 
 -- the token of the entry that was pushed
 given_well : (eyes : Eyes) → AreEyes eyes → (from : HostId) (place : ℕ) (on : HostId) (token : Token) →
-    IsAt eyes from place (op.Ask token.entry on) → eyes.bad token.host ≡ false →
+    IsInstructionAt eyes from place (op.Ask token.entry on) → eyes.bad token.host ≡ false →
     IsSomeAnd (entry_at eyes.code token.entry) (λ there. there.host ≡ token.host) →
-    MayHold eyes (eyes.shades.at from (place + 1)) token
+    MayHoldToken eyes (eyes.shades.at from (place + 1)) token
 given_well eyes are from place on token at obeys stands =
     let asking = asking_at eyes are from place token.entry on at in
     let here = eyes.shades.at from place in
@@ -78,15 +79,16 @@ given_well eyes are from place on token at obeys stands =
 
 -- a variable that is sent is acknowledged
 forward_asked : (eyes : Eyes) (from to : HostId) (place : ℕ) (x : VarId) →
-    IsAt eyes from place (op.Send x to)
-    ⊎ (IsAt eyes from place (op.Pass x to) ⊎ ((given : List Node) × IsAt eyes from place (op.Ret x given))) →
+    IsInstructionAt eyes from place (op.Send x to)
+    ⊎ (IsInstructionAt eyes from place (op.Pass x to)
+    ⊎ ((given : List Node) × IsInstructionAt eyes from place (op.Ret x given))) →
     AsksAt eyes from place acknowledgement to
 forward_asked eyes from to place x (inl at) = (op.Send x to, at, (refl, refl))
 forward_asked eyes from to place x (inr (inl at)) = (op.Pass x to, at, (refl, refl))
 forward_asked eyes from to place x (inr (inr gives)) = (op.Ret x gives.0, gives.1, refl)
 
-passing_carries : (eyes : Eyes) → AreEyes eyes → (host : HostShape) (from : HostId) (said : Message) →
-    eyes.bad host.me ≡ false → IsAskedBy eyes from host.me said → Passes eyes.code host from said →
+passing_carries : (eyes : Eyes) → AreEyes eyes → (host : HostState) (from : HostId) (said : Message) →
+    eyes.bad host.me ≡ false → IsAskedBy eyes from host.me said → PassesCheck eyes.code host from said →
     IfSome (after_passing eyes.code host from said).sent (λ sent.
     (sent.0 ≡ from) × FliesWell eyes host.me sent.0 sent.1)
 passing_carries eyes are host from (message.Get request field index) obeys asked passes =
@@ -111,14 +113,14 @@ passing_carries eyes are host from (message.Ack request) obeys asked passes = tt
 passing_carries eyes are host from (message.Token request token) obeys asked passes = tt
 
 -- what is sent of a message that passes its check, and nothing is sent of another
-pub taking_sends : (P : HostId × Message → Type 0) (eyes : Eyes) (state : HostShape) (from : HostId) (said : Message)
-    (passes : Bool) → (IsTrue passes → Passes eyes.code state from said) →
-    (Passes eyes.code state from said → IfSome (after_passing eyes.code state from said).sent P) →
+pub taking_sends : (P : HostId × Message → Type 0) (eyes : Eyes) (state : HostState) (from : HostId) (said : Message)
+    (passes : Bool) → (IsTrue passes → PassesCheck eyes.code state from said) →
+    (PassesCheck eyes.code state from said → IfSome (after_passing eyes.code state from said).sent P) →
     IfSome (after_taking eyes.code state from said passes).sent P
 taking_sends P eyes state from said true passes sends = sends (passes refl)
 taking_sends P eyes state from said false passes sends = tt
 
-pub answer_carries : (eyes : Eyes) (state : HostShape) (from : HostId) (said : Message) (outcome : Outcome) →
+pub answer_carries : (eyes : Eyes) (state : HostState) (from : HostId) (said : Message) (outcome : Outcome) →
     AreEyes eyes → eyes.bad state.me ≡ false → IsAskedBy eyes from state.me said →
     IsTaking eyes.code state from said outcome →
     IfSome outcome.sent (λ sent. (sent.0 ≡ from) × FliesWell eyes state.me sent.0 sent.1)
@@ -167,10 +169,10 @@ enters_with eyes entry token seen shows = record {
 -- ---- what misbehaving hosts may answer
 
 asked_at : (eyes : Eyes) (host : HostId) (place : ℕ) (it : Op) (awaited : Awaited) (on : HostId) →
-    awaited ≡ token_of_entry → IsAt eyes host place it → AsksFor eyes.code it awaited on →
-    (entry : EntryId) × IsAt eyes host place (op.Ask entry on)
+    awaited ≡ token_of_entry → IsInstructionAt eyes host place it → AsksFor eyes.code it awaited on →
+    (entry : EntryId) × IsInstructionAt eyes host place (op.Ask entry on)
 asked_at eyes host place (op.Ask there to) awaited on is at asks =
-    (there, subst (λ (h : HostId). IsAt eyes host place (op.Ask there h)) asks.1 at)
+    (there, subst (λ (h : HostId). IsInstructionAt eyes host place (op.Ask there h)) asks.1 at)
 asked_at eyes host place (op.Read field index) awaited on is at asks =
     absurd (let other : value_of_field ≡ token_of_entry = sym asks.0 ∙ is in cc)
 asked_at eyes host place (op.Put field index value) awaited on is at asks =
@@ -194,9 +196,9 @@ asked_at eyes host place (op.Branch guard target) awaited on is at asks = absurd
 
 -- a misbehaving host may see an entry of its own for whose token it is asked
 bad_given : (eyes : Eyes) → AreEyes eyes → (host : HostId) (place : ℕ) (entry : EntryId) (from : HostId)
-    (token : Token) → IsAt eyes host place (op.Ask entry from) → eyes.bad from ≡ true →
+    (token : Token) → IsInstructionAt eyes host place (op.Ask entry from) → eyes.bad from ≡ true →
     IsEntryOn eyes.code from entry → ¬ IsHiddenToken eyes token →
-    MayHold eyes (eyes.shades.at host (place + 1)) token
+    MayHoldToken eyes (eyes.shades.at host (place + 1)) token
 bad_given eyes are host place entry from token at bad on shows = (
   subst (λ level. IsTokenOf eyes level token)
       (sym (asking.meets.level ∙ ap (λ (it : Ahead). it.level) asking.pushes.1))
@@ -221,11 +223,12 @@ same_awaited value_of_field request from same = absurd (false≢true same)
 same_awaited acknowledgement request from same = absurd (false≢true same)
 same_awaited token_of_entry request from same = refl
 
-answers_well : (eyes : Eyes) → AreEyes eyes → IsSoundCode eyes.code → (host : HostShape) (from : HostId)
+answers_well : (eyes : Eyes) → AreEyes eyes → IsSoundCode eyes.code → (host : HostState) (from : HostId)
     (waiting : WaitingShape) (place count : ℕ) (token : Token) → StateFits eyes.code host → eyes.bad from ≡ true →
     awaits token_of_entry (record { at = place; count = count }) from waiting ≡ true →
-    (it : Op) → IsAt eyes host.me waiting.request.at it → AsksFor eyes.code it waiting.awaited waiting.asked →
-    ¬ IsHiddenToken eyes token → MayHold eyes (eyes.shades.at host.me (place + 1)) token
+    (it : Op) → IsInstructionAt eyes host.me waiting.request.at it →
+    AsksFor eyes.code it waiting.awaited waiting.asked →
+    ¬ IsHiddenToken eyes token → MayHoldToken eyes (eyes.shades.at host.me (place + 1)) token
 answers_well eyes are sound host from waiting place count token fits bad same it at asks shows =
     let there : waiting.request.at ≡ place =
     same_place (is_same_answer waiting.awaited token_of_entry) waiting.request.at place 0
@@ -235,18 +238,18 @@ answers_well eyes are sound host from waiting place count token fits bad same it
     let asked =
     asked_at eyes host.me waiting.request.at it waiting.awaited waiting.asked
     (same_awaited waiting.awaited _ _ same) at asks in
-    let its : IsAt eyes host.me place (op.Ask asked.0 from) =
-    subst (λ n. IsAt eyes host.me n (op.Ask asked.0 from)) there
-    (subst (λ (h : HostId). IsAt eyes host.me waiting.request.at (op.Ask asked.0 h)) on asked.1) in
+    let its : IsInstructionAt eyes host.me place (op.Ask asked.0 from) =
+    subst (λ n. IsInstructionAt eyes host.me n (op.Ask asked.0 from)) there
+    (subst (λ (h : HostId). IsInstructionAt eyes host.me waiting.request.at (op.Ask asked.0 h)) on asked.1) in
     let count_at = temporaries_at eyes.code.entries host.me (part_of eyes.code host.me) place in
     let fitting : OperationFits eyes.code host.me count_at (op.Ask asked.0 from) =
     subst (OperationFits eyes.code host.me count_at) its.2
     ((sound.parts host.me fits.me).instructions place its.0 its.1).operation in
     bad_given eyes are host.me place asked.0 from token its bad fitting.0 shows
 
-pub made_carries : (eyes : Eyes) (state : HostShape) (from : HostId) (said : Message) → AreEyes eyes →
+pub made_carries : (eyes : Eyes) (state : HostState) (from : HostId) (said : Message) → AreEyes eyes →
     IsSoundCode eyes.code → StateFits eyes.code state → eyes.bad from ≡ true → HostKeeps eyes state.me state →
-    ShowsNoHidden eyes said → Passes eyes.code state from said → CarriesWell eyes state.me said
+    ShowsNoHidden eyes said → PassesCheck eyes.code state from said → MessageCarriesWell eyes state.me said
 unfolding enters_with
 made_carries eyes state from (message.Get request field index) are sound fits bad keeps shows passes = tt
 made_carries eyes state from (message.Set request field index value) are sound fits bad keeps shows passes = tt
@@ -271,8 +274,8 @@ made_carries eyes state from (message.Token request token) are sound fits bad ke
 
 -- ---- what misbehaving hosts are answered
 
-passing_shows : (eyes : Eyes) → AreEyes eyes → (host : HostShape) (from : HostId) (said : Message) →
-    eyes.bad from ≡ true → Passes eyes.code host from said →
+passing_shows : (eyes : Eyes) → AreEyes eyes → (host : HostState) (from : HostId) (said : Message) →
+    eyes.bad from ≡ true → PassesCheck eyes.code host from said →
     IfSome (after_passing eyes.code host from said).sent (λ sent. ShowsNoHidden eyes sent.1)
 passing_shows eyes are host from (message.Get request field index) bad passes = tt
 passing_shows eyes are host from (message.Set request field index value) bad passes = tt
@@ -286,7 +289,7 @@ passing_shows eyes are host from (message.Value request value) bad passes = tt
 passing_shows eyes are host from (message.Ack request) bad passes = tt
 passing_shows eyes are host from (message.Token request token) bad passes = tt
 
-pub answer_shows : (eyes : Eyes) (state : HostShape) (from : HostId) (said : Message) (outcome : Outcome) →
+pub answer_shows : (eyes : Eyes) (state : HostState) (from : HostId) (said : Message) (outcome : Outcome) →
     AreEyes eyes → eyes.bad from ≡ true → IsTaking eyes.code state from said outcome →
     IfSome outcome.sent (λ sent. ShowsNoHidden eyes sent.1)
 answer_shows eyes state from said outcome are bad takes =

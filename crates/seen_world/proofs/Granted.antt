@@ -13,24 +13,24 @@ use Rattle.host_code.specs.Code.{CodeShape}
 use Rattle.host_code.specs.Thread.{ThreadShape}
 use Rattle.entry_check.specs.declared.ask.Ask.TheVariants as ask
 use Rattle.entry_check.specs.Checks.{May, MayRide}
-use Rattle.host_core.specs.Host.{HostShape, Outcome, with_running}
-use Rattle.host_core.specs.Taking.{IsTaking, Passes, after_passing}
+use Rattle.host_core.specs.Host.{HostState, Outcome, with_running}
+use Rattle.host_core.specs.Taking.{IsTaking, PassesCheck, after_passing}
 use Rattle.host_core.specs.Turn.{IsTurn, riders_of}
 use Rattle.split_rules.specs.Asking.{IsGranted}
 use Rattle.token_laws.proofs.Riding.{names_ride}
 use Rattle.seen_world.specs.Eyes.{Eyes, AreEyes}
-use Rattle.seen_world.specs.Points.{IsRequest, IsGrantedTo}
+use Rattle.seen_world.specs.Points.{IsCheckedByLabels, IsGrantedTo}
 use Rattle.seen_world.proofs.Answered.{taking_sends}
 use Rattle.seen_world.proofs.Sendings.{EachSending, turn_sends, any_held}
 
 -- ---- turns
 
 -- what an instruction may let ride may ride with its message
-rides : (code : CodeShape) (host : HostShape) (frame : FrameId) (on : HostId) (variables : List VarId) →
+rides : (code : CodeShape) (host : HostState) (frame : FrameId) (on : HostId) (variables : List VarId) →
     MayRide code on host.me variables → MayRide code on host.me (names_of (riders_of host frame variables))
 rides code host frame on variables may = subst (MayRide code on host.me) (sym (names_ride host frame variables)) may
 
-operation_granted : (eyes : Eyes) (host : HostShape) (thread : ThreadShape) (it : Op) →
+operation_granted : (eyes : Eyes) (host : HostState) (thread : ThreadShape) (it : Op) →
     IsGranted eyes.code host.me it →
     EachSending (IsGrantedTo eyes host.me) (λ token. ⊤) eyes.code host thread it
 operation_granted eyes host thread (op.Read field index) grants = λ there is apart.
@@ -56,7 +56,7 @@ operation_granted eyes host thread (op.Ret x value) grants = λ token holds. gra
 operation_granted eyes host thread op.Back grants = λ token holds. tt
 operation_granted eyes host thread (op.Branch guard target) grants = tt
 
-pub turn_granted : (eyes : Eyes) (state : HostShape) (thread : ThreadShape) (outcome : Outcome) → AreEyes eyes →
+pub turn_granted : (eyes : Eyes) (state : HostState) (thread : ThreadShape) (outcome : Outcome) → AreEyes eyes →
     state.running ≡ Some thread → IsTurn eyes.code state outcome →
     IfSome outcome.sent (λ sent. IsGrantedTo eyes state.me sent.0 sent.1)
 turn_granted eyes state thread outcome are is turns =
@@ -66,7 +66,7 @@ turn_granted eyes state thread outcome are is turns =
 
 -- ---- answers, which are no requests
 
-passing_granted : (eyes : Eyes) (host : HostShape) (from : HostId) (said : Message) →
+passing_granted : (eyes : Eyes) (host : HostState) (from : HostId) (said : Message) →
     IfSome (after_passing eyes.code host from said).sent (λ sent. IsGrantedTo eyes host.me sent.0 sent.1)
 passing_granted eyes host from (message.Get request field index) = tt
 passing_granted eyes host from (message.Set request field index value) = tt
@@ -79,7 +79,7 @@ passing_granted eyes host from (message.Value request value) = tt
 passing_granted eyes host from (message.Ack request) = tt
 passing_granted eyes host from (message.Token request token) = tt
 
-pub answer_granted : (eyes : Eyes) (state : HostShape) (from : HostId) (said : Message) (outcome : Outcome) →
+pub answer_granted : (eyes : Eyes) (state : HostState) (from : HostId) (said : Message) (outcome : Outcome) →
     IsTaking eyes.code state from said outcome →
     IfSome outcome.sent (λ sent. IsGrantedTo eyes state.me sent.0 sent.1)
 answer_granted eyes state from said outcome takes =
@@ -89,8 +89,8 @@ answer_granted eyes state from said outcome takes =
 
 -- ---- checks
 
-pub granted_passes : (eyes : Eyes) (host : HostShape) (from : HostId) (said : Message) → IsRequest said →
-    IsGrantedTo eyes from host.me said → Passes eyes.code host from said
+pub granted_passes : (eyes : Eyes) (host : HostState) (from : HostId) (said : Message) → IsCheckedByLabels said →
+    IsGrantedTo eyes from host.me said → PassesCheck eyes.code host from said
 granted_passes eyes host from (message.Get request field index) asks grants = grants
 granted_passes eyes host from (message.Set request field index value) asks grants = grants
 granted_passes eyes host from (message.Forward request frame x value) asks grants = grants

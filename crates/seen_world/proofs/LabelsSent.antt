@@ -13,7 +13,7 @@ use Rattle.host_code.specs.declared.message.Message.{Message}
 use Rattle.host_code.specs.declared.message.Message.TheVariants as message
 use Rattle.host_code.specs.Code.{instruction_at}
 use Rattle.host_code.specs.Thread.{ThreadShape}
-use Rattle.host_core.specs.Host.{HostShape, Outcome, with_running}
+use Rattle.host_core.specs.Host.{HostState, Outcome, with_running}
 use Rattle.host_core.specs.Taking.{IsTaking, after_passing}
 use Rattle.host_core.specs.Turn.{IsTurn}
 use Rattle.host_core.specs.Turn.{label_of_thread, label_of_turn}
@@ -28,7 +28,7 @@ use Rattle.seen_world.proofs.TurnsKept.{hidden_is}
 
 -- ---- what a turn sends
 
-operation_labelled : (eyes : Eyes) (Q : Token → Type 0) (host : HostShape) (thread : ThreadShape) (label : ℕ)
+operation_labelled : (eyes : Eyes) (Q : Token → Type 0) (host : HostState) (thread : ThreadShape) (label : ℕ)
     (it : Op) → (has : HasLabelAt eyes host.me thread.at label) → has.0.op ≡ it →
     EachSending (λ on said. IsLabelledAs eyes host.me on said label) Q eyes.code host thread it
 operation_labelled eyes Q host thread label (op.Read field index) has is = λ there found apart. has
@@ -94,7 +94,7 @@ both_sent : {X : Type 0} (P Q R : X → Type 0) (o : Option X) → ((x : X) → 
 both_sent P Q R None each one other = tt
 both_sent P Q R (Some x) each one other = each x one other
 
-pub turn_labelled : (eyes : Eyes) (state : HostShape) (thread : ThreadShape) (outcome : Outcome) (label : ℕ) →
+pub turn_labelled : (eyes : Eyes) (state : HostState) (thread : ThreadShape) (outcome : Outcome) (label : ℕ) →
     AreEyes eyes → state.running ≡ Some thread → RunsWell eyes state.me thread → IsTurn eyes.code state outcome →
     label_of_turn eyes.code state ≡ Some label →
     IfSome outcome.sent (λ sent. IsLabelledAs eyes state.me sent.0 sent.1 label
@@ -125,7 +125,7 @@ turn_labelled eyes state thread outcome label are is well turns labels =
 
 -- ---- answers
 
-passing_labelled : (eyes : Eyes) (host : HostShape) (from : HostId) (said : Message) (label : ℕ) →
+passing_labelled : (eyes : Eyes) (host : HostState) (from : HostId) (said : Message) (label : ℕ) →
     IsLabelledAs eyes from host.me said label → (sees_at eyes label ≡ true → AsksForNoHidden eyes said) →
     IfSome (after_passing eyes.code host from said).sent (λ sent. IsLabelledAs eyes host.me sent.0 sent.1 label
     × (sees_at eyes label ≡ true → ShowsNoHidden eyes sent.1))
@@ -141,7 +141,7 @@ passing_labelled eyes host from (message.Value request value) label has shows = 
 passing_labelled eyes host from (message.Ack request) label has shows = tt
 passing_labelled eyes host from (message.Token request token) label has shows = tt
 
-pub answer_labelled : (eyes : Eyes) (state : HostShape) (from : HostId) (said : Message) (outcome : Outcome)
+pub answer_labelled : (eyes : Eyes) (state : HostState) (from : HostId) (said : Message) (outcome : Outcome)
     (label : ℕ) → IsLabelledAs eyes from state.me said label →
     (sees_at eyes label ≡ true → AsksForNoHidden eyes said) → IsTaking eyes.code state from said outcome →
     IfSome outcome.sent (λ sent. IsLabelledAs eyes state.me sent.0 sent.1 label

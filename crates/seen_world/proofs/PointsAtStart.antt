@@ -11,25 +11,25 @@ use Rattle.host_decl.specs.Hosts as declared_hosts
 use Rattle.host_code.specs.declared.code.Entry.{Entry}
 use Rattle.host_code.specs.Code.{CodeShape, halt, entry_at}
 use Rattle.host_code.specs.Sound.{IsSoundCode}
-use Rattle.host_core.specs.Host.{HostShape, new_token, after_push, after_entering}
+use Rattle.host_core.specs.Host.{HostState, new_token, after_push, after_entering}
 use Rattle.host_core.specs.Start.{host_at_start, idle_host, root_host, main_frame, last_token}
 use Rattle.net_world.specs.Fits.{ShapeFits, IsStateOf}
 use Rattle.net_world.specs.World.{WorldShape, state_at, given, hosts_before, is_absent, world_at_start}
 use Rattle.split_shades.specs.Shading.{method_shade, halt_shade}
-use Rattle.split_shades.specs.Shades.{Meets, ahead_of}
+use Rattle.split_shades.specs.Shades.{MeetsShade, ahead_of}
 use Rattle.seen_world.specs.Eyes.{Eyes, AreEyes, Watches, is_hidden}
 use Rattle.seen_world.specs.Points.{RunsWell, WaitsWell, StandsWell, HostKeeps, HostsKeep}
 
 -- ---- hosts
 
 before_is : (code : CodeShape) (store : List (List ℤ)) (row : declared_hosts.HostShape) (me : HostId) (bad : Bool)
-    (state : HostShape) → (if bad then None else Some (host_at_start code store row.key me)) ≡ Some state →
+    (state : HostState) → (if bad then None else Some (host_at_start code store row.key me)) ≡ Some state →
     host_at_start code store row.key me ≡ state
 before_is code store row me true state is = absurd (cc)
 before_is code store row me false state is = cc
 
 started_as : (code : CodeShape) (store : List (List ℤ)) (bad number : ℕ) (rows : List declared_hosts.HostShape) (i : ℕ)
-    (me : HostId) (state : HostShape) → me.0 ≡ number + i →
+    (me : HostId) (state : HostState) → me.0 ≡ number + i →
     given (slice_get (hosts_before code store bad number rows) i) ≡ Some state →
     (key : List ℕ) × (host_at_start code store key me ≡ state)
 started_as code store bad number [] i me state at is = absurd (cc)
@@ -69,8 +69,8 @@ main_runs eyes store key host entry are obeys on is =
     let shade = method_shade program.main.0 main.0 in
     let there : slice_get eyes.code.entries (suc program.main.0) ≡ Some entry =
     ap (slice_get eyes.code.entries) (sym main.2) ∙ is in
-    let meets : Meets (ahead_of shade) (eyes.shades.at host entry.at) =
-    subst (λ (h : HostId). Meets (ahead_of shade) (eyes.shades.at h entry.at)) on
+    let meets : MeetsShade (ahead_of shade) (eyes.shades.at host entry.at) =
+    subst (λ (h : HostId). MeetsShade (ahead_of shade) (eyes.shades.at h entry.at)) on
     (are.shaded.stands program.main.0 entry shade there (are.shaded.methods program.main.0 main.0 main.1)) in
     record {
       temps = ap length (sym meets.temps);
@@ -154,12 +154,12 @@ starts_keep eyes rows bad store are sound watch host state is =
 -- ---- the host of an event
 
 -- it obeys, and its state keeps what holds of hosts
-pub record Own (eyes : Eyes) (world : WorldShape) (host : HostId) (state : HostShape) : Type 0 where
+pub record Own (eyes : Eyes) (world : WorldShape) (host : HostId) (state : HostState) : Type 0 where
   pub fit : IsStateOf eyes.code host state
   pub obeys : eyes.bad state.me ≡ false
   pub keeps : HostKeeps eyes state.me state
 
-pub own_state : (eyes : Eyes) (world : WorldShape) (host : HostId) (state : HostShape) → Watches eyes world →
+pub own_state : (eyes : Eyes) (world : WorldShape) (host : HostId) (state : HostState) → Watches eyes world →
     ShapeFits eyes.code world → HostsKeep eyes world → state_at world host ≡ Some state → Own eyes world host state
 own_state eyes world host state watch fits keep there =
     let fit : IsStateOf eyes.code host state =

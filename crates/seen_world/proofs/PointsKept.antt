@@ -6,8 +6,8 @@ use Rattle.js_base.specs.declared.ids.HostId.{HostId}
 use Rattle.capability.specs.declared.token.Token.{Token}
 use Rattle.host_decl.specs.Hosts as declared_hosts
 use Rattle.host_code.specs.Sound.{IsSoundCode}
-use Rattle.host_core.specs.Host.{HostShape}
-use Rattle.host_core.specs.Taking.{Passes}
+use Rattle.host_core.specs.Host.{HostState}
+use Rattle.host_core.specs.Taking.{PassesCheck}
 use Rattle.host_core.specs.Turn.{label_of_turn}
 use Rattle.event_text.specs.declared.event.Event.{Event}
 use Rattle.event_text.specs.declared.event.Event.TheVariants.{Take, Turn, Act}
@@ -26,7 +26,7 @@ use Rattle.token_laws.proofs.Walks.{reached, fits_there}
 use Rattle.token_laws.proofs.Tests.{some_found}
 use Rattle.seen_world.specs.Eyes.{Eyes, AreEyes, Watches}
 use Rattle.seen_world.specs.Points.{IsHiddenToken, RunsWell, HostKeeps, IsAskedBy, FliesWell, ShowsNoHidden}
-use Rattle.seen_world.specs.Points.{IsLabelledAs, IsRequest, IsGrantedTo, IsInFlight, PointsHold}
+use Rattle.seen_world.specs.Points.{IsLabelledAs, IsCheckedByLabels, IsGrantedTo, IsInFlight, PointsHold}
 use Rattle.seen_world.proofs.Answered.{answer_carries, made_carries, answer_shows}
 use Rattle.seen_world.proofs.FlightsKept.{FlyAs, fly_without, fly_sent, tell_shown, send_shown, made_shown}
 use Rattle.seen_world.proofs.Granted.{turn_granted, answer_granted, granted_passes}
@@ -43,7 +43,7 @@ abbrev IsShown : Eyes → Token → Type 0
 IsShown eyes token = ¬ IsHiddenToken eyes token
 
 -- who misbehaves after the step of a host did before
-bad_before : (eyes : Eyes) (world : WorldShape) (host other : HostId) (old state : HostShape) → Watches eyes world →
+bad_before : (eyes : Eyes) (world : WorldShape) (host other : HostId) (old state : HostState) → Watches eyes world →
     state_at world host ≡ Some old → misbehaves (with_state world host state) other ≡ true →
     eyes.bad other ≡ true
 bad_before eyes world host other old state watch there bad =
@@ -163,9 +163,9 @@ take_silent eyes world after from to place are watch fits points step =
 
 -- a request in flight passes its check
 pub request_passes : (eyes : Eyes) (world : WorldShape) (from to : HostId) (place : ℕ) (flight : Flight)
-    (state : HostShape) → ShapeFits eyes.code world → PointsHold eyes world →
+    (state : HostState) → ShapeFits eyes.code world → PointsHold eyes world →
     slice_get (world.flying from to) place ≡ Some flight → state_at world to ≡ Some state →
-    IsRequest flight.message → Passes eyes.code state from flight.message
+    IsCheckedByLabels flight.message → PassesCheck eyes.code state from flight.message
 request_passes eyes world from to place flight state fits points there obeys asks =
     let fit : IsStateOf eyes.code to state =
     subst (λ one. IfSome one (IsStateOf eyes.code to)) obeys (fits.states to) in

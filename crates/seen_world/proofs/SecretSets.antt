@@ -25,16 +25,17 @@ use Rattle.need_labels.specs.Needs.{label_of}
 use Rattle.net_world.specs.Flying.{Flight}
 use Rattle.net_world.specs.World.{WorldShape}
 use Rattle.split_shades.specs.ShadedCode.{IsShadedOp}
-use Rattle.split_shades.specs.Shading.{IsUnderBlock, GoesTo, CallsOn, Rides}
+use Rattle.split_shades.specs.Shading.{IsUnderBlock, GoesToInShade, CallsOn, Rides}
 use Rattle.token_laws.proofs.HeldLaws.{all_at}
 use Rattle.seen_world.specs.Eyes.{Eyes, AreEyes, sees_at}
-use Rattle.seen_world.specs.Points.{IsAt, IsAskedBy, HasLabelAt, IsLabelledAs, SetsHidden, EntersHidden, IsInFlight}
+use Rattle.seen_world.specs.Points.{IsInstructionAt, IsAskedBy, HasLabelAt, IsLabelledAs, SetsHidden, EntersHidden}
+use Rattle.seen_world.specs.Points.{IsInFlight}
 use Rattle.seen_world.specs.Points.{IsDeepEntry, PointsHold}
 use Rattle.seen_world.proofs.LabelsSent.{label_same}
 
 -- ---- what the program label flows to
 
-shaded_at : (eyes : Eyes) → AreEyes eyes → (host : HostId) (place : ℕ) (it : Op) → IsAt eyes host place it →
+shaded_at : (eyes : Eyes) → AreEyes eyes → (host : HostId) (place : ℕ) (it : Op) → IsInstructionAt eyes host place it →
     IsShadedOp eyes.scene eyes.shades host place it
 shaded_at eyes are host place it at =
     subst (IsShadedOp eyes.scene eyes.shades host place) at.2 (are.shaded.instructions host place at.0 at.1).law
@@ -50,8 +51,9 @@ riders_flow eyes are from to place label entry riders has (inr is) =
     (shaded_at eyes are from place (op.CallWith entry to riders) (has.0, has.1, is)).1
 
 variable_flows : (eyes : Eyes) → AreEyes eyes → (from to : HostId) (place : ℕ) (x : VarId) →
-    IsAt eyes from place (op.Send x to)
-    ⊎ (IsAt eyes from place (op.Pass x to) ⊎ ((given : List Node) × IsAt eyes from place (op.Ret x given))) →
+    IsInstructionAt eyes from place (op.Send x to)
+    ⊎ (IsInstructionAt eyes from place (op.Pass x to)
+    ⊎ ((given : List Node) × IsInstructionAt eyes from place (op.Ret x given))) →
     ConfFlows (eyes.shades.at from place).pc (label_of eyes.scene.basis.labelled x)
 variable_flows eyes are from to place x (inl at) = (shaded_at eyes are from place (op.Send x to) at).1.1.2.0
 variable_flows eyes are from to place x (inr (inl at)) = (shaded_at eyes are from place (op.Pass x to) at).1.1.2.0
@@ -92,7 +94,7 @@ set_riders eyes are from to place label has hidden (rider ∷ riders) rides = (
 )
 
 set_field : (eyes : Eyes) → AreEyes eyes → (from : HostId) (place label : ℕ) (field : FieldId)
-    (index written : List Node) → IsAt eyes from place (op.Put field index written) →
+    (index written : List Node) → IsInstructionAt eyes from place (op.Put field index written) →
     HasLabelAt eyes from place label → sees_at eyes label ≡ false → (found : Option CodeFieldShape) →
     field_at eyes.code field ≡ found → IfSome found (λ there. sees_at eyes there.label ≡ false)
 set_field eyes are from place label field index written at has hidden None is = tt
@@ -135,7 +137,7 @@ deep_there eyes are host place label has hidden plain =
 
 goes_deep : (eyes : Eyes) → AreEyes eyes → (from to : HostId) (place label : ℕ) (entry : EntryId) →
     HasLabelAt eyes from place label → sees_at eyes label ≡ false →
-    GoesTo eyes.scene eyes.shades.entries (eyes.shades.at from place) entry.0 to → IsDeepEntry eyes entry.0
+    GoesToInShade eyes.scene eyes.shades.entries (eyes.shades.at from place) entry.0 to → IsDeepEntry eyes entry.0
 goes_deep eyes are from to place label entry has hidden goes =
     let hands = goes.3 in
     (hands.it, hands.is, ap eyes.sees hands.block ∙ deep_there eyes are from place label has hidden goes.2)

@@ -11,7 +11,7 @@ use Rattle.host_code.specs.declared.instruction.Op.{Op}
 use Rattle.host_code.specs.declared.instruction.Op.TheVariants as op
 use Rattle.host_code.specs.Code.{CodeShape, CodeFieldShape, instruction_at, field_at}
 use Rattle.host_code.specs.Thread.{ThreadShape}
-use Rattle.host_core.specs.Host.{HostShape, Outcome, with_running}
+use Rattle.host_core.specs.Host.{HostState, Outcome, with_running}
 use Rattle.host_core.specs.Turn.{IsTurn}
 use Rattle.event_text.specs.declared.event.Event.TheVariants.{Turn}
 use Rattle.host_code.specs.declared.message.Message.{Message}
@@ -23,8 +23,8 @@ use Rattle.net_world.specs.World.{IsStep}
 use Rattle.net_world.proofs.StepLaws.{absent_set}
 use Rattle.split_shades.specs.ShadedCode.{IsShadedOp}
 use Rattle.split_shades.specs.Shading.{IsUnderBlock}
-use Rattle.seen_world.specs.Eyes.{Eyes, AreEyes, Watches, is_open, is_deep, sees_level, Names}
-use Rattle.seen_world.specs.Points.{RunsWell, MayHold, HostsKeep}
+use Rattle.seen_world.specs.Eyes.{Eyes, AreEyes, Watches, is_open, is_deep, sees_level, NamesHost}
+use Rattle.seen_world.specs.Points.{RunsWell, MayHoldToken, HostsKeep}
 use Rattle.seen_world.proofs.PointsAtStart.{own_state}
 use Rattle.seen_world.proofs.SeenPlaces.{named_open, block_under}
 use Rattle.seen_world.proofs.Sendings.{EachSending, turn_sends}
@@ -39,7 +39,7 @@ held_by P Q (Some x) each some = each x some
 -- where a token is given back that may not be seen there, its host obeys, as no guard of a loop gives a token back
 gives_obeying : (eyes : Eyes) (host : HostId) (place : ℕ) (there : Instr) (token : Token) → AreEyes eyes →
     instruction_at eyes.code host place ≡ Some there → (eyes.shades.at host place).guard ≡ None →
-    is_open eyes host place ≡ false → MayHold eyes (eyes.shades.at host place) token → eyes.bad token.host ≡ false
+    is_open eyes host place ≡ false → MayHoldToken eyes (eyes.shades.at host place) token → eyes.bad token.host ≡ false
 gives_obeying eyes host place there token are is unguarded hidden holds =
     let here = eyes.shades.at host place in
     let P : Option ℕ → Type 0 = λ guard. IsUnderBlock guard here.block here.pc in
@@ -55,12 +55,12 @@ field_named : (code : CodeShape) (field : FieldId) (there : CodeFieldShape) → 
     IsSomeAnd (field_at code field) (λ one. one.host ≡ there.host)
 field_named code field there is = rw is refl
 
-operation_told : (eyes : Eyes) (host : HostShape) (thread : ThreadShape) (it : Op) →
+operation_told : (eyes : Eyes) (host : HostState) (thread : ThreadShape) (it : Op) →
     IsShadedOp eyes.scene eyes.shades host.me thread.at it →
-    ((on : HostId) → Names eyes.code it on → eyes.bad on ≡ false) →
+    ((on : HostId) → NamesHost eyes.code it on → eyes.bad on ≡ false) →
     ((token : Token) → (eyes.shades.at host.me thread.at).guard ≡ None →
-    MayHold eyes (eyes.shades.at host.me thread.at) token → eyes.bad token.host ≡ false) →
-    EachSending (λ on said. eyes.bad on ≡ false) (MayHold eyes (eyes.shades.at host.me thread.at)) eyes.code host
+    MayHoldToken eyes (eyes.shades.at host.me thread.at) token → eyes.bad token.host ≡ false) →
+    EachSending (λ on said. eyes.bad on ≡ false) (MayHoldToken eyes (eyes.shades.at host.me thread.at)) eyes.code host
     thread it
 operation_told eyes host thread (op.Read field index) law named back =
     λ there is apart. named there.host (field_named eyes.code field there is)
@@ -83,18 +83,18 @@ operation_told eyes host thread (op.Branch guard target) law named back = tt
 
 -- ---- secret turns
 
-pub secret_told : (eyes : Eyes) (state : HostShape) (thread : ThreadShape) (outcome : Outcome) → AreEyes eyes →
+pub secret_told : (eyes : Eyes) (state : HostState) (thread : ThreadShape) (outcome : Outcome) → AreEyes eyes →
     state.running ≡ Some thread → RunsWell eyes state.me thread → is_open eyes state.me thread.at ≡ false →
     IsTurn eyes.code state outcome → IfSome outcome.sent (λ sent. eyes.bad sent.0 ≡ false)
 secret_told eyes state thread outcome are runs well hidden turns =
-    turn_sends (λ on said. eyes.bad on ≡ false) (MayHold eyes (eyes.shades.at state.me thread.at)) eyes.code state
+    turn_sends (λ on said. eyes.bad on ≡ false) (MayHoldToken eyes (eyes.shades.at state.me thread.at)) eyes.code state
     thread outcome runs turns well.holds
     (λ there is. operation_told eyes (with_running state None) thread there.op
     (are.shaded.instructions state.me thread.at there is).law (named there is)
     (λ token unguarded holds. gives_obeying eyes state.me thread.at there token are is unguarded hidden holds))
   where
     named : (there : Instr) → instruction_at eyes.code state.me thread.at ≡ Some there → (on : HostId) →
-        Names eyes.code there.op on → eyes.bad on ≡ false
+        NamesHost eyes.code there.op on → eyes.bad on ≡ false
     named there is on names = elim (cases_Bool (eyes.bad on)) [
       | inl bad ↦ absurd (false≢true (sym hidden ∙ named_open eyes state.me on thread.at there are is names bad))
       | inr good ↦ good
@@ -103,7 +103,7 @@ secret_told eyes state thread outcome are runs well hidden turns =
 -- ---- worlds
 
 -- what goes to an obeying host tells no misbehaving one anything
-pub sent_silent : (eyes : Eyes) (world : WorldShape) (host : HostId) (old state : HostShape) (label : Option ℕ)
+pub sent_silent : (eyes : Eyes) (world : WorldShape) (host : HostId) (old state : HostState) (label : Option ℕ)
     (sent : Option (HostId × Message)) → Watches eyes world → state_at world host ≡ Some old →
     IfSome sent (λ it. eyes.bad it.0 ≡ false) →
     (after_sending (with_state world host state) host (letter_of label sent)).sent ≡ world.sent

@@ -18,7 +18,7 @@ use Rattle.split_shades.specs.Flows.{IsSeenOn}
 use Rattle.split_shades.specs.Shades.{EntryShade}
 use Rattle.split_shades.specs.ShadedCode.{IsShadedOp}
 use Rattle.split_shades.specs.Shading.{IsUnderBlock, IsLevelOf, IsEntryShade}
-use Rattle.seen_world.specs.Eyes.{Eyes, AreEyes, sees_at, is_open, is_deep, is_hidden, sees_level, Names}
+use Rattle.seen_world.specs.Eyes.{Eyes, AreEyes, sees_at, is_open, is_deep, is_hidden, sees_level, NamesHost}
 
 pub some_is : {X : Type 0} {one other : X} → Some one ≡ Some other → one ≡ other
 some_is is = cc
@@ -120,7 +120,7 @@ told_on : (eyes : Eyes) → AreEyes eyes → (to on : HostId) (label : Label) �
 told_on eyes are to on label same sees bad = seen_on eyes are to label sees (ap eyes.bad same ∙ bad)
 
 named_of : (eyes : Eyes) → AreEyes eyes → (host : HostId) (place : ℕ) (it : Op) →
-    IsShadedOp eyes.scene eyes.shades host place it → (on : HostId) → Names eyes.code it on → eyes.bad on ≡ true →
+    IsShadedOp eyes.scene eyes.shades host place it → (on : HostId) → NamesHost eyes.code it on → eyes.bad on ≡ true →
     is_open eyes host place ≡ true
 named_of eyes are host place (op.Read field index) law on named bad =
     told_on eyes are (field_host eyes.scene.planned.plan field) on (eyes.shades.at host place).pc
@@ -153,7 +153,7 @@ named_of eyes are host place op.Back law on named bad = absurd named
 named_of eyes are host place (op.Branch guard target) law on named bad = absurd named
 
 pub named_open : (eyes : Eyes) (host on : HostId) (place : ℕ) (there : Instr) → AreEyes eyes →
-    instruction_at eyes.code host place ≡ Some there → Names eyes.code there.op on → eyes.bad on ≡ true →
+    instruction_at eyes.code host place ≡ Some there → NamesHost eyes.code there.op on → eyes.bad on ≡ true →
     is_open eyes host place ≡ true
 named_open eyes host on place there are is named bad =
     named_of eyes are host place there.op (are.shaded.instructions host place there is).law on named bad

@@ -7,7 +7,7 @@ use Rattle.label_lattice.specs.declared.label.Label.{Label}
 use Rattle.host_code.specs.declared.instruction.Instr.{Instr}
 use Rattle.host_code.specs.Code.{instruction_at}
 use Rattle.host_code.specs.Thread.{ThreadShape}
-use Rattle.host_core.specs.Host.{HostShape}
+use Rattle.host_core.specs.Host.{HostState}
 use Rattle.host_core.specs.Turn.{label_of_turn}
 use Rattle.event_text.specs.declared.event.Event.TheVariants.{Take, Turn}
 use Rattle.entry_check.specs.Checks.{MaySee, label_at, label_of_host}
@@ -16,7 +16,7 @@ use Rattle.net_world.specs.Secret.{IsReadable, IsSecret}
 use Rattle.net_world.specs.World.{WorldShape, state_at}
 use Rattle.split_rules.specs.Placed.{PlacedProgram}
 use Rattle.split_rules.specs.Allowed.{IsAllowed}
-use Rattle.split_rules.specs.Held.{IsHeld}
+use Rattle.split_rules.specs.Held.{IsWellHeld}
 use Rattle.split_rules.specs.SplitCode.{split_code}
 use Rattle.split_rules.specs.Splittable.{IsSplittable}
 use Rattle.split_rules.proofs.AskingSplit.{split_is_granted}
@@ -29,7 +29,7 @@ use Rattle.seen_world.specs.Eyes.{Eyes, AreEyes, Watches, sees_at, is_open}
 use Rattle.seen_world.proofs.SeeingHosts.{has_eyes}
 
 pub split_has_eyes : (placed : PlacedProgram) (may_release : Bool) (bad : HostId → Bool) → IsSplittable placed →
-    IsAllowed placed → IsHeld placed → AreResultsLabelled placed.labelled.program →
+    IsAllowed placed → IsWellHeld placed → AreResultsLabelled placed.labelled.program →
     (may_release ≡ false → ReleasesNothing placed.labelled.program) → (shades : Shades) × (sees : Label → Bool)
     × AreEyes (record {
       scene = scene_of placed may_release;
@@ -107,7 +107,7 @@ take_secret eyes world from to place flight are watch is =
     let hidden = unread eyes world flight.label are watch in
     (λ unseen. both.0 (hidden.0 unseen), λ secret. hidden.1 (both.1 secret))
 
-pub turn_secret : (eyes : Eyes) (world : WorldShape) (host : HostId) (state : HostShape) (thread : ThreadShape)
+pub turn_secret : (eyes : Eyes) (world : WorldShape) (host : HostId) (state : HostState) (thread : ThreadShape)
     (there : Instr) → AreEyes eyes → Watches eyes world → state_at world host ≡ Some state → state.me ≡ host →
     state.running ≡ Some thread → instruction_at eyes.code host thread.at ≡ Some there →
     ((is_open eyes host thread.at ≡ false) ↔ IsSecret eyes.code world (Turn host))
@@ -116,7 +116,7 @@ turn_secret eyes world host state thread there are watch obeys me runs is =
     let same : sees_at eyes there.label ≡ is_open eyes host thread.at =
     rw (are.shaded.instructions host thread.at there is).label_is refl in
     let P : ℕ → Type 0 = λ label. ¬ IsReadable eyes.code world label in
-    let Q : HostShape → Type 0 = λ one. IsSomeAnd (label_of_turn eyes.code one) P in
+    let Q : HostState → Type 0 = λ one. IsSomeAnd (label_of_turn eyes.code one) P in
     let both = some_and Q (state_at world host) state obeys in
     let own = some_and P (label_of_turn eyes.code state) there.label label_is in
     let hidden = unread eyes world there.label are watch in (

@@ -17,7 +17,7 @@ use Rattle.host_code.specs.declared.message.Message.{Message}
 use Rattle.host_code.specs.declared.message.Message.TheVariants as message
 use Rattle.host_code.specs.Code.{CodeShape, CodeFieldShape, instruction_at, field_at, entry_at}
 use Rattle.host_code.specs.Thread.{ThreadShape}
-use Rattle.host_core.specs.Host.{HostShape, Outcome, with_running, after_clearing, value_in_thread, next_request}
+use Rattle.host_core.specs.Host.{HostState, Outcome, with_running, after_clearing, value_in_thread, next_request}
 use Rattle.host_core.specs.Turn.{IsTurnOf, IsTurn, IsRunning, after_operation, after_read, after_put, after_go}
 use Rattle.host_core.specs.Turn.{after_go_with, riders_of}
 use Rattle.host_core.specs.Turn.{after_ask, after_own_push, after_own_call, after_return, after_back, with_thread}
@@ -27,7 +27,7 @@ abbrev pub Sends : (HostId → Message → Type 0) → Outcome → Type 0
 Sends P outcome = IfSome outcome.sent (λ sent. P sent.0 sent.1)
 
 -- P holds of each host and message that an operation may send, where Q holds of the token that the thread holds
-abbrev pub EachSending : (HostId → Message → Type 0) → (Token → Type 0) → CodeShape → HostShape → ThreadShape → Op →
+abbrev pub EachSending : (HostId → Message → Type 0) → (Token → Type 0) → CodeShape → HostState → ThreadShape → Op →
     Type 0
 EachSending P Q code host thread (op.Read field index) =
     (there : CodeFieldShape) → field_at code field ≡ Some there → there.host ≢ host.me →
@@ -71,7 +71,7 @@ either_sends : (P : HostId → Message → Type 0) (b : Bool) (one other : Outco
 either_sends P true one other first second = first
 either_sends P false one other first second = second refl
 
-read_sends : (P : HostId → Message → Type 0) (Q : Token → Type 0) (code : CodeShape) (host : HostShape)
+read_sends : (P : HostId → Message → Type 0) (Q : Token → Type 0) (code : CodeShape) (host : HostState)
     (thread : ThreadShape) (field : FieldId) (index : List Node) (found : Option CodeFieldShape) →
     field_at code field ≡ found → EachSending P Q code host thread (op.Read field index) →
     Sends P (after_read host thread field index found)
@@ -80,7 +80,7 @@ read_sends P Q code host thread field index (Some there) is each =
     either_sends P (there.host.0 == host.me.0) _ _ tt
     (λ apart. each there is (elsewhere there.host host.me apart))
 
-put_sends : (P : HostId → Message → Type 0) (Q : Token → Type 0) (code : CodeShape) (host : HostShape)
+put_sends : (P : HostId → Message → Type 0) (Q : Token → Type 0) (code : CodeShape) (host : HostState)
     (thread : ThreadShape) (field : FieldId) (index value : List Node) (found : Option CodeFieldShape) →
     field_at code field ≡ found → EachSending P Q code host thread (op.Put field index value) →
     Sends P (after_put host thread field index value found)
@@ -89,37 +89,37 @@ put_sends P Q code host thread field index value (Some there) is each =
     either_sends P (there.host.0 == host.me.0) _ _ tt
     (λ apart. each there is (elsewhere there.host host.me apart))
 
-push_sends : (P : HostId → Message → Type 0) (host : HostShape) (thread : ThreadShape) (entry : EntryId)
+push_sends : (P : HostId → Message → Type 0) (host : HostState) (thread : ThreadShape) (entry : EntryId)
     (held : Option Token) → Sends P (after_own_push host thread entry held)
 push_sends P host thread entry None = tt
 push_sends P host thread entry (Some token) = tt
 
-ask_sends : (P : HostId → Message → Type 0) (Q : Token → Type 0) (code : CodeShape) (host : HostShape)
+ask_sends : (P : HostId → Message → Type 0) (Q : Token → Type 0) (code : CodeShape) (host : HostState)
     (thread : ThreadShape) (entry : EntryId) (on : HostId) (held : Option Token) → IfSome held Q →
     EachSending P Q code host thread (op.Ask entry on) → Sends P (after_ask host thread entry on held)
 ask_sends P Q code host thread entry on None holds each = tt
 ask_sends P Q code host thread entry on (Some token) holds each = each token holds
 
-go_sends : (P : HostId → Message → Type 0) (Q : Token → Type 0) (host : HostShape) (thread : ThreadShape)
+go_sends : (P : HostId → Message → Type 0) (Q : Token → Type 0) (host : HostState) (thread : ThreadShape)
     (frame : FrameId) (entry : EntryId) (on : HostId) (held : Option Token) → IfSome held Q →
     ((token : Token) → Q token → P on (message.Rgoto frame entry token)) →
     Sends P (after_go host thread frame entry on held)
 go_sends P Q host thread frame entry on None holds each = tt
 go_sends P Q host thread frame entry on (Some token) holds each = each token holds
 
-go_with_sends : (P : HostId → Message → Type 0) (Q : Token → Type 0) (host : HostShape) (thread : ThreadShape)
+go_with_sends : (P : HostId → Message → Type 0) (Q : Token → Type 0) (host : HostState) (thread : ThreadShape)
     (frame : FrameId) (entry : EntryId) (on : HostId) (riders : List VarId) (held : Option Token) → IfSome held Q →
     ((token : Token) → Q token → P on (message.RgotoWith frame entry token (riders_of host frame riders))) →
     Sends P (after_go_with host thread frame entry on riders held)
 go_with_sends P Q host thread frame entry on riders None holds each = tt
 go_with_sends P Q host thread frame entry on riders (Some token) holds each = each token holds
 
-own_call_sends : (P : HostId → Message → Type 0) (host : HostShape) (thread : ThreadShape) (found : Option Entry) →
+own_call_sends : (P : HostId → Message → Type 0) (host : HostState) (thread : ThreadShape) (found : Option Entry) →
     Sends P (after_own_call host thread found)
 own_call_sends P host thread None = tt
 own_call_sends P host thread (Some there) = tt
 
-return_sends : (P : HostId → Message → Type 0) (Q : Token → Type 0) (code : CodeShape) (host : HostShape)
+return_sends : (P : HostId → Message → Type 0) (Q : Token → Type 0) (code : CodeShape) (host : HostState)
     (thread : ThreadShape) (x : VarId) (value : List Node) (held : Option Token) (passes : Bool) → IfSome held Q →
     EachSending P Q code host thread (op.Ret x value) → Sends P (after_return host thread x value held passes)
 return_sends P Q code host thread x value None passes holds each = tt
@@ -127,14 +127,14 @@ return_sends P Q code host thread x value (Some token) passes holds each =
     either_sends P (token.host.0 == host.me.0) _ _ tt
     (λ apart. either_sends P passes _ _ (each token holds) (λ fails. tt))
 
-back_sends : (P : HostId → Message → Type 0) (Q : Token → Type 0) (code : CodeShape) (host : HostShape)
+back_sends : (P : HostId → Message → Type 0) (Q : Token → Type 0) (code : CodeShape) (host : HostState)
     (thread : ThreadShape) (held : Option Token) (passes : Bool) → IfSome held Q →
     EachSending P Q code host thread op.Back → Sends P (after_back code host thread held passes)
 back_sends P Q code host thread None passes holds each = tt
 back_sends P Q code host thread (Some token) passes holds each =
     either_sends P (token.host.0 == host.me.0) _ _ tt (λ apart. each token holds)
 
-operation_sends : (P : HostId → Message → Type 0) (Q : Token → Type 0) (code : CodeShape) (host : HostShape)
+operation_sends : (P : HostId → Message → Type 0) (Q : Token → Type 0) (code : CodeShape) (host : HostState)
     (thread : ThreadShape) (it : Op) (passes : Bool) → IfSome thread.held Q → EachSending P Q code host thread it →
     Sends P (after_operation code host thread it passes)
 operation_sends P Q code host thread (op.Read field index) passes holds each =
@@ -170,7 +170,7 @@ operation_sends P Q code host thread (op.Branch guard target) passes holds each 
 
 -- ---- turns
 
-running_sends : (P : HostId → Message → Type 0) (Q : Token → Type 0) (code : CodeShape) (state : HostShape)
+running_sends : (P : HostId → Message → Type 0) (Q : Token → Type 0) (code : CodeShape) (state : HostState)
     (thread : ThreadShape) (outcome : Outcome) → IfSome thread.held Q → (found : Option Instr) →
     instruction_at code state.me thread.at ≡ found →
     ((there : Instr) → instruction_at code state.me thread.at ≡ Some there →
@@ -181,7 +181,7 @@ running_sends P Q code state thread outcome holds (Some there) is each runs =
     subst (Sends P) runs.2
     (operation_sends P Q code (with_running state None) thread there.op runs.0 holds (each there is))
 
-pub turn_sends : (P : HostId → Message → Type 0) (Q : Token → Type 0) (code : CodeShape) (state : HostShape)
+pub turn_sends : (P : HostId → Message → Type 0) (Q : Token → Type 0) (code : CodeShape) (state : HostState)
     (thread : ThreadShape) (outcome : Outcome) → state.running ≡ Some thread → IsTurn code state outcome →
     IfSome thread.held Q →
     ((there : Instr) → instruction_at code state.me thread.at ≡ Some there →

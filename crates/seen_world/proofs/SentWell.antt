@@ -7,20 +7,21 @@ use Rattle.capability.specs.declared.token.Token.{Token}
 use Rattle.host_code.specs.declared.instruction.Op.{Op}
 use Rattle.host_code.specs.declared.instruction.Op.TheVariants as op
 use Rattle.host_code.specs.Thread.{ThreadShape}
-use Rattle.host_core.specs.Host.{HostShape, Outcome, with_running}
+use Rattle.host_core.specs.Host.{HostState, Outcome, with_running}
 use Rattle.host_core.specs.Turn.{IsTurn}
 use Rattle.split_shades.specs.ShadedCode.{IsShadedOp}
 use Rattle.split_shades.specs.Shades.{Shade}
-use Rattle.split_shades.specs.Shading.{IsUnderBlock, Names, HandsOn, Enters}
+use Rattle.split_shades.specs.Shading.{IsUnderBlock, NamesInShade, HandsOn, EntersInShade}
 use Rattle.seen_world.specs.Eyes.{Eyes, AreEyes}
-use Rattle.seen_world.specs.Points.{IsTokenOf, MayHold, MayEnterWith, RunsWell, IsAt, FliesWell}
+use Rattle.seen_world.specs.Points.{IsTokenOf, MayHoldToken, MayEnterWith, RunsWell, IsInstructionAt, FliesWell}
 use Rattle.seen_world.proofs.Sendings.{EachSending, turn_sends}
 use Rattle.seen_world.proofs.TurnsKept.{block_shown, named_host}
 
 -- ---- tokens
 
 kept_with : (eyes : Eyes) (here : Shade) (entry : EntryId) (token : Token) →
-    (names : Names eyes.shades.entries here entry.0) → MayHold eyes here token → MayEnterWith eyes entry token
+    (names : NamesInShade eyes.shades.entries here entry.0) → MayHoldToken eyes here token →
+    MayEnterWith eyes entry token
 kept_with eyes here entry token names holds = record {
   shade = names.it;
   is = names.is;
@@ -29,7 +30,7 @@ kept_with eyes here entry token names holds = record {
 }
 
 handed_on : (eyes : Eyes) (here : Shade) (entry : EntryId) (token : Token) →
-    HandsOn eyes.shades.entries here entry.0 → MayHold eyes here token → MayEnterWith eyes entry token
+    HandsOn eyes.shades.entries here entry.0 → MayHoldToken eyes here token → MayEnterWith eyes entry token
 handed_on eyes here entry token hands holds = record {
   shade = hands.it;
   is = hands.is;
@@ -38,7 +39,7 @@ handed_on eyes here entry token hands holds = record {
 }
 
 entered_with : (eyes : Eyes) → AreEyes eyes → (here : Shade) (entry : EntryId) (token : Token) →
-    Enters eyes.shades.entries here entry.0 → MayHold eyes here token → MayEnterWith eyes entry token
+    EntersInShade eyes.shades.entries here entry.0 → MayHoldToken eyes here token → MayEnterWith eyes entry token
 entered_with eyes are here entry token enters holds = record {
   shade = enters.it;
   is = enters.is;
@@ -48,11 +49,11 @@ entered_with eyes are here entry token enters holds = record {
 
 -- ---- messages
 
-operation_carried : (eyes : Eyes) → AreEyes eyes → (host : HostShape) (thread : ThreadShape) (it : Op) →
+operation_carried : (eyes : Eyes) → AreEyes eyes → (host : HostState) (thread : ThreadShape) (it : Op) →
     IsUnderBlock (eyes.shades.at host.me thread.at).guard (eyes.shades.at host.me thread.at).block
     (eyes.shades.at host.me thread.at).pc → IsShadedOp eyes.scene eyes.shades host.me thread.at it →
-    IsAt eyes host.me thread.at it →
-    EachSending (FliesWell eyes host.me) (MayHold eyes (eyes.shades.at host.me thread.at)) eyes.code host thread it
+    IsInstructionAt eyes host.me thread.at it →
+    EachSending (FliesWell eyes host.me) (MayHoldToken eyes (eyes.shades.at host.me thread.at)) eyes.code host thread it
 unfolding kept_with
 operation_carried eyes are host thread (op.Read field index) below law at =
     λ there is apart. ((index, at, named_host eyes field there is), tt)
@@ -82,11 +83,11 @@ operation_carried eyes are host thread (op.Ret x value) below law at = λ token 
 operation_carried eyes are host thread op.Back below law at = λ token holds. (tt, tt)
 operation_carried eyes are host thread (op.Branch guard target) below law at = tt
 
-pub turn_carries : (eyes : Eyes) (state : HostShape) (thread : ThreadShape) (outcome : Outcome) → AreEyes eyes →
+pub turn_carries : (eyes : Eyes) (state : HostState) (thread : ThreadShape) (outcome : Outcome) → AreEyes eyes →
     state.running ≡ Some thread → RunsWell eyes state.me thread → IsTurn eyes.code state outcome →
     IfSome outcome.sent (λ sent. FliesWell eyes state.me sent.0 sent.1)
 turn_carries eyes state thread outcome are is well turns =
-    turn_sends (FliesWell eyes state.me) (MayHold eyes (eyes.shades.at state.me thread.at)) eyes.code state thread
+    turn_sends (FliesWell eyes state.me) (MayHoldToken eyes (eyes.shades.at state.me thread.at)) eyes.code state thread
     outcome is turns well.holds
     (λ there found. let shaded = are.shaded.instructions state.me thread.at there found in
     operation_carried eyes are (with_running state None) thread there.op shaded.is_shade.under_block shaded.law

@@ -21,9 +21,9 @@ use Rattle.host_code.specs.Thread.{ThreadShape, WaitingShape, Awaited}
 use Rattle.host_code.specs.Thread.Awaited.{value_of_field, acknowledgement, token_of_entry}
 use Rattle.entry_check.specs.Checks.{MayEnter, IsTrustedFor, MaySee, label_at, label_of_host}
 use Rattle.host_core.specs.Awaiting.{awaits, is_same_answer}
-use Rattle.host_core.specs.Host.{HostShape, Outcome, with_running, with_temporary, with_token}
+use Rattle.host_core.specs.Host.{HostState, Outcome, with_running, with_temporary, with_token}
 use Rattle.host_core.specs.Host.{after_pop, after_entering, with_variables_set}
-use Rattle.host_core.specs.Taking.{IsTaking, Passes, after_passing, after_taking, after_answer, place_of_awaiting}
+use Rattle.host_core.specs.Taking.{IsTaking, PassesCheck, after_passing, after_taking, after_answer, place_of_awaiting}
 use Rattle.event_text.specs.declared.event.Event.TheVariants.{Take}
 use Rattle.net_world.specs.Fits.{ShapeFits, IsStateOf}
 use Rattle.net_world.specs.Flying.{Flight}
@@ -32,20 +32,20 @@ use Rattle.net_world.proofs.StepLaws.{take_puts}
 use Rattle.token_laws.proofs.Riding.{riding_is}
 use Rattle.seen_world.specs.Eyes.{Eyes, AreEyes}
 use Rattle.seen_world.specs.Points.{AnsweredWell, RunsWell, WaitsWell, StandsWell, HostKeeps}
-use Rattle.seen_world.specs.Points.{HostsKeep, CarriesWell, MayHold}
+use Rattle.seen_world.specs.Points.{HostsKeep, MessageCarriesWell, MayHoldToken}
 use Rattle.seen_world.proofs.TurnsKept.{more_entries, entered_kept, pop_kept, hosts_kept}
 use Rattle.seen_world.proofs.SeenPlaces.{some_is}
 
 -- ---- answers
 
-pub waits_at : (eyes : Eyes) (host : HostShape) (place : ℕ) (waiting : WaitingShape) → HostKeeps eyes host.me host →
+pub waits_at : (eyes : Eyes) (host : HostState) (place : ℕ) (waiting : WaitingShape) → HostKeeps eyes host.me host →
     slice_get host.waiting place ≡ Some waiting → WaitsWell eyes host.me waiting
 waits_at eyes host place waiting keeps at =
     subst (WaitsWell eyes host.me) (get_or_from_slice_get host.waiting place waiting waiting at)
     (All-get_or (WaitsWell eyes host.me) host.waiting place waiting
     (slice_get_within host.waiting place waiting at) keeps.waiting)
 
-pub awaits_at : (host : HostShape) (awaited : Awaited) (request : RequestId) (from : HostId) (place : ℕ)
+pub awaits_at : (host : HostState) (awaited : Awaited) (request : RequestId) (from : HostId) (place : ℕ)
     (waiting : WaitingShape) → place_of_awaiting host awaited request from ≡ Some place →
     slice_get host.waiting place ≡ Some waiting → awaits awaited request from waiting ≡ true
 awaits_at host awaited request from place waiting is at =
@@ -59,7 +59,7 @@ woken : (eyes : Eyes) (me : HostId) (found : Option WaitingShape) (answered : Th
 woken eyes me None answered runs = tt
 woken eyes me (Some waiting) answered runs = runs waiting refl
 
-answer_kept : (eyes : Eyes) (host : HostShape) (found : Option ℕ) (answered : ThreadShape → ThreadShape) →
+answer_kept : (eyes : Eyes) (host : HostState) (found : Option ℕ) (answered : ThreadShape → ThreadShape) →
     HostKeeps eyes host.me host →
     ((place : ℕ) (waiting : WaitingShape) → found ≡ Some place → slice_get host.waiting place ≡ Some waiting →
     RunsWell eyes host.me (answered waiting.thread)) → HostKeeps eyes host.me (after_answer host found answered)
@@ -88,7 +88,7 @@ with_nothing eyes host thread token_of_entry request from same well = absurd (fa
 
 with_given : (eyes : Eyes) (host : HostId) (thread : ThreadShape) (waits : Awaited) (request from : Bool)
     (token : Token) → ((is_same_answer waits token_of_entry && request) && from) ≡ true →
-    AnsweredWell eyes host thread waits → MayHold eyes (eyes.shades.at host thread.at) token →
+    AnsweredWell eyes host thread waits → MayHoldToken eyes (eyes.shades.at host thread.at) token →
     RunsWell eyes host (with_token (Some token) thread)
 with_given eyes host thread value_of_field request from token same well holds = absurd (false≢true same)
 with_given eyes host thread acknowledgement request from token same well holds = absurd (false≢true same)
@@ -122,9 +122,9 @@ on_me eyes me from entry may = of (entry_at eyes.code entry) may.1
     of None some = absurd some
     of (Some there) some = some.0
 
-passing_kept : (eyes : Eyes) → AreEyes eyes → (host : HostShape) (from : HostId) (m : Message) →
-    HostKeeps eyes host.me host → host.running ≡ None → CarriesWell eyes host.me m →
-    Passes eyes.code host from m → HostKeeps eyes host.me (after_passing eyes.code host from m).state
+passing_kept : (eyes : Eyes) → AreEyes eyes → (host : HostState) (from : HostId) (m : Message) →
+    HostKeeps eyes host.me host → host.running ≡ None → MessageCarriesWell eyes host.me m →
+    PassesCheck eyes.code host from m → HostKeeps eyes host.me (after_passing eyes.code host from m).state
 passing_kept eyes are host from (message.Get request field index) keeps rests carries passes = keeps
 passing_kept eyes are host from (message.Set request field index value) keeps rests carries passes =
     record { running = keeps.running; waiting = keeps.waiting; entries = keeps.entries }
@@ -148,14 +148,14 @@ passing_kept eyes are host from (message.Rgoto frame entry token) keeps rests ca
     entered_kept eyes are host entry frame token (entry_at eyes.code entry) refl (apart_of entry passes.0)
     (on_me eyes host.me from entry passes) carries (keeps.entries, keeps.waiting)
 passing_kept eyes are host from (message.RgotoWith frame entry token riders) keeps rests carries passes =
-    let rode : HostShape = record host { variables = (with_variables_set host frame riders).variables } in
-    subst (λ (one : HostShape). HostKeeps eyes host.me (after_entering one (entry_at eyes.code entry) frame token))
+    let rode : HostState = record host { variables = (with_variables_set host frame riders).variables } in
+    subst (λ (one : HostState). HostKeeps eyes host.me (after_entering one (entry_at eyes.code entry) frame token))
     (riding_is host frame riders)
     (entered_kept eyes are rode entry frame token (entry_at eyes.code entry) refl (apart_of entry passes.0.0)
     (on_me eyes host.me from entry passes.0) carries (keeps.entries, keeps.waiting))
 passing_kept eyes are host from (message.Lgoto token) keeps rests carries passes =
     let same : with_running host None ≡ host = ap (with_running host) (sym rests) in
-    subst (λ (one : HostShape). HostKeeps eyes host.me (after_pop eyes.code one host.entries)) same
+    subst (λ (one : HostState). HostKeeps eyes host.me (after_pop eyes.code one host.entries)) same
     (pop_kept eyes are host host.entries keeps.entries (keeps.entries, keeps.waiting))
 passing_kept eyes are host from (message.Value request value) keeps rests carries passes =
     answer_kept eyes host (place_of_awaiting host value_of_field request from) (with_temporary value) keeps
@@ -177,20 +177,21 @@ passing_kept eyes are host from (message.Token request token) keeps rests carrie
     (waiting.request.count == request.count) (waiting.asked.0 == from.0) same in
     let goes : request.at + 1 ≡ waiting.thread.at = ap (λ n. n + 1) (sym there) ∙ sym well.0 in
     with_given eyes host.me waiting.thread waiting.awaited _ _ token same well.1
-    (subst (λ n. MayHold eyes (eyes.shades.at host.me n) token) goes carries))
+    (subst (λ n. MayHoldToken eyes (eyes.shades.at host.me n) token) goes carries))
 
-either_passes : (eyes : Eyes) → AreEyes eyes → (host : HostShape) (from : HostId) (m : Message) (passes : Bool) →
+either_passes : (eyes : Eyes) → AreEyes eyes → (host : HostState) (from : HostId) (m : Message) (passes : Bool) →
     HostKeeps eyes host.me host → host.running ≡ None →
-    (Passes eyes.code host from m → CarriesWell eyes host.me m) → (IsTrue passes → Passes eyes.code host from m) →
+    (PassesCheck eyes.code host from m → MessageCarriesWell eyes host.me m) →
+    (IsTrue passes → PassesCheck eyes.code host from m) →
     HostKeeps eyes host.me (after_taking eyes.code host from m passes).state
 either_passes eyes are host from m true keeps rests carries passes =
     passing_kept eyes are host from m keeps rests (carries (passes refl)) (passes refl)
 either_passes eyes are host from m false keeps rests carries passes =
     record { running = keeps.running; waiting = keeps.waiting; entries = keeps.entries }
 
-pub take_keeps : (eyes : Eyes) (state : HostShape) (from : HostId) (said : Message) (outcome : Outcome) →
+pub take_keeps : (eyes : Eyes) (state : HostState) (from : HostId) (said : Message) (outcome : Outcome) →
     AreEyes eyes → HostKeeps eyes state.me state → state.running ≡ None →
-    (Passes eyes.code state from said → CarriesWell eyes state.me said) →
+    (PassesCheck eyes.code state from said → MessageCarriesWell eyes state.me said) →
     IsTaking eyes.code state from said outcome → HostKeeps eyes state.me outcome.state
 take_keeps eyes state from said outcome are keeps rests carries takes =
     subst (λ (it : Outcome). HostKeeps eyes state.me it.state) takes.2
@@ -198,16 +199,16 @@ take_keeps eyes state from said outcome are keeps rests carries takes =
 
 pub taken_world : (eyes : Eyes) (world after : WorldShape) (from to : HostId) (place : ℕ) (flight : Flight) →
     AreEyes eyes → ShapeFits eyes.code world → HostsKeep eyes world →
-    slice_get (world.flying from to) place ≡ Some flight → CarriesWell eyes to flight.message →
+    slice_get (world.flying from to) place ≡ Some flight → MessageCarriesWell eyes to flight.message →
     IsStep eyes.code world (Take from to place) after → HostsKeep eyes after
 taken_world eyes world after from to place flight are fits keep there carries step =
     let state = step.state in
     let fit : IsStateOf eyes.code to state =
     subst (λ one. IfSome one (IsStateOf eyes.code to)) step.obeys (fits.states to) in
     let same : flight ≡ step.flight = some_is (sym there ∙ step.there) in
-    let carried : CarriesWell eyes state.me step.flight.message =
-    subst (λ (me : HostId). CarriesWell eyes me step.flight.message) (sym fit.me)
-    (subst (λ (one : Flight). CarriesWell eyes to one.message) same carries) in
+    let carried : MessageCarriesWell eyes state.me step.flight.message =
+    subst (λ (me : HostId). MessageCarriesWell eyes me step.flight.message) (sym fit.me)
+    (subst (λ (one : Flight). MessageCarriesWell eyes to one.message) same carries) in
     let kept : HostKeeps eyes state.me step.outcome.state =
     take_keeps eyes state from step.flight.message step.outcome are
     (subst (λ (me : HostId). HostKeeps eyes me state) (sym fit.me) (keep to state step.obeys)) step.rests

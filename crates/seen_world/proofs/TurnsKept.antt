@@ -22,7 +22,7 @@ use Rattle.host_code.specs.Sound.{IsSoundCode, IsEntryOn, OperationFits, tempora
 use Rattle.host_code.specs.Thread.{ThreadShape, Awaited}
 use Rattle.host_code.specs.Thread.Awaited.{value_of_field, acknowledgement, token_of_entry}
 use Rattle.host_core.specs.Fits.{StateFits}
-use Rattle.host_core.specs.Host.{HostShape, Outcome, with_running, after_clearing, after_step, value_in_thread}
+use Rattle.host_core.specs.Host.{HostState, Outcome, with_running, after_clearing, after_step, value_in_thread}
 use Rattle.host_core.specs.Host.{with_temporary, with_token, new_token, after_pop, after_entering, after_asking}
 use Rattle.host_core.specs.Host.{next_request}
 use Rattle.host_core.specs.Turn.{IsTurnOf, IsTurn, IsRunning, after_operation, after_read, after_put, after_go}
@@ -34,10 +34,11 @@ use Rattle.net_world.specs.World.{WorldShape, state_at, IsStep}
 use Rattle.net_world.proofs.Moved.{Moved, either}
 use Rattle.net_world.proofs.StepLaws.{turn_puts}
 use Rattle.split_shades.specs.ShadedCode.{IsShadedOp}
-use Rattle.split_shades.specs.Shades.{Shade, EntryShade, Ahead, Meets, ahead_of}
-use Rattle.split_shades.specs.Shading.{IsUnderBlock, Divides, Names, PushesAt, Pushes, Enters, behind}
+use Rattle.split_shades.specs.Shades.{Shade, EntryShade, Ahead, MeetsShade, ahead_of}
+use Rattle.split_shades.specs.Shading.{IsUnderBlock, DividesInShade, NamesInShade, PushesAt, PushesInShade}
+use Rattle.split_shades.specs.Shading.{EntersInShade, behind}
 use Rattle.seen_world.specs.Eyes.{Eyes, AreEyes, Watches, is_hidden}
-use Rattle.seen_world.specs.Points.{MayEnterWith, IsTokenOf, MayHold, RunsWell, IsAt, WaitsWell}
+use Rattle.seen_world.specs.Points.{MayEnterWith, IsTokenOf, MayHoldToken, RunsWell, IsInstructionAt, WaitsWell}
 use Rattle.seen_world.specs.Points.{StandsWell, HostKeeps, HostsKeep}
 use Rattle.seen_world.proofs.PointsAtStart.{own_state}
 use Rattle.seen_world.proofs.SecretTurns.{held_by}
@@ -53,39 +54,39 @@ same_more : (eyes : Eyes) (label other : Label) → label ≡ other → NoMore e
 same_more eyes label other same seen = ap eyes.sees (sym same) ∙ seen
 
 held_on : (eyes : Eyes) (here later : Shade) (token : Token) → later.level ≡ here.level →
-    NoMore eyes later.block here.block → MayHold eyes here token → MayHold eyes later token
+    NoMore eyes later.block here.block → MayHoldToken eyes here token → MayHoldToken eyes later token
 held_on eyes here later token level block holds = (
   subst (λ one. IsTokenOf eyes one token) (sym level) holds.0,
   λ seen. holds.1 (block seen),
 )
 
 goes_on : (eyes : Eyes) (host : HostId) (thread later : ThreadShape) (next : Ahead) → RunsWell eyes host thread →
-    Meets next (eyes.shades.at host later.at) → next.level ≡ (eyes.shades.at host thread.at).level →
+    MeetsShade next (eyes.shades.at host later.at) → next.level ≡ (eyes.shades.at host thread.at).level →
     NoMore eyes next.block (eyes.shades.at host thread.at).block → length later.temporaries ≡ length next.temps →
     (next.calls ≡ false → later.new_frame ≡ later.frame) → thread.held ≡ later.held → RunsWell eyes host later
 goes_on eyes host thread later next well meets level block temps frames same =
     let here = eyes.shades.at host thread.at in
     let there = eyes.shades.at host later.at in
-    let each : (token : Token) → MayHold eyes here token → MayHold eyes there token =
+    let each : (token : Token) → MayHoldToken eyes here token → MayHoldToken eyes there token =
     λ token. held_on eyes here there token (meets.level ∙ level)
     (λ seen. block (ap eyes.sees (sym meets.block) ∙ seen)) in
     record {
       temps = temps ∙ ap length (sym meets.temps);
       frames = λ calls. frames (sym meets.calls ∙ calls);
-      holds = subst (λ held. IfSome held (MayHold eyes there)) same
-          (held_by (MayHold eyes here) (MayHold eyes there) thread.held each well.holds);
+      holds = subst (λ held. IfSome held (MayHoldToken eyes there)) same
+          (held_by (MayHoldToken eyes here) (MayHoldToken eyes there) thread.held each well.holds);
     }
 
 -- the next place
 pub meets_next : (eyes : Eyes) (host : HostId) (place : ℕ) (next : Ahead) →
-    Meets next (eyes.shades.at host (suc place)) →
-    Meets next (eyes.shades.at host (place + 1))
+    MeetsShade next (eyes.shades.at host (suc place)) →
+    MeetsShade next (eyes.shades.at host (place + 1))
 meets_next eyes host place next meets =
-    subst (λ n. Meets next (eyes.shades.at host n)) (let same : suc place ≡ place + 1 = omega arith in same) meets
+    subst (λ n. MeetsShade next (eyes.shades.at host n)) (let same : suc place ≡ place + 1 = omega arith in same) meets
 
 -- behind a statement, or a part of a call, that drops its temporaries
 clears : (eyes : Eyes) (host : HostId) (thread : ThreadShape) (calls : Bool) (next : Ahead) →
-    RunsWell eyes host thread → Meets next (eyes.shades.at host (suc thread.at)) →
+    RunsWell eyes host thread → MeetsShade next (eyes.shades.at host (suc thread.at)) →
     next ≡ behind (eyes.shades.at host thread.at) calls → (calls ≡ false → thread.new_frame ≡ thread.frame) →
     RunsWell eyes host (after_clearing thread)
 clears eyes host thread calls next well meets is frames =
@@ -99,7 +100,7 @@ clears eyes host thread calls next well meets is frames =
 -- behind a part of a statement for which nothing was read
 steps : (eyes : Eyes) (host : HostId) (thread : ThreadShape) (calls : Bool) (next : Ahead) →
     RunsWell eyes host thread → (eyes.shades.at host thread.at).temps ≡ [] →
-    Meets next (eyes.shades.at host (suc thread.at)) → next ≡ behind (eyes.shades.at host thread.at) calls →
+    MeetsShade next (eyes.shades.at host (suc thread.at)) → next ≡ behind (eyes.shades.at host thread.at) calls →
     (calls ≡ false → thread.new_frame ≡ thread.frame) → RunsWell eyes host (after_step thread)
 steps eyes host thread calls next well plain meets is frames =
     let here = eyes.shades.at host thread.at in
@@ -111,16 +112,16 @@ steps eyes host thread calls next well plain meets is frames =
 
 -- ---- what is left
 
-abbrev Kept : Eyes → HostShape → Outcome → Type 0
+abbrev Kept : Eyes → HostState → Outcome → Type 0
 Kept eyes host outcome = HostKeeps eyes host.me outcome.state
 
-either_kept : (eyes : Eyes) (host : HostShape) (b : Bool) (one other : Outcome) → Kept eyes host one →
+either_kept : (eyes : Eyes) (host : HostState) (b : Bool) (one other : Outcome) → Kept eyes host one →
     Kept eyes host other → Kept eyes host (if b then one else other)
 either_kept eyes host true one other first second = first
 either_kept eyes host false one other first second = second
 
 -- what holds of the entries and of the threads that wait
-abbrev pub Stand : Eyes → HostShape → Type 0
+abbrev pub Stand : Eyes → HostState → Type 0
 Stand eyes host = All (StandsWell eyes host.me) host.entries × All (WaitsWell eyes host.me) host.waiting
 
 one_more : {X : Type 0} (P : X → Type 0) (xs : List X) (x : X) → All P xs → P x → All P (xs ++ x ∷ [])
@@ -130,7 +131,7 @@ one_more P (y ∷ xs) x all here zero d lt = all 0 d (omega arith)
 one_more P (y ∷ xs) x all here (suc k) d lt =
     one_more P xs x (λ j e less. all (suc j) e (omega arith)) here k d (omega arith)
 
-asked_kept : (eyes : Eyes) (host : HostShape) (at : ℕ) (later : ThreadShape) (awaited : Awaited) (asked : HostId) →
+asked_kept : (eyes : Eyes) (host : HostState) (at : ℕ) (later : ThreadShape) (awaited : Awaited) (asked : HostId) →
     Stand eyes host →
     WaitsWell eyes host.me
     (record { thread = later; awaited = awaited; request = next_request host at; asked = asked }) →
@@ -148,10 +149,10 @@ pub named_host : (eyes : Eyes) (field : FieldId) (there : CodeFieldShape) → fi
 named_host eyes field there is =
     subst (λ found. IsSomeAnd found (λ (one : CodeFieldShape). one.host ≡ there.host)) (sym is) refl
 
-read_kept : (eyes : Eyes) (host : HostShape) (thread : ThreadShape) (field : FieldId) (index : List Node) →
+read_kept : (eyes : Eyes) (host : HostState) (thread : ThreadShape) (field : FieldId) (index : List Node) →
     Stand eyes host → RunsWell eyes host.me thread →
     IsShadedOp eyes.scene eyes.shades host.me thread.at (op.Read field index) →
-    IsAt eyes host.me thread.at (op.Read field index) → (found : Option CodeFieldShape) →
+    IsInstructionAt eyes host.me thread.at (op.Read field index) → (found : Option CodeFieldShape) →
     field_at eyes.code field ≡ found → Kept eyes host (after_read host thread field index found)
 read_kept eyes host thread field index stand well law at None is =
     record { running = well; waiting = stand.1; entries = stand.0 }
@@ -178,10 +179,10 @@ read_kept eyes host thread field index stand well law at (Some there) is =
     one_longer (a ∷ xs) (b ∷ ys) x y same =
         ap suc (one_longer xs ys x y (let less : length xs ≡ length ys = omega (arith, same) in less))
 
-put_kept : (eyes : Eyes) (host : HostShape) (thread : ThreadShape) (field : FieldId) (index value : List Node) →
+put_kept : (eyes : Eyes) (host : HostState) (thread : ThreadShape) (field : FieldId) (index value : List Node) →
     Stand eyes host → RunsWell eyes host.me thread →
     IsShadedOp eyes.scene eyes.shades host.me thread.at (op.Put field index value) →
-    IsAt eyes host.me thread.at (op.Put field index value) → (found : Option CodeFieldShape) →
+    IsInstructionAt eyes host.me thread.at (op.Put field index value) → (found : Option CodeFieldShape) →
     field_at eyes.code field ≡ found → Kept eyes host (after_put host thread field index value found)
 put_kept eyes host thread field index value stand well law at None is =
     record { running = well; waiting = stand.1; entries = stand.0 }
@@ -205,7 +206,7 @@ record Parts (eyes : Eyes) (here : Shade) (next : Ahead) : Type 0 where
   temps : next.temps ≡ []
 
 divided : (eyes : Eyes) → AreEyes eyes → (here : Shade) (nodes : List Node) (guard : Option ℕ) (next target : Ahead) →
-    IsUnderBlock guard here.block here.pc → Divides eyes.scene here nodes guard next target →
+    IsUnderBlock guard here.block here.pc → DividesInShade eyes.scene here nodes guard next target →
     Parts eyes here next × Parts eyes here target
 divided eyes are here nodes None next target below parts =
     let block : NoMore eyes next.block here.block =
@@ -230,12 +231,13 @@ divided eyes are here nodes (Some guard) next target below parts = (
   },
 )
 
-branch_kept : (eyes : Eyes) → AreEyes eyes → (host : HostShape) (thread : ThreadShape) (guard : List Node)
+branch_kept : (eyes : Eyes) → AreEyes eyes → (host : HostState) (thread : ThreadShape) (guard : List Node)
     (target : ℕ) → Stand eyes host → RunsWell eyes host.me thread →
     IsUnderBlock (eyes.shades.at host.me thread.at).guard (eyes.shades.at host.me thread.at).block
     (eyes.shades.at host.me thread.at).pc → (next other : Ahead) → (eyes.shades.at host.me thread.at).calls ≡ false →
-    Divides eyes.scene (eyes.shades.at host.me thread.at) guard (eyes.shades.at host.me thread.at).guard next other →
-    Meets next (eyes.shades.at host.me (suc thread.at)) → Meets other (eyes.shades.at host.me target) →
+    DividesInShade eyes.scene (eyes.shades.at host.me thread.at) guard (eyes.shades.at host.me thread.at).guard next
+    other →
+    MeetsShade next (eyes.shades.at host.me (suc thread.at)) → MeetsShade other (eyes.shades.at host.me target) →
     (b : Bool) →
     let later = after_clearing thread in
     Kept eyes host (if b then with_thread host (record later { at = target }) else with_thread host later)
@@ -259,7 +261,7 @@ branch_kept eyes are host thread guard target stand well below next other calls 
 
 -- behind a push its token may be held, and is hidden only where the push is
 pub record Pushed (eyes : Eyes) (here : Shade) (number : ℕ) (next : Ahead) : Type 0 where
-  pub names : Names eyes.shades.entries here number
+  pub names : NamesInShade eyes.shades.entries here number
   pub level : (token : Token) → eyes.bad token.host ≡ false → (token.entry.0 ≡ number) →
       IsSomeAnd (entry_at eyes.code token.entry) (λ entry. entry.host ≡ token.host) → IsTokenOf eyes next.level token
   pub block : NoMore eyes next.block here.pc
@@ -290,7 +292,7 @@ pushed_at eyes here number next (Some guard) below calls pushes = record {
 
 pushed_by : (eyes : Eyes) (me : HostId) (here : Shade) (number : ℕ) (next : Ahead) (calls : Bool) →
     here.calls ≡ calls → IsUnderBlock here.guard here.block here.pc →
-    Pushes eyes.scene eyes.shades.entries me calls here number next → Pushed eyes here number next
+    PushesInShade eyes.scene eyes.shades.entries me calls here number next → Pushed eyes here number next
 pushed_by eyes me here number next false calls below pushes =
     pushed_at eyes here number next here.guard below calls pushes
 pushed_by eyes me here number next true calls below pushes =
@@ -307,7 +309,7 @@ pushed_by eyes me here number next true calls below pushes =
     }
 
 -- an entry is hidden just where the instruction is that pushes it
-pub hidden_is : (eyes : Eyes) (here : Shade) (number : ℕ) → Names eyes.shades.entries here number →
+pub hidden_is : (eyes : Eyes) (here : Shade) (number : ℕ) → NamesInShade eyes.shades.entries here number →
     is_hidden eyes number ≡ not (eyes.sees here.pc)
 hidden_is eyes here number names = rw (names.is, names.pushed) refl
 
@@ -317,7 +319,7 @@ shown_is false is = absurd (false≢true (sym is))
 
 -- the block of an entry that is pushed where it may be seen may be seen
 pub block_shown : (eyes : Eyes) → AreEyes eyes → (here : Shade) (number : ℕ) →
-    IsUnderBlock here.guard here.block here.pc → (names : Names eyes.shades.entries here number) →
+    IsUnderBlock here.guard here.block here.pc → (names : NamesInShade eyes.shades.entries here number) →
     is_hidden eyes number ≡ false → eyes.sees names.it.block ≡ true
 block_shown eyes are here number below names shown =
     ap eyes.sees names.block ∙ under_seen eyes are here.guard here.block here.pc below
@@ -325,8 +327,8 @@ block_shown eyes are here number below names shown =
 
 -- the token of an entry that was pushed may be held behind the push
 pub pushed_holds : (eyes : Eyes) (here later : Shade) (token : Token) (next : Ahead) →
-    Pushed eyes here token.entry.0 next → Meets next later → eyes.bad token.host ≡ false →
-    IsSomeAnd (entry_at eyes.code token.entry) (λ entry. entry.host ≡ token.host) → MayHold eyes later token
+    Pushed eyes here token.entry.0 next → MeetsShade next later → eyes.bad token.host ≡ false →
+    IsSomeAnd (entry_at eyes.code token.entry) (λ entry. entry.host ≡ token.host) → MayHoldToken eyes later token
 pushed_holds eyes here later token next pushed meets obeys on = (
   subst (λ level. IsTokenOf eyes level token) (sym meets.level) (pushed.level token obeys refl on),
   λ seen one.
@@ -339,23 +341,23 @@ pub more_entries : {X : Type 0} (P : X → Type 0) (x : X) (xs : List X) → P x
 more_entries P x xs here rest zero d lt = here
 more_entries P x xs here rest (suc k) d lt = rest k d (omega arith)
 
-push_kept : (eyes : Eyes) → AreEyes eyes → (host : HostShape) (thread : ThreadShape) (entry : EntryId)
+push_kept : (eyes : Eyes) → AreEyes eyes → (host : HostState) (thread : ThreadShape) (entry : EntryId)
     (held : Option Token) → eyes.bad host.me ≡ false → Stand eyes host → RunsWell eyes host.me thread →
     IsUnderBlock (eyes.shades.at host.me thread.at).guard (eyes.shades.at host.me thread.at).block
     (eyes.shades.at host.me thread.at).pc → IsEntryOn eyes.code host.me entry → (next : Ahead) →
     (eyes.shades.at host.me thread.at).temps ≡ [] →
     Pushed eyes (eyes.shades.at host.me thread.at) entry.0 next →
-    Meets next (eyes.shades.at host.me (suc thread.at)) → thread.held ≡ held →
+    MeetsShade next (eyes.shades.at host.me (suc thread.at)) → thread.held ≡ held →
     Kept eyes host (after_own_push host thread entry held)
 push_kept eyes are host thread entry None obeys stand well below on next plain pushed meets is =
     record { running = well; waiting = stand.1; entries = stand.0 }
 push_kept eyes are host thread entry (Some held) obeys stand well below on next plain pushed meets is =
     let here = eyes.shades.at host.me thread.at in
     let there = eyes.shades.at host.me (thread.at + 1) in
-    let met : Meets next there = meets_next eyes host.me thread.at next meets in
+    let met : MeetsShade next there = meets_next eyes host.me thread.at next meets in
     let names = pushed.names in
     let token : Token = new_token host entry thread.frame in
-    let held_well : MayHold eyes here held = subst (λ one. IfSome one (MayHold eyes here)) is well.holds in
+    let held_well : MayHoldToken eyes here held = subst (λ one. IfSome one (MayHoldToken eyes here)) is well.holds in
     record {
       running = record {
         temps = well.temps ∙ ap length plain ∙ ap length (sym pushed.temps) ∙ ap length (sym met.temps);
@@ -377,10 +379,10 @@ push_kept eyes are host thread entry (Some held) obeys stand well below on next 
 
 -- ---- calls
 
-own_call_kept : (eyes : Eyes) → AreEyes eyes → (host : HostShape) (thread : ThreadShape) (entry : EntryId)
+own_call_kept : (eyes : Eyes) → AreEyes eyes → (host : HostState) (thread : ThreadShape) (entry : EntryId)
     (found : Option Entry) → entry_at eyes.code entry ≡ found → IsSomeAnd found (λ there. there.host ≡ host.me) →
     Stand eyes host → RunsWell eyes host.me thread → (eyes.shades.at host.me thread.at).temps ≡ [] →
-    Enters eyes.shades.entries (eyes.shades.at host.me thread.at) entry.0 →
+    EntersInShade eyes.shades.entries (eyes.shades.at host.me thread.at) entry.0 →
     Kept eyes host (after_own_call host thread found)
 own_call_kept eyes are host thread entry None is on stand well plain enters = absurd on
 own_call_kept eyes are host thread entry (Some there) is on stand well plain enters =
@@ -391,8 +393,8 @@ own_call_kept eyes are host thread entry (Some there) is on stand well plain ent
     ap (slice_get eyes.code.entries) (sym number) ∙ is in
     let shade_is : slice_get eyes.shades.entries (suc enters.method.0) ≡ Some it =
     ap (slice_get eyes.shades.entries) (sym number) ∙ enters.is in
-    let meets : Meets (ahead_of it) (eyes.shades.at host.me there.at) =
-    subst (λ h. Meets (ahead_of it) (eyes.shades.at h there.at)) on
+    let meets : MeetsShade (ahead_of it) (eyes.shades.at host.me there.at) =
+    subst (λ h. MeetsShade (ahead_of it) (eyes.shades.at h there.at)) on
     (are.shaded.stands enters.method.0 there it entry_is shade_is) in
     record {
       running = goes_on eyes host.me thread (record thread { at = there.at; frame = thread.new_frame }) (ahead_of it)
@@ -402,7 +404,7 @@ own_call_kept eyes are host thread entry (Some there) is on stand well plain ent
       entries = stand.0;
     }
 
-go_kept : (eyes : Eyes) (host : HostShape) (thread : ThreadShape) (frame : FrameId) (entry : EntryId) (on : HostId)
+go_kept : (eyes : Eyes) (host : HostState) (thread : ThreadShape) (frame : FrameId) (entry : EntryId) (on : HostId)
     (held : Option Token) → Stand eyes host → RunsWell eyes host.me thread →
     Kept eyes host (after_go host thread frame entry on held)
 go_kept eyes host thread frame entry on None stand well =
@@ -410,7 +412,7 @@ go_kept eyes host thread frame entry on None stand well =
 go_kept eyes host thread frame entry on (Some held) stand well =
     record { running = tt; waiting = stand.1; entries = stand.0 }
 
-go_with_kept : (eyes : Eyes) (host : HostShape) (thread : ThreadShape) (frame : FrameId) (entry : EntryId) (on : HostId)
+go_with_kept : (eyes : Eyes) (host : HostState) (thread : ThreadShape) (frame : FrameId) (entry : EntryId) (on : HostId)
     (riders : List VarId) (held : Option Token) → Stand eyes host → RunsWell eyes host.me thread →
     Kept eyes host (after_go_with host thread frame entry on riders held)
 go_with_kept eyes host thread frame entry on riders None stand well =
@@ -418,15 +420,15 @@ go_with_kept eyes host thread frame entry on riders None stand well =
 go_with_kept eyes host thread frame entry on riders (Some held) stand well =
     record { running = tt; waiting = stand.1; entries = stand.0 }
 
-ask_kept : (eyes : Eyes) (host : HostShape) (thread : ThreadShape) (entry : EntryId) (on : HostId)
+ask_kept : (eyes : Eyes) (host : HostState) (thread : ThreadShape) (entry : EntryId) (on : HostId)
     (held : Option Token) → Stand eyes host → RunsWell eyes host.me thread → (next : Ahead) →
     (eyes.shades.at host.me thread.at).temps ≡ [] → (eyes.shades.at host.me thread.at).calls ≡ false →
-    next.temps ≡ [] → Meets next (eyes.shades.at host.me (suc thread.at)) →
-    IsAt eyes host.me thread.at (op.Ask entry on) → Kept eyes host (after_ask host thread entry on held)
+    next.temps ≡ [] → MeetsShade next (eyes.shades.at host.me (suc thread.at)) →
+    IsInstructionAt eyes host.me thread.at (op.Ask entry on) → Kept eyes host (after_ask host thread entry on held)
 ask_kept eyes host thread entry on None stand well next plain calls temps meets at =
     record { running = well; waiting = stand.1; entries = stand.0 }
 ask_kept eyes host thread entry on (Some held) stand well next plain calls temps meets at =
-    let met : Meets next (eyes.shades.at host.me (thread.at + 1)) =
+    let met : MeetsShade next (eyes.shades.at host.me (thread.at + 1)) =
     meets_next eyes host.me thread.at next meets in
     asked_kept eyes host thread.at (with_token None (after_step thread)) token_of_entry on stand (
       refl,
@@ -440,9 +442,9 @@ ask_kept eyes host thread entry on (Some held) stand well next plain calls temps
 
 -- ---- results and tokens that are given back
 
-return_kept : (eyes : Eyes) (host : HostShape) (thread : ThreadShape) (x : VarId) (value : List Node)
+return_kept : (eyes : Eyes) (host : HostState) (thread : ThreadShape) (x : VarId) (value : List Node)
     (held : Option Token) (passes : Bool) → Stand eyes host → RunsWell eyes host.me thread →
-    RunsWell eyes host.me (after_clearing thread) → IsAt eyes host.me thread.at (op.Ret x value) →
+    RunsWell eyes host.me (after_clearing thread) → IsInstructionAt eyes host.me thread.at (op.Ret x value) →
     Kept eyes host (after_return host thread x value held passes)
 return_kept eyes host thread x value None passes stand well later at =
     record { running = well; waiting = stand.1; entries = stand.0 }
@@ -455,15 +457,15 @@ return_kept eyes host thread x value (Some token) passes stand well later at =
     (record { running = later; waiting = stand.1; entries = stand.0 }))
 
 -- a thread starts at an entry of the host, with a token that may be held there
-pub entered_kept : (eyes : Eyes) → AreEyes eyes → (host : HostShape) (entry : EntryId) (frame : FrameId) (token : Token)
+pub entered_kept : (eyes : Eyes) → AreEyes eyes → (host : HostState) (entry : EntryId) (frame : FrameId) (token : Token)
     (found : Option Entry) → entry_at eyes.code entry ≡ found → entry.0 ≢ 0 →
     IsSomeAnd found (λ there. there.host ≡ host.me) → MayEnterWith eyes entry token → Stand eyes host →
     HostKeeps eyes host.me (after_entering host found frame token)
 entered_kept eyes are host entry frame token None is other on may stand = absurd on
 entered_kept eyes are host entry frame token (Some there) is other on may stand =
     let it = may.shade in
-    let meets : Meets (ahead_of it) (eyes.shades.at host.me there.at) =
-    subst (λ h. Meets (ahead_of it) (eyes.shades.at h there.at)) on (stands_at entry.0 other there it is may.is) in
+    let meets : MeetsShade (ahead_of it) (eyes.shades.at host.me there.at) =
+    subst (λ h. MeetsShade (ahead_of it) (eyes.shades.at h there.at)) on (stands_at entry.0 other there it is may.is) in
     record {
       running = record {
         temps = ap length (sym meets.temps);
@@ -479,11 +481,11 @@ entered_kept eyes are host entry frame token (Some there) is other on may stand 
   where
     stands_at : (number : ℕ) → number ≢ 0 → (there : Entry) (it : EntryShade) →
         slice_get eyes.code.entries number ≡ Some there → slice_get eyes.shades.entries number ≡ Some it →
-        Meets (ahead_of it) (eyes.shades.at there.host there.at)
+        MeetsShade (ahead_of it) (eyes.shades.at there.host there.at)
     stands_at zero other there it is also = absurd (other refl)
     stands_at (suc number) other there it is also = are.shaded.stands number there it is also
 
-popped_kept : (eyes : Eyes) → AreEyes eyes → (host : HostShape) (top : StackEntry) → top.entry.0 ≢ 0 →
+popped_kept : (eyes : Eyes) → AreEyes eyes → (host : HostState) (top : StackEntry) → top.entry.0 ≢ 0 →
     Stand eyes host → StandsWell eyes host.me top →
     HostKeeps eyes host.me (after_entering host (entry_at eyes.code top.entry) top.frame top.kept)
 popped_kept eyes are host top other stand well =
@@ -491,7 +493,7 @@ popped_kept eyes are host top other stand well =
     entered_kept eyes are host top.entry top.frame top.kept (entry_at eyes.code top.entry) refl other well.on_host
     (record { shade = well.shade; is = well.is; level = well.kept apart; shown = well.open_kept }) stand
 
-pub pop_kept : (eyes : Eyes) → AreEyes eyes → (host : HostShape) (entries : List StackEntry) →
+pub pop_kept : (eyes : Eyes) → AreEyes eyes → (host : HostState) (entries : List StackEntry) →
     All (StandsWell eyes host.me) entries → Stand eyes host →
     HostKeeps eyes host.me (after_pop eyes.code (with_running host None) entries)
 pop_kept eyes are host [] all stand = record { running = tt; waiting = stand.1; entries = stand.0 }
@@ -512,7 +514,7 @@ pop_kept eyes are host (top ∷ below) all stand =
         popped_kept eyes are (record (with_running host None) { entries = below }) top other
         (rest, stand.1) (all 0 top (omega arith))
 
-back_kept : (eyes : Eyes) → AreEyes eyes → (host : HostShape) (thread : ThreadShape) (held : Option Token)
+back_kept : (eyes : Eyes) → AreEyes eyes → (host : HostState) (thread : ThreadShape) (held : Option Token)
     (passes : Bool) → Stand eyes host → RunsWell eyes host.me thread →
     Kept eyes host (after_back eyes.code host thread held passes)
 back_kept eyes are host thread None passes stand well = record { running = well; waiting = stand.1; entries = stand.0 }
@@ -527,11 +529,11 @@ back_kept eyes are host thread (Some token) passes stand well =
 
 -- ---- all instructions
 
-operation_kept : (eyes : Eyes) → AreEyes eyes → (host : HostShape) (thread : ThreadShape) (it : Op) (passes : Bool)
+operation_kept : (eyes : Eyes) → AreEyes eyes → (host : HostState) (thread : ThreadShape) (it : Op) (passes : Bool)
     (count : ℕ) → eyes.bad host.me ≡ false → Stand eyes host → RunsWell eyes host.me thread →
     IsUnderBlock (eyes.shades.at host.me thread.at).guard (eyes.shades.at host.me thread.at).block
     (eyes.shades.at host.me thread.at).pc → IsShadedOp eyes.scene eyes.shades host.me thread.at it →
-    OperationFits eyes.code host.me count it → IsAt eyes host.me thread.at it →
+    OperationFits eyes.code host.me count it → IsInstructionAt eyes host.me thread.at it →
     Kept eyes host (after_operation eyes.code host thread it passes)
 operation_kept eyes are host thread (op.Read field index) passes count obeys stand well below law fits at =
     read_kept eyes host thread field index stand well law at (field_at eyes.code field) refl
@@ -610,7 +612,7 @@ operation_kept eyes are host thread (op.Branch guard target) passes count obeys 
     branch_kept eyes are host thread guard target stand well below law.0 law.1 law.2 law.3 law.4 law.5
     (int_eq (value_in_thread host thread guard) (pos 0))
 
-running_kept : (eyes : Eyes) → AreEyes eyes → IsSoundCode eyes.code → (state : HostShape) (thread : ThreadShape)
+running_kept : (eyes : Eyes) → AreEyes eyes → IsSoundCode eyes.code → (state : HostState) (thread : ThreadShape)
     (outcome : Outcome) → StateFits eyes.code state → eyes.bad state.me ≡ false → Stand eyes state →
     RunsWell eyes state.me thread → (found : Option Instr) →
     instruction_at eyes.code state.me thread.at ≡ found →
@@ -625,7 +627,7 @@ running_kept eyes are sound state thread outcome fits obeys stand well (Some the
     (temporaries_at eyes.code.entries state.me (part_of eyes.code state.me) thread.at) obeys stand well
     shaded.is_shade.under_block shaded.law operation (there, is, refl))
 
-turn_of_kept : (eyes : Eyes) → AreEyes eyes → IsSoundCode eyes.code → (state : HostShape) (outcome : Outcome) →
+turn_of_kept : (eyes : Eyes) → AreEyes eyes → IsSoundCode eyes.code → (state : HostState) (outcome : Outcome) →
     StateFits eyes.code state → eyes.bad state.me ≡ false → Stand eyes state → (running : Option ThreadShape) →
     state.running ≡ running → IfSome running (RunsWell eyes state.me) →
     IsTurnOf eyes.code state running outcome → Kept eyes state outcome
@@ -640,7 +642,7 @@ turn_of_kept eyes are sound state outcome fits obeys stand (Some thread) is well
     running_kept eyes are sound state thread outcome fits obeys stand well
     (instruction_at eyes.code state.me thread.at) refl turns
 
-pub turn_keeps : (eyes : Eyes) (state : HostShape) (outcome : Outcome) → AreEyes eyes → IsSoundCode eyes.code →
+pub turn_keeps : (eyes : Eyes) (state : HostState) (outcome : Outcome) → AreEyes eyes → IsSoundCode eyes.code →
     StateFits eyes.code state → eyes.bad state.me ≡ false → HostKeeps eyes state.me state →
     IsTurn eyes.code state outcome → HostKeeps eyes state.me outcome.state
 turn_keeps eyes state outcome are sound fits obeys keeps turns =
@@ -650,7 +652,7 @@ turn_keeps eyes state outcome are sound fits obeys keeps turns =
 -- ---- worlds
 
 -- a step of one host leaves the others as they are
-pub hosts_kept : (eyes : Eyes) (world after : WorldShape) (host : HostId) (old state : HostShape) →
+pub hosts_kept : (eyes : Eyes) (world after : WorldShape) (host : HostId) (old state : HostState) →
     HostsKeep eyes world →
     state_at world host ≡ Some old → after.hosts ≡ slice_set world.hosts host.0 (Some state) →
     HostKeeps eyes host state → HostsKeep eyes after

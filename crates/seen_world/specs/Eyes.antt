@@ -86,14 +86,14 @@ sees_level eyes level = of (slice_get eyes.shades.entries (level_entry level))
     of (Some it) = eyes.sees it.label
 
 -- The instruction names this host, or one of its fields. Who is named by a token alone is not among these.
-abbrev pub Names : CodeShape → Op → HostId → Type 0
-Names code (op.Read field index) on = IsSomeAnd (field_at code field) (λ there. there.host ≡ on)
-Names code (op.Put field index value) on = IsSomeAnd (field_at code field) (λ there. there.host ≡ on)
-Names code (op.Send x to) on = to ≡ on
-Names code (op.Pass x to) on = to ≡ on
-Names code (op.Ask there to) on = to ≡ on
-Names code (op.Go there to) on = to ≡ on
-Names code (op.Call there to) on = to ≡ on
-Names code (op.GoWith there to riders) on = to ≡ on
-Names code (op.CallWith there to riders) on = to ≡ on
-Names code other on = ⊥
+abbrev pub NamesHost : CodeShape → Op → HostId → Type 0
+NamesHost code (op.Read field index) on = IsSomeAnd (field_at code field) (λ there. there.host ≡ on)
+NamesHost code (op.Put field index value) on = IsSomeAnd (field_at code field) (λ there. there.host ≡ on)
+NamesHost code (op.Send x to) on = to ≡ on
+NamesHost code (op.Pass x to) on = to ≡ on
+NamesHost code (op.Ask there to) on = to ≡ on
+NamesHost code (op.Go there to) on = to ≡ on
+NamesHost code (op.Call there to) on = to ≡ on
+NamesHost code (op.GoWith there to riders) on = to ≡ on
+NamesHost code (op.CallWith there to riders) on = to ≡ on
+NamesHost code other on = ⊥

@@ -19,13 +19,13 @@ use Rattle.host_code.specs.Thread.{ThreadShape, WaitingShape, Awaited}
 use Rattle.host_code.specs.Thread.Awaited.{value_of_field, acknowledgement, token_of_entry}
 use Rattle.entry_check.specs.declared.ask.Ask.TheVariants as ask
 use Rattle.entry_check.specs.Checks.{May, MayRide}
-use Rattle.host_core.specs.Host.{HostShape, with_temporary, with_token}
+use Rattle.host_core.specs.Host.{HostState, with_temporary, with_token}
 use Rattle.net_world.specs.Flying.{Flight}
 use Rattle.net_world.specs.Told.{token_in}
 use Rattle.net_world.specs.World.{WorldShape, state_at, tokens_sent}
 use Rattle.split_rules.specs.Positions.{Level, body, under}
 use Rattle.split_shades.specs.Shades.{Shade, EntryShade}
-use Rattle.seen_world.specs.Eyes.{Eyes, is_hidden, sees_at, sees_level, Names}
+use Rattle.seen_world.specs.Eyes.{Eyes, is_hidden, sees_at, sees_level, NamesHost}
 
 -- ---- tokens
 
@@ -45,8 +45,8 @@ abbrev pub IsHiddenToken : Eyes → Token → Type 0
 IsHiddenToken eyes token = (eyes.bad token.host ≡ false) × (is_hidden eyes token.entry.0 ≡ true)
 
 -- The token may be held at a place. Where the block there may be seen, it is no hidden one.
-abbrev pub MayHold : Eyes → Shade → Token → Type 0
-MayHold eyes here token =
+abbrev pub MayHoldToken : Eyes → Shade → Token → Type 0
+MayHoldToken eyes here token =
     IsTokenOf eyes here.level token × (eyes.sees here.block ≡ true → ¬ IsHiddenToken eyes token)
 
 -- ---- threads and entries
@@ -56,26 +56,26 @@ MayHold eyes here token =
 pub record RunsWell (eyes : Eyes) (host : HostId) (thread : ThreadShape) : Type 0 where
   pub temps : length thread.temporaries ≡ length (eyes.shades.at host thread.at).temps
   pub frames : (eyes.shades.at host thread.at).calls ≡ false → thread.new_frame ≡ thread.frame
-  pub holds : IfSome thread.held (MayHold eyes (eyes.shades.at host thread.at))
+  pub holds : IfSome thread.held (MayHoldToken eyes (eyes.shades.at host thread.at))
 
 -- A thread runs so once it has such an answer. The token that it is given may be held where it goes on.
 abbrev pub AnsweredWell : Eyes → HostId → ThreadShape → Awaited → Type 0
 AnsweredWell eyes host thread value_of_field = (value : ℤ) → RunsWell eyes host (with_temporary value thread)
 AnsweredWell eyes host thread acknowledgement = RunsWell eyes host thread
 AnsweredWell eyes host thread token_of_entry = (token : Token) →
-    MayHold eyes (eyes.shades.at host thread.at) token → RunsWell eyes host (with_token (Some token) thread)
+    MayHoldToken eyes (eyes.shades.at host thread.at) token → RunsWell eyes host (with_token (Some token) thread)
 
 -- this is the instruction at a place
-abbrev pub IsAt : Eyes → HostId → ℕ → Op → Type 0
-IsAt eyes host place it =
+abbrev pub IsInstructionAt : Eyes → HostId → ℕ → Op → Type 0
+IsInstructionAt eyes host place it =
     (there : Instr) × (instruction_at eyes.code host place ≡ Some there) × (there.op ≡ it)
 
 -- The instruction asks this host for such an answer. A result is given to the host of the token, which the instruction
 -- does not name.
 abbrev pub AsksFor : CodeShape → Op → Awaited → HostId → Type 0
-AsksFor code (op.Read field index) awaited on = (awaited ≡ value_of_field) × Names code (op.Read field index) on
+AsksFor code (op.Read field index) awaited on = (awaited ≡ value_of_field) × NamesHost code (op.Read field index) on
 AsksFor code (op.Put field index value) awaited on =
-    (awaited ≡ acknowledgement) × Names code (op.Put field index value) on
+    (awaited ≡ acknowledgement) × NamesHost code (op.Put field index value) on
 AsksFor code (op.Send x to) awaited on = (awaited ≡ acknowledgement) × (to ≡ on)
 AsksFor code (op.Pass x to) awaited on = (awaited ≡ acknowledgement) × (to ≡ on)
 AsksFor code (op.Ask there to) awaited on = (awaited ≡ token_of_entry) × (to ≡ on)
@@ -84,7 +84,7 @@ AsksFor code other awaited on = ⊥
 
 -- the instruction at a place of a host asks another for such an answer
 abbrev pub AsksAt : Eyes → HostId → ℕ → Awaited → HostId → Type 0
-AsksAt eyes host place awaited on = (it : Op) × IsAt eyes host place it × AsksFor eyes.code it awaited on
+AsksAt eyes host place awaited on = (it : Op) × IsInstructionAt eyes host place it × AsksFor eyes.code it awaited on
 
 -- A thread that waits goes on behind the instruction that asked.
 abbrev pub WaitsWell : Eyes → HostId → WaitingShape → Type 0
@@ -107,14 +107,14 @@ pub record StandsWell (eyes : Eyes) (host : HostId) (entry : StackEntry) : Type 
   pub open_kept : eyes.sees shade.block ≡ true → ¬ IsHiddenToken eyes entry.kept
 
 -- the threads of a host, and the entries on its stack
-pub record HostKeeps (eyes : Eyes) (host : HostId) (state : HostShape) : Type 0 where
+pub record HostKeeps (eyes : Eyes) (host : HostId) (state : HostState) : Type 0 where
   pub running : IfSome state.running (RunsWell eyes host)
   pub waiting : All (WaitsWell eyes host) state.waiting
   pub entries : All (StandsWell eyes host) state.entries
 
 -- those of each obeying host
 abbrev pub HostsKeep : Eyes → WorldShape → Type 0
-HostsKeep eyes world = (host : HostId) (state : HostShape) → state_at world host ≡ Some state →
+HostsKeep eyes world = (host : HostId) (state : HostState) → state_at world host ≡ Some state →
     HostKeeps eyes host state
 
 -- ---- messages
@@ -128,28 +128,29 @@ pub record MayEnterWith (eyes : Eyes) (entry : EntryId) (token : Token) : Type 0
 
 -- What is carried by a message that a host takes. An entry that is pushed on request stands in a block that may be
 -- seen, if it is not hidden. A token that is given may be held behind the instruction that asked for it.
-abbrev pub CarriesWell : Eyes → HostId → Message → Type 0
-CarriesWell eyes to (message.Sync request frame entry token) =
+abbrev pub MessageCarriesWell : Eyes → HostId → Message → Type 0
+MessageCarriesWell eyes to (message.Sync request frame entry token) =
     (may : MayEnterWith eyes entry token)
     × (is_hidden eyes entry.0 ≡ false → eyes.sees may.shade.block ≡ true)
-CarriesWell eyes to (message.Rgoto frame entry token) = MayEnterWith eyes entry token
-CarriesWell eyes to (message.RgotoWith frame entry token riders) = MayEnterWith eyes entry token
-CarriesWell eyes to (message.Token request token) = MayHold eyes (eyes.shades.at to (request.at + 1)) token
-CarriesWell eyes to other = ⊤
+MessageCarriesWell eyes to (message.Rgoto frame entry token) = MayEnterWith eyes entry token
+MessageCarriesWell eyes to (message.RgotoWith frame entry token riders) = MayEnterWith eyes entry token
+MessageCarriesWell eyes to (message.Token request token) = MayHoldToken eyes (eyes.shades.at to (request.at + 1)) token
+MessageCarriesWell eyes to other = ⊤
 
 -- A request names the instruction of its sender that sends it, for this field, variable or entry. An answer names an
 -- instruction that asks its sender for such an answer.
 abbrev pub IsAskedBy : Eyes → HostId → HostId → Message → Type 0
 IsAskedBy eyes from to (message.Get request field index) =
-    (at : List Node) × IsAt eyes from request.at (op.Read field at) × Names eyes.code (op.Read field at) to
+    (at : List Node) × IsInstructionAt eyes from request.at (op.Read field at)
+    × NamesHost eyes.code (op.Read field at) to
 IsAskedBy eyes from to (message.Set request field index value) =
-    (at : List Node) × (written : List Node) × IsAt eyes from request.at (op.Put field at written)
-    × Names eyes.code (op.Put field at written) to
+    (at : List Node) × (written : List Node) × IsInstructionAt eyes from request.at (op.Put field at written)
+    × NamesHost eyes.code (op.Put field at written) to
 IsAskedBy eyes from to (message.Forward request frame x value) =
-    IsAt eyes from request.at (op.Send x to)
-    ⊎ (IsAt eyes from request.at (op.Pass x to)
-    ⊎ ((given : List Node) × IsAt eyes from request.at (op.Ret x given)))
-IsAskedBy eyes from to (message.Sync request frame entry token) = IsAt eyes from request.at (op.Ask entry to)
+    IsInstructionAt eyes from request.at (op.Send x to)
+    ⊎ (IsInstructionAt eyes from request.at (op.Pass x to)
+    ⊎ ((given : List Node) × IsInstructionAt eyes from request.at (op.Ret x given)))
+IsAskedBy eyes from to (message.Sync request frame entry token) = IsInstructionAt eyes from request.at (op.Ask entry to)
 IsAskedBy eyes from to (message.Value request value) = AsksAt eyes to request.at value_of_field from
 IsAskedBy eyes from to (message.Ack request) = AsksAt eyes to request.at acknowledgement from
 IsAskedBy eyes from to (message.Token request token) = AsksAt eyes to request.at token_of_entry from
@@ -157,7 +158,7 @@ IsAskedBy eyes from to other = ⊤
 
 -- what holds of a message from an obeying host to another host
 abbrev pub FliesWell : Eyes → HostId → HostId → Message → Type 0
-FliesWell eyes from to said = IsAskedBy eyes from to said × CarriesWell eyes to said
+FliesWell eyes from to said = IsAskedBy eyes from to said × MessageCarriesWell eyes to said
 
 -- no hidden token is in a message
 abbrev pub ShowsNoHidden : Eyes → Message → Type 0
@@ -198,14 +199,14 @@ IsLabelledAs eyes from to (message.Token request token) label = HasLabelAt eyes 
 -- ---- checks
 
 -- a message whose check looks at nothing but the labels and trust of the code
-abbrev pub IsRequest : Message → Type 0
-IsRequest (message.Get request field index) = ⊤
-IsRequest (message.Set request field index value) = ⊤
-IsRequest (message.Forward request frame x value) = ⊤
-IsRequest (message.Sync request frame entry token) = ⊤
-IsRequest (message.Rgoto frame entry token) = ⊤
-IsRequest (message.RgotoWith frame entry token riders) = ⊤
-IsRequest other = ⊥
+abbrev pub IsCheckedByLabels : Message → Type 0
+IsCheckedByLabels (message.Get request field index) = ⊤
+IsCheckedByLabels (message.Set request field index value) = ⊤
+IsCheckedByLabels (message.Forward request frame x value) = ⊤
+IsCheckedByLabels (message.Sync request frame entry token) = ⊤
+IsCheckedByLabels (message.Rgoto frame entry token) = ⊤
+IsCheckedByLabels (message.RgotoWith frame entry token riders) = ⊤
+IsCheckedByLabels other = ⊥
 
 -- the host that a request comes to grants it
 abbrev pub IsGrantedTo : Eyes → HostId → HostId → Message → Type 0

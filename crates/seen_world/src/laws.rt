@@ -16,7 +16,7 @@ ghost use Rattle.host_code.specs.Sound.{IsSoundCode};
 ghost use Rattle.host_code.specs.Thread.{ThreadShape};
 ghost use Rattle.host_core.specs.Fits.{StateFits};
 ghost use Rattle.host_core.specs.Host as host_state;
-ghost use Rattle.host_core.specs.Taking.{IsTaking, Passes};
+ghost use Rattle.host_core.specs.Taking.{IsTaking, PassesCheck};
 ghost use Rattle.host_core.specs.Turn.{IsTurn, label_of_turn};
 ghost use Rattle.host_code.specs.declared.message.Message.{Message};
 ghost use Rattle.host_code.specs.declared.message.Message.TheVariants as message;
@@ -29,7 +29,7 @@ ghost use Rattle.net_world.specs.Fits.{ShapeFits};
 ghost use Rattle.split_rules.specs.Placed.{PlacedProgram};
 ghost use Rattle.split_rules.specs.Allowed.{IsAllowed};
 ghost use Rattle.split_rules.specs.Asking.{AreGranted};
-ghost use Rattle.split_rules.specs.Held.{IsHeld};
+ghost use Rattle.split_rules.specs.Held.{IsWellHeld};
 ghost use Rattle.split_rules.specs.SplitCode.{split_code};
 ghost use Rattle.split_rules.specs.Splittable.{IsSplittable};
 ghost use Rattle.split_shades.specs.Flows.{AreResultsLabelled};
@@ -39,9 +39,9 @@ ghost use Rattle.split_shades.specs.Shading.{Scene};
 ghost use Rattle.split_shades.specs.Sites.{ReleasesNothing, scene_of};
 ghost use Rattle.token_laws.specs.Reached.{IsReached};
 ghost use Rattle.seen_world.specs.Eyes.{Eyes, AreEyes, IsBegun, Watches, sees_at, is_open, is_deep, is_hidden};
-ghost use Rattle.seen_world.specs.Eyes.{sees_level, Names};
-ghost use Rattle.seen_world.specs.Points.{RunsWell, HostKeeps, HostsKeep, CarriesWell, IsAskedBy, FliesWell};
-ghost use Rattle.seen_world.specs.Points.{ShowsNoHidden, AsksForNoHidden, IsLabelledAs, IsRequest, IsGrantedTo};
+ghost use Rattle.seen_world.specs.Eyes.{sees_level, NamesHost};
+ghost use Rattle.seen_world.specs.Points.{RunsWell, HostKeeps, HostsKeep, MessageCarriesWell, IsAskedBy, FliesWell};
+ghost use Rattle.seen_world.specs.Points.{ShowsNoHidden, AsksForNoHidden, IsLabelledAs, IsCheckedByLabels, IsGrantedTo};
 ghost use Rattle.seen_world.specs.Points.{SetsHidden, EntersHidden, PointsHold};
 
 /// Which labels misbehaving hosts may see.
@@ -54,7 +54,7 @@ pub fn eye_laws()
         × AreEyes (record { scene = scene; code = code; shades = shades; bad = bad; sees = sees }) }
     // So has the code of each program that was checked, placed and split.
     ensures split { (placed : PlacedProgram) (may_release : Bool) (bad : HostId → Bool) →
-        IsSplittable placed → IsAllowed placed → IsHeld placed →
+        IsSplittable placed → IsAllowed placed → IsWellHeld placed →
         AreResultsLabelled placed.labelled.program → (may_release ≡ false → ReleasesNothing placed.labelled.program) →
         (shades : Shades) × (sees : Label → Bool) × AreEyes (record {
           scene = scene_of placed may_release;
@@ -68,7 +68,7 @@ pub fn eye_laws()
         AreEyes eyes → Watches eyes world →
         (IsTrue (sees_at eyes label) ↔ IsReadable eyes.code world label) }
     // A turn is secret just where the test says so of the program label at the place of the thread.
-    ensures turns { (eyes : Eyes) (world : WorldShape) (host : HostId) (state : host_state.HostShape)
+    ensures turns { (eyes : Eyes) (world : WorldShape) (host : HostId) (state : host_state.HostState)
         (thread : ThreadShape) (there : Instr) →
         AreEyes eyes → Watches eyes world → state_at world host ≡ Some state → state.me ≡ host →
         state.running ≡ Some thread → instruction_at eyes.code host thread.at ≡ Some there →
@@ -104,7 +104,7 @@ pub fn place_laws()
         sees_at eyes there.label ≡ true }
     // An instruction that names a misbehaving host, or one of its fields, may be seen.
     ensures named { (eyes : Eyes) (host on : HostId) (place : ℕ) (there : Instr) →
-        AreEyes eyes → instruction_at eyes.code host place ≡ Some there → Names eyes.code there.op on →
+        AreEyes eyes → instruction_at eyes.code host place ≡ Some there → NamesHost eyes.code there.op on →
         eyes.bad on ≡ true → is_open eyes host place ≡ true }
 {}
 
@@ -125,39 +125,39 @@ pub fn point_laws()
         AreEyes eyes → IsSoundCode eyes.code → Watches eyes world → ShapeFits eyes.code world →
         HostsKeep eyes world → IsStep eyes.code world (Turn host) after → HostsKeep eyes after }
     // So it is kept on the host itself.
-    ensures kept_by_turn { (eyes : Eyes) (state : host_state.HostShape) (outcome : host_state.Outcome) →
+    ensures kept_by_turn { (eyes : Eyes) (state : host_state.HostState) (outcome : host_state.Outcome) →
         AreEyes eyes → IsSoundCode eyes.code → StateFits eyes.code state → eyes.bad state.me ≡ false →
         HostKeeps eyes state.me state → IsTurn eyes.code state outcome → HostKeeps eyes state.me outcome.state }
     // The taking of a message in flight keeps it, where the token in the message may be held where it comes to.
     ensures taken { (eyes : Eyes) (world after : WorldShape) (from to : HostId) (place : ℕ) (flight : Flight) →
         AreEyes eyes → ShapeFits eyes.code world → HostsKeep eyes world →
-        slice_get (world.flying from to) place ≡ Some flight → CarriesWell eyes to flight.message →
+        slice_get (world.flying from to) place ≡ Some flight → MessageCarriesWell eyes to flight.message →
         IsStep eyes.code world (Take from to place) after → HostsKeep eyes after }
     // So it is kept on the host itself, whoever sent the message. Of one that fails its check nothing is asked.
-    ensures kept_by_take { (eyes : Eyes) (state : host_state.HostShape) (from : HostId) (said : Message)
+    ensures kept_by_take { (eyes : Eyes) (state : host_state.HostState) (from : HostId) (said : Message)
         (outcome : host_state.Outcome) →
         AreEyes eyes → HostKeeps eyes state.me state → state.running ≡ None →
-        (Passes eyes.code state from said → CarriesWell eyes state.me said) →
+        (PassesCheck eyes.code state from said → MessageCarriesWell eyes state.me said) →
         IsTaking eyes.code state from said outcome → HostKeeps eyes state.me outcome.state }
     // The token in what a turn sends may be held where it comes to, and a request names the instruction that sends it.
-    ensures carried { (eyes : Eyes) (state : host_state.HostShape) (thread : ThreadShape)
+    ensures carried { (eyes : Eyes) (state : host_state.HostState) (thread : ThreadShape)
         (outcome : host_state.Outcome) →
         AreEyes eyes → state.running ≡ Some thread → RunsWell eyes state.me thread →
         IsTurn eyes.code state outcome → IfSome outcome.sent (λ sent. FliesWell eyes state.me sent.0 sent.1) }
     // So may that in what a host answers, which goes to whoever sent the message and names what asked for it.
-    ensures answered { (eyes : Eyes) (state : host_state.HostShape) (from : HostId) (said : Message)
+    ensures answered { (eyes : Eyes) (state : host_state.HostState) (from : HostId) (said : Message)
         (outcome : host_state.Outcome) →
         AreEyes eyes → eyes.bad state.me ≡ false → IsAskedBy eyes from state.me said →
         IsTaking eyes.code state from said outcome →
         IfSome outcome.sent (λ sent. (sent.0 ≡ from) × FliesWell eyes state.me sent.0 sent.1) }
     // So may that in a message of a misbehaving host which passes its check, where it is not hidden.
-    ensures made { (eyes : Eyes) (state : host_state.HostShape) (from : HostId) (said : Message) →
+    ensures made { (eyes : Eyes) (state : host_state.HostState) (from : HostId) (said : Message) →
         AreEyes eyes → IsSoundCode eyes.code → StateFits eyes.code state → eyes.bad from ≡ true →
-        HostKeeps eyes state.me state → ShowsNoHidden eyes said → Passes eyes.code state from said →
-        CarriesWell eyes state.me said }
+        HostKeeps eyes state.me state → ShowsNoHidden eyes said → PassesCheck eyes.code state from said →
+        MessageCarriesWell eyes state.me said }
     // What a turn sends carries the label of the instruction that it names. Where that label may be seen, what is sent
     // has no hidden token.
-    ensures labelled { (eyes : Eyes) (state : host_state.HostShape) (thread : ThreadShape)
+    ensures labelled { (eyes : Eyes) (state : host_state.HostState) (thread : ThreadShape)
         (outcome : host_state.Outcome) (label : ℕ) →
         AreEyes eyes → state.running ≡ Some thread → RunsWell eyes state.me thread →
         IsTurn eyes.code state outcome → label_of_turn eyes.code state ≡ Some label →
@@ -165,23 +165,24 @@ pub fn point_laws()
         × (sees_at eyes label ≡ true → ShowsNoHidden eyes sent.1)) }
     // So does an answer to a message that carries its label, and that asks for the push of no hidden entry where the
     // label may be seen.
-    ensures answer_labelled { (eyes : Eyes) (state : host_state.HostShape) (from : HostId) (said : Message)
+    ensures answer_labelled { (eyes : Eyes) (state : host_state.HostState) (from : HostId) (said : Message)
         (outcome : host_state.Outcome) (label : ℕ) →
         IsLabelledAs eyes from state.me said label → (sees_at eyes label ≡ true → AsksForNoHidden eyes said) →
         IsTaking eyes.code state from said outcome →
         IfSome outcome.sent (λ sent. IsLabelledAs eyes state.me sent.0 sent.1 label
         × (sees_at eyes label ≡ true → ShowsNoHidden eyes sent.1)) }
     // The host that a request comes to, which a turn sends, grants it.
-    ensures granted { (eyes : Eyes) (state : host_state.HostShape) (thread : ThreadShape)
+    ensures granted { (eyes : Eyes) (state : host_state.HostState) (thread : ThreadShape)
         (outcome : host_state.Outcome) →
         AreEyes eyes → state.running ≡ Some thread → IsTurn eyes.code state outcome →
         IfSome outcome.sent (λ sent. IsGrantedTo eyes state.me sent.0 sent.1) }
     // So each request in flight passes its check, secret or not, and so does each message that hands control over at an
     // entry.
     ensures passes_request { (eyes : Eyes) (world : WorldShape) (from to : HostId) (place : ℕ) (flight : Flight)
-        (state : host_state.HostShape) →
+        (state : host_state.HostState) →
         ShapeFits eyes.code world → PointsHold eyes world → slice_get (world.flying from to) place ≡ Some flight →
-        state_at world to ≡ Some state → IsRequest flight.message → Passes eyes.code state from flight.message }
+        state_at world to ≡ Some state → IsCheckedByLabels flight.message →
+        PassesCheck eyes.code state from flight.message }
     // The variable or the field that a message sets may not be seen, where the message carries a label that may not be.
     ensures sets { (eyes : Eyes) (world : WorldShape) (from to : HostId) (place : ℕ) (flight : Flight) →
         AreEyes eyes → PointsHold eyes world → slice_get (world.flying from to) place ≡ Some flight →
@@ -196,12 +197,12 @@ pub fn point_laws()
         AreEyes eyes → PointsHold eyes world → slice_get (world.flying from to) place ≡ Some flight →
         sees_at eyes flight.label ≡ false → EntersHidden eyes flight.message }
     // What is answered to a misbehaving host has no hidden token.
-    ensures answered_openly { (eyes : Eyes) (state : host_state.HostShape) (from : HostId) (said : Message)
+    ensures answered_openly { (eyes : Eyes) (state : host_state.HostState) (from : HostId) (said : Message)
         (outcome : host_state.Outcome) →
         AreEyes eyes → eyes.bad from ≡ true → IsTaking eyes.code state from said outcome →
         IfSome outcome.sent (λ sent. ShowsNoHidden eyes sent.1) }
     // Nor has what a turn sends to one.
-    ensures told_openly { (eyes : Eyes) (state : host_state.HostShape) (thread : ThreadShape)
+    ensures told_openly { (eyes : Eyes) (state : host_state.HostState) (thread : ThreadShape)
         (outcome : host_state.Outcome) →
         AreEyes eyes → state.running ≡ Some thread → RunsWell eyes state.me thread →
         IsTurn eyes.code state outcome →
@@ -221,7 +222,7 @@ pub fn point_laws()
         IsReached eyes.code rows bad store events world → IsStep eyes.code world event after →
         IsSecret eyes.code world event → after.sent ≡ world.sent }
     // To whom a secret turn sends obeys.
-    ensures told { (eyes : Eyes) (state : host_state.HostShape) (thread : ThreadShape) (outcome : host_state.Outcome) →
+    ensures told { (eyes : Eyes) (state : host_state.HostState) (thread : ThreadShape) (outcome : host_state.Outcome) →
         AreEyes eyes → state.running ≡ Some thread → RunsWell eyes state.me thread →
         is_open eyes state.me thread.at ≡ false → IsTurn eyes.code state outcome →
         IfSome outcome.sent (λ sent. eyes.bad sent.0 ≡ false) }

@@ -8,7 +8,7 @@ use Rattle.js_base.proofs.Options.{some_same}
 use Rattle.jif_tree.specs.SourceRun.{Configuration, IsAtEnd}
 use Rattle.event_text.specs.declared.event.Event.{Event}
 use Rattle.event_text.specs.declared.event.Event.TheVariants.{Take, Turn, Act}
-use Rattle.host_core.specs.Host.{HostShape}
+use Rattle.host_core.specs.Host.{HostState}
 use Rattle.host_core.specs.Turn.{IsTurn, label_of_turn}
 use Rattle.net_world.specs.Choice.{NoneRuns, NothingFlies}
 use Rattle.net_world.specs.Flying.{Flight, Flying}
@@ -33,13 +33,13 @@ idle_turn split world after holder idle host rests step =
     none_there step.state.running (idle host step.state step.obeys rests).0 step.runs
 
 -- nor does one that waits
-waiting_turn : (split : Split) (world after : WorldShape) (host holder : HostId) (state : HostShape) →
+waiting_turn : (split : Split) (world after : WorldShape) (host holder : HostId) (state : HostState) →
     state_at world holder ≡ Some state → state.running ≡ None → host.0 ≡ holder.0 →
     IsTurnStep split.code world host after → ⊥
 waiting_turn split world after host holder state there rests same step =
     let one : host ≡ holder = same_id host holder same in
     let is = some_same (state_at world holder) step.state state (ap (state_at world) (sym one) ∙ step.obeys) there in
-    none_there step.state.running (ap (λ (s : HostShape). s.running) is ∙ rests) step.runs
+    none_there step.state.running (ap (λ (s : HostState). s.running) is ∙ rests) step.runs
 
 turned : (split : Split) (c : Configuration) (world after : WorldShape) (sim : Simulates split c world)
     (holder : Holder) → ShapeFits split.code world →
@@ -53,8 +53,8 @@ turned split c world after sim (runs holder) fits stands fueled idle none host s
       let here = subst (λ h. IsTurnStep split.code world h after) one step in
       let state = some_same (state_at world holder) here.state run.state here.obeys run.there in
       holder_turn split c world after holder fits sim run stands.0 none idle fueled here.outcome
-      (subst (λ (s : HostShape). IsTurn split.code s here.outcome) state here.turns)
-      (ap (λ (s : HostShape). after_step world holder here.outcome (label_of_turn split.code s)) (sym state)
+      (subst (λ (s : HostState). IsTurn split.code s here.outcome) state here.turns)
+      (ap (λ (s : HostState). after_step world holder here.outcome (label_of_turn split.code s)) (sym state)
       ∙ here.leaves)
   | inr apart ↦ absurd (idle_turn split world after (runs holder) idle host apart.1 step)
 ]
@@ -122,16 +122,16 @@ event_kept split c world after (Act from to made) sim fits step =
 
 -- ---- what such a world has
 
-halting : (o : Option HostShape) → IsSomeAnd o (λ host. IsTrue host.halted) →
-    (state : HostShape) × (o ≡ Some state) × (state.halted ≡ true)
+halting : (o : Option HostState) → IsSomeAnd o (λ host. IsTrue host.halted) →
+    (state : HostState) × (o ≡ Some state) × (state.halted ≡ true)
 halting None halts = absurd halts
 halting (Some state) halts = (state, refl, halts)
 
-not_halted : (state : HostShape) → state.halted ≡ false → state.halted ≡ true → ⊥
+not_halted : (state : HostState) → state.halted ≡ false → state.halted ≡ true → ⊥
 not_halted state one other = cc
 
 still : (world : WorldShape) (root : HostId) →
-    ((host : HostId) (state : HostShape) → state_at world host ≡ Some state → state.halted ≡ false) →
+    ((host : HostId) (state : HostState) → state_at world host ≡ Some state → state.halted ≡ false) →
     has_halted root world → ⊥
 still world root none halts =
     let has = halting (state_at world root) halts in
@@ -163,19 +163,19 @@ flies world from to flight flying idle =
     let both : flight ∷ [] ≡ [] = sym here ∙ none in
     cc)
 
-has_run : (o : Option HostShape) (state : HostShape) → o ≡ Some state → IsSome state.running →
+has_run : (o : Option HostState) (state : HostState) → o ≡ Some state → IsSome state.running →
     IsSomeAnd o (λ host. IsSome host.running)
 has_run None state is running = absurd (cc)
 has_run (Some there) state is running =
     let same : there ≡ state = cc in
-    subst (λ (s : HostShape). IsSome s.running) (sym same) running
+    subst (λ (s : HostState). IsSome s.running) (sym same) running
 
-has_ended : (o : Option HostShape) (state : HostShape) → o ≡ Some state → state.halted ≡ true →
+has_ended : (o : Option HostState) (state : HostState) → o ≡ Some state → state.halted ≡ true →
     IsSomeAnd o (λ host. IsTrue host.halted)
 has_ended None state is halts = absurd (cc)
 has_ended (Some there) state is halts =
     let same : there ≡ state = cc in
-    ap (λ (s : HostShape). s.halted) same ∙ halts
+    ap (λ (s : HostState). s.halted) same ∙ halts
 
 idle_stands : (split : Split) (c : Configuration) (world : WorldShape) (view : View)
     (holder : Holder) → Stands split c view world holder → NoneRuns world → NothingFlies world →

@@ -5,7 +5,7 @@ use Rattle.std.specs.Prelude.{slice_get, remove, ◌==◌, ◌&&◌, if◌then�
 use Rattle.std.proofs.lemmas.Bool.{eq-eqb}
 use Rattle.js_base.specs.declared.ids.HostId.{HostId}
 use Rattle.host_code.specs.declared.message.Message.{Message}
-use Rattle.host_core.specs.Host.{HostShape, Outcome, with_message}
+use Rattle.host_core.specs.Host.{HostState, Outcome, with_message}
 use Rattle.net_world.specs.Flying.{Flight, Flying, with_flights}
 use Rattle.net_world.specs.World.{WorldShape, state_at, misbehaves}
 use Rattle.net_world.specs.World.{without_flight, after_step}
@@ -17,7 +17,7 @@ use Rattle.simulation.proofs.Simulates.{nothing, only}
 -- ---- what a step sends
 
 -- a step that sends a message where nothing else is in flight
-pub moved_telling : (world : WorldShape) (host : HostId) (outcome : Outcome) (old state : HostShape) (to : HostId)
+pub moved_telling : (world : WorldShape) (host : HostId) (outcome : Outcome) (old state : HostState) (to : HostId)
     (message : Message) (label : ℕ) (after : WorldShape) → state_at world host ≡ Some old →
     ((host : HostId) → misbehaves world host ≡ false) → world.flying ≡ nothing →
     with_message state to message ≡ outcome → after_step world host outcome (Some label) ≡ after →

@@ -12,7 +12,7 @@ use Rattle.js_base.specs.declared.ids.VarId.{VarId}
 use Rattle.host_decl.specs.Hosts.{HostsShape}
 use Rattle.event_text.specs.declared.event.Event.{Event}
 use Rattle.host_code.specs.Sound.{IsSoundCode}
-use Rattle.host_core.specs.Host.{HostShape}
+use Rattle.host_core.specs.Host.{HostState}
 use Rattle.jif_tree.specs.Altered.{Exposure}
 use Rattle.jif_tree.specs.declared.program.Program.{Program}
 use Rattle.jif_tree.specs.SourceRun.{IsAtEnd, prefix, configuration_at_start}
@@ -27,7 +27,7 @@ use Rattle.jif_tree.specs.SourceRun.{Configuration}
 use Rattle.typed_steps.specs.Views.{Split, AreRising}
 use Rattle.typed_steps.proofs.KnownReaders.{body_fit, nobody_reads}
 use Rattle.typed_steps.proofs.SeenResults.{results_seen}
-use Rattle.simulation.specs.Obeying.{IsSet, Counted, Follows, GoesOnPlainly, StandsPlainly}
+use Rattle.simulation.specs.Obeying.{IsSet, CountedSteps, FollowsPlainRun, GoesOnPlainly, StandsPlainly}
 use Rattle.simulation.proofs.Possible.{next_happens, one_event}
 use Rattle.simulation.proofs.Simulates.{Simulates}
 use Rattle.simulation.proofs.Starts.{falls_at_start}
@@ -225,14 +225,14 @@ module _ (plain : GivesPlain) (split : Split) (store : List (List ℤ)) (hosts :
       (kept plain split store) events (world_at_start split.code hosts.hosts 0 store) world
       (configuration_at_start split.program store) at_start (λ k d less. tt) ran
 
-  pub follows : Follows split.program split.code hosts.hosts store events world
+  pub follows : FollowsPlainRun split.program split.code hosts.hosts store events world
   follows =
       along (StandsPlainly split.code) (GoesOnPlainly split.program) split.code (λ event. ⊤) (StandsAfter split store)
       (stands_plainly split store) (kept plain split store) events
       (world_at_start split.code hosts.hosts 0 store) world (configuration_at_start split.program store) at_start
       (λ k d less. tt) ran
 
-  pub counted : Counted split.program split.code store world
+  pub counted : CountedSteps split.program split.code store world
   counted =
       let stands = at_end.1.stands in
       record {
@@ -256,7 +256,7 @@ module _ (plain : GivesPlain) (split : Split) (store : List (List ℤ)) (hosts :
   one_possible first second after other step also =
       one_event split _ world after other at_end.1.stands.simulates first second step also
 
-  pub none_ignored : (host : HostId) (state : HostShape) → state_at world host ≡ Some state → state.ignored ≡ 0
+  pub none_ignored : (host : HostId) (state : HostState) → state_at world host ≡ Some state → state.ignored ≡ 0
   none_ignored host state is = at_end.1.stands.simulates.orderly.ignored host state is
 
 -- ---- the laws
@@ -310,11 +310,11 @@ module _ (laws : SplitLaws) (program : Program) (placed : PlacedProgram) (store 
       shape_at_start (split_code placed) placed.hosts.hosts 0 store
       (laws.sound placed set.splittable) refl
 
-  pub fields_follow : Follows program (split_code placed) placed.hosts.hosts store events world
+  pub fields_follow : FollowsPlainRun program (split_code placed) placed.hosts.hosts store events world
   unfolding split typed_split
   fields_follow = follows laws.plain split store placed.hosts start fits_there events world ran
 
-  pub steps_counted : Counted program (split_code placed) store world
+  pub steps_counted : CountedSteps program (split_code placed) store world
   unfolding split typed_split
   steps_counted = counted laws.plain split store placed.hosts start fits_there events world ran
 
@@ -322,7 +322,7 @@ module _ (laws : SplitLaws) (program : Program) (placed : PlacedProgram) (store 
   unfolding split typed_split
   idle_ends = idle laws.plain split store placed.hosts start fits_there events world ran
 
-  pub nothing_ignored : (host : HostId) (state : HostShape) → state_at world host ≡ Some state → state.ignored ≡ 0
+  pub nothing_ignored : (host : HostId) (state : HostState) → state_at world host ≡ Some state → state.ignored ≡ 0
   unfolding split typed_split
   nothing_ignored = none_ignored laws.plain split store placed.hosts start fits_there events world ran
 

@@ -8,7 +8,7 @@ use Rattle.jif_tree.specs.SourceRun.{Configuration, IsAtEnd}
 use Rattle.capability.specs.declared.token.Token.{Token}
 use Rattle.ics_stack.specs.Stack.{top_token}
 use Rattle.host_code.specs.Thread.{ThreadShape}
-use Rattle.host_core.specs.Host.{HostShape, with_running, after_pop}
+use Rattle.host_core.specs.Host.{HostState, with_running, after_pop}
 use Rattle.split_rules.specs.Pace.{PACE}
 use Rattle.typed_steps.specs.Views.{Split, View, Link, entries_of}
 use Rattle.typed_steps.specs.Chains.{chain_due, IsChain}
@@ -51,7 +51,7 @@ top_on_stack host (top ∷ chain) token is own =
 -- ---- taking off
 
 -- the program ends
-pub record Ended (split : Split) (c : Configuration) (chain : List Link) (host : HostId) (bare : HostShape) : Type 0
+pub record Ended (split : Split) (c : Configuration) (chain : List Link) (host : HostId) (bare : HostState) : Type 0
   where
     pub on_root : host ≡ split.code.root
     pub is : after_pop split.code bare (on_stack host chain)
@@ -61,7 +61,7 @@ pub record Ended (split : Split) (c : Configuration) (chain : List Link) (host :
 
 -- a thread goes on behind the entry
 pub record Continued (split : Split) (c : Configuration) (view : View) (chain : List Link) (host : HostId)
-    (bare : HostShape) : Type 0 where
+    (bare : HostState) : Type 0 where
   pub now : List Link
   pub call : ℕ
   pub thread : ThreadShape
@@ -73,7 +73,7 @@ pub record Continued (split : Split) (c : Configuration) (view : View) (chain : 
   pub lighter : Paced split → weight_at split now host thread.at + 3 ≤ 3 * (PACE + length chain)
 
 -- where each host has its part of the chain on its stack
-pub popped : (split : Split) (c : Configuration) (view : View) (chain : List Link) (host : HostId) (bare : HostShape)
+pub popped : (split : Split) (c : Configuration) (view : View) (chain : List Link) (host : HostId) (bare : HostState)
     (token : Token) → IsChain split view.naming chain → view.naming.count ≡ length c.calls →
     IsLeft split c view.keeper (chain_due split chain) → top_token (entries_of chain) ≡ Some token →
     token.host ≡ host → Ended split c chain host bare ⊎ Continued split c view chain host bare
@@ -87,7 +87,7 @@ popped split c view (first ∷ rest) host bare token chain count left top own =
           inl (record {
             on_root = ended.on_root;
             is = stack ∙ ended.is ∙ ap (λ list.
-                let done : HostShape = record bare { entries = list; running = None; halted = true } in done) none;
+                let done : HostState = record bare { entries = list; running = None; halted = true } in done) none;
             others = λ other apart. ap (on_stack other) (sym ended.last)
                 ∙ sym (other_stack host other first rest here apart);
             ends = ended.ends;

@@ -19,8 +19,8 @@ use Rattle.host_code.specs.Code.{CodeShape, instruction_at}
 use Rattle.host_code.specs.Thread.{ThreadShape, WaitingShape}
 use Rattle.host_code.specs.Thread.Awaited.{value_of_field, acknowledgement, token_of_entry}
 use Rattle.entry_check.specs.declared.ask.Ask.TheVariants as ask
-use Rattle.host_core.specs.Host.{HostShape, Outcome, with_running}
-use Rattle.host_core.specs.Taking.{Passes, after_passing}
+use Rattle.host_core.specs.Host.{HostState, Outcome, with_running}
+use Rattle.host_core.specs.Taking.{PassesCheck, after_passing}
 use Rattle.host_core.specs.Turn.{IsTurn, IsTurnOf, IsRunning, PassesWith, after_operation, with_thread, label_of_turn}
 use Rattle.net_world.specs.Choice.{Runs, NoneRuns, IsNextEvent}
 use Rattle.net_world.specs.Flying.{Flight, Flying}
@@ -33,8 +33,8 @@ use Rattle.net_world.proofs.Present.{same_id}
 use Rattle.simulation.proofs.Simulates as simulates
 use Rattle.typed_steps.specs.Views.{Split, View, entries_of}
 use Rattle.typed_steps.specs.Chains.{IsChain}
-use Rattle.typed_steps.specs.Variables.{Holds}
-use Rattle.typed_steps.specs.Requests.{IsRequest, IsAnswer}
+use Rattle.typed_steps.specs.Variables.{HostsHold}
+use Rattle.typed_steps.specs.Requests.{IsRequest, IsAnswerTo}
 use Rattle.typed_steps.proofs.Instructions.{Agrees}
 use Rattle.typed_steps.proofs.Transfers.{calm_calling}
 use Rattle.typed_steps.proofs.ResultsGiven.{return_at}
@@ -53,7 +53,7 @@ use Rattle.simulation.proofs.Takes.{awaited_first}
 
 -- A result may be seen where its call stands, and a token that is given back here is that of the top entry.
 turn_passes : (split : Split) (c : Configuration) (view : View) (world : WorldShape) (host : HostId) →
-    split.exposure.bad ≡ [] → IsChain split view.naming view.chain → Holds split c view world →
+    split.exposure.bad ≡ [] → IsChain split view.naming view.chain → HostsHold split c view world →
     (run : simulates.IsRunning split c view world host) → (token : Token) →
     top_token (entries_of view.chain) ≡ Some token →
     (token.host.0 ≡ run.state.me.0 → top_token run.state.entries ≡ Some token) → (what : Op) →
@@ -76,8 +76,8 @@ turn_passes split c view world host none is_chain holds run token is top (op.Ret
 turn_passes split c view world host none is_chain holds run token is top _ law = tt
 
 request_passes : (split : Split) (c : Configuration) (view : View) (holder owner : HostId) (waiting : WaitingShape)
-    (m : Message) → IsRequest split c view holder owner waiting m → (old : HostShape) → old.me ≡ owner →
-    Passes split.code old holder m
+    (m : Message) → IsRequest split c view holder owner waiting m → (old : HostState) → old.me ≡ owner →
+    PassesCheck split.code old holder m
 request_passes split c view holder owner waiting (message.Get request field place) asks old me =
     may_here split old owner (ask.Get field) holder me asks.2
 request_passes split c view holder owner waiting (message.Set request field place value) asks old me =
@@ -89,8 +89,8 @@ request_passes split c view holder owner waiting (message.Sync request frame ent
 request_passes split c view holder owner waiting _ asks old me = absurd asks
 
 answer_passes : (split : Split) (c : Configuration) (view : View) (holder owner : HostId) (waiting : WaitingShape)
-    (m : Message) → IsAnswer split c view holder waiting m → (state : HostShape) → state.waiting ≡ waiting ∷ [] →
-    waiting.asked ≡ owner → Passes split.code state owner m
+    (m : Message) → IsAnswerTo split c view holder waiting m → (state : HostState) → state.waiting ≡ waiting ∷ [] →
+    waiting.asked ≡ owner → PassesCheck split.code state owner m
 answer_passes split c view holder owner waiting (message.Value request value) answer state is by =
     subst IsSome (sym (awaited_first state waiting value_of_field request owner is answer.0 answer.1 by)) refl
 answer_passes split c view holder owner waiting (message.Ack request) answer state is by =
@@ -101,7 +101,7 @@ answer_passes split c view holder owner waiting _ answer state is by = absurd an
 
 -- ---- turns
 
-outcome_there : (code : CodeShape) (bare : HostShape) (thread : ThreadShape) (found : Option Instr) →
+outcome_there : (code : CodeShape) (bare : HostState) (thread : ThreadShape) (found : Option Instr) →
     ((there : Instr) → found ≡ Some there → PassesWith code bare there.op thread.held) →
     (outcome : Outcome) × IsRunning code bare thread found outcome
 outcome_there code bare thread None passes = (with_thread bare thread, refl)
@@ -110,7 +110,7 @@ outcome_there code bare thread (Some there) passes =
 
 turn_possible : (split : Split) (c : Configuration) (world : WorldShape) (view : View) (holder : HostId) →
     IsOrderly split world → AreStacks view.chain world → IsChain split view.naming view.chain →
-    Holds split c view world → (run : simulates.IsRunning split c view world holder) →
+    HostsHold split c view world → (run : simulates.IsRunning split c view world holder) →
     (after : WorldShape) × IsTurnStep split.code world holder after
 turn_possible split c world view holder orderly stacks is_chain holds run =
     let code = split.code in
@@ -142,8 +142,8 @@ turn_possible split c world view holder orderly stacks is_chain holds run =
 
 -- ---- messages
 
-there_if : (hosts : List (Option HostShape)) (place : ℕ) → place < length hosts →
-    is_absent (slice_get hosts place) ≡ false → (state : HostShape) × (given (slice_get hosts place) ≡ Some state)
+there_if : (hosts : List (Option HostState)) (place : ℕ) → place < length hosts →
+    is_absent (slice_get hosts place) ≡ false → (state : HostState) × (given (slice_get hosts place) ≡ Some state)
 there_if [] place within present = absurd (omega arith)
 there_if (None ∷ hosts) zero within present = absurd (cc)
 there_if (Some state ∷ hosts) zero within present = (state, refl)
@@ -152,7 +152,7 @@ there_if (host ∷ hosts) (suc place) within present = there_if hosts place (ome
 -- the target of the one message in flight is there
 target_there : (split : Split) (world : WorldShape) (from to : HostId) (flight : Flight) → ShapeFits split.code world →
     IsOrderly split world → world.flying ≡ only from to (flight ∷ []) →
-    (state : HostShape) × (state_at world to ≡ Some state)
+    (state : HostState) × (state_at world to ≡ Some state)
 target_there split world from to flight fits orderly flying =
     let there : slice_get (world.flying from to) 0 ≡ Some flight =
     ap (λ (f : Flying). slice_get (f from to) 0) flying
@@ -161,9 +161,9 @@ target_there split world from to flight fits orderly flying =
     let count = orderly.count in
     there_if world.hosts to.0 (omega arith) (orderly.none_bad to)
 
-take_possible : (split : Split) (world : WorldShape) (from to : HostId) (flight : Flight) (old : HostShape) →
+take_possible : (split : Split) (world : WorldShape) (from to : HostId) (flight : Flight) (old : HostState) →
     state_at world to ≡ Some old → old.running ≡ None → world.flying ≡ only from to (flight ∷ []) →
-    Passes split.code old from flight.message → (after : WorldShape) × IsTakeStep split.code world from to 0 after
+    PassesCheck split.code old from flight.message → (after : WorldShape) × IsTakeStep split.code world from to 0 after
 take_possible split world from to flight old obeys rests flying passes =
     let outcome = after_passing split.code old from flight.message in (
       after_step (without_flight world from to 0) to outcome (Some flight.label),
@@ -224,7 +224,7 @@ happens split c world sim fits (gives holder owner) stands idle event is =
     let target = target_there split world holder owner waits.flight fits sim.orderly waits.flying in
     let one = take_possible split world holder owner waits.flight target.0 target.1
     (idle owner target.0 target.1 waits.other).0 waits.flying
-    (subst (Passes split.code target.0 holder) (sym giving.message)
+    (subst (PassesCheck split.code target.0 holder) (sym giving.message)
     (may_here split target.0 owner (ask.Forward giving.x) holder (sim.orderly.numbers owner target.0 target.1)
     giving.may)) in
     (one.0, subst (λ e. IsStep split.code world e one.0) same one.1)
@@ -241,7 +241,7 @@ happens split c world sim fits (returns from to) stands idle event is =
     let back = stands.1 in
     let target = target_there split world from to back.flight fits sim.orderly back.flying in
     let one = take_possible split world from to back.flight target.0 target.1 (idle to target.0 target.1 tt).0
-    back.flying (subst (Passes split.code target.0 from) (sym back.message)
+    back.flying (subst (PassesCheck split.code target.0 from) (sym back.message)
     (ap top_token (sim.stacks to target.0 target.1)
     ∙ top_on_stack to sim.view.chain back.token back.top back.host)) in
     (one.0, subst (λ e. IsStep split.code world e one.0) same one.1)
@@ -249,8 +249,8 @@ happens split c world sim fits halted stands idle event is = absurd (cc)
 
 -- ---- no other event
 
-runs_there : (o : Option HostShape) → IsSomeAnd o (λ state. IsSome state.running) →
-    (state : HostShape) × (o ≡ Some state) × IsSome state.running
+runs_there : (o : Option HostState) → IsSomeAnd o (λ state. IsSome state.running) →
+    (state : HostState) × (o ≡ Some state) × IsSome state.running
 runs_there None is = absurd is
 runs_there (Some state) is = (state, refl, is)
 
@@ -262,13 +262,13 @@ runs_only world holder idle host rests running =
     none_there there.0.running (idle host there.0 there.1 rests).0 there.2
 
 -- nor on a holder that waits
-runs_not : (world : WorldShape) (host holder : HostId) (state : HostShape) → state_at world holder ≡ Some state →
+runs_not : (world : WorldShape) (host holder : HostId) (state : HostState) → state_at world holder ≡ Some state →
     state.running ≡ None → host.0 ≡ holder.0 → Runs world host → ⊥
 runs_not world host holder state obeys rests same running =
     let one : host ≡ holder = same_id host holder same in
     let there = runs_there (state_at world host) running in
     let is = some_same (state_at world holder) there.0 state (ap (state_at world) (sym one) ∙ there.1) obeys in
-    none_there there.0.running (ap (λ (s : HostShape). s.running) is ∙ rests) there.2
+    none_there there.0.running (ap (λ (s : HostState). s.running) is ∙ rests) there.2
 
 -- where a thread runs the holder runs it
 running_holder : (split : Split) (c : Configuration) (world : WorldShape) (view : View) (holder : Holder) →

@@ -14,7 +14,7 @@ use Rattle.host_code.specs.Thread.{ThreadShape, WaitingShape}
 use Rattle.host_code.specs.Thread.Awaited.{acknowledgement}
 use Rattle.entry_check.specs.declared.ask.Ask.TheVariants as ask
 use Rattle.entry_check.specs.Checks.{May}
-use Rattle.host_core.specs.Host.{HostShape}
+use Rattle.host_core.specs.Host.{HostState}
 use Rattle.split_rules.specs.Handing.{Arrival, arrival_in}
 use Rattle.split_rules.specs.Pace.{PACE}
 use Rattle.net_world.specs.Flying.{Flight, Flying, with_flights}
@@ -22,8 +22,8 @@ use Rattle.net_world.specs.World.{WorldShape, state_at, misbehaves}
 use Rattle.typed_steps.specs.Views.{Split, Link, entries_of, View}
 use Rattle.typed_steps.specs.Chains.{chain_due, IsChain}
 use Rattle.typed_steps.specs.Threads.{IsLeft, IsAt}
-use Rattle.typed_steps.specs.Variables.{Sends, Holds}
-use Rattle.typed_steps.specs.Requests.{IsRequest, IsAnswer, GivesResult, GoesTo}
+use Rattle.typed_steps.specs.Variables.{HasWhatIsOwed, HostsHold}
+use Rattle.typed_steps.specs.Requests.{IsRequest, IsAnswerTo, GivesResult, GoesTo}
 use Rattle.typed_steps.specs.Weights.{Paced, STEP, weight_at, IsFueledRequest}
 use Rattle.ics_stack.specs.declared.stack.StackEntry.{StackEntry}
 use Rattle.std.specs.Prelude.{◌==◌, if◌then◌else◌}
@@ -63,18 +63,18 @@ IsIdle other host = ⊤
 
 pub record IsRunning (split : Split) (c : Configuration) (view : View) (world : WorldShape) (holder : HostId) :
     Type 0 where
-  pub state : HostShape
+  pub state : HostState
   pub there : state_at world holder ≡ Some state
   pub thread : ThreadShape
   pub running : state.running ≡ Some thread
   pub waiting : state.waiting ≡ []
-  pub sent : Sends split view state holder
+  pub sent : HasWhatIsOwed split view state holder
   pub flying : world.flying ≡ nothing
   pub at : IsAt split c view holder thread
 
 -- one thread waits on the holder, and one message is in flight
 pub record IsWaiting (split : Split) (view : View) (world : WorldShape) (holder owner from to : HostId) : Type 0 where
-  pub state : HostShape
+  pub state : HostState
   pub there : state_at world holder ≡ Some state
   pub thread : WaitingShape
   pub flight : Flight
@@ -82,7 +82,7 @@ pub record IsWaiting (split : Split) (view : View) (world : WorldShape) (holder 
   pub waiting : state.waiting ≡ thread ∷ []
   pub asked : thread.asked ≡ owner
   pub other : owner.0 ≢ holder.0
-  pub sent : Sends split view state holder
+  pub sent : HasWhatIsOwed split view state holder
   pub flying : world.flying ≡ only from to (flight ∷ [])
 
 pub record IsAsked (split : Split) (c : Configuration) (view : View) (world : WorldShape) (holder owner : HostId) :
@@ -93,7 +93,7 @@ pub record IsAsked (split : Split) (c : Configuration) (view : View) (world : Wo
 pub record IsAnswered (split : Split) (c : Configuration) (view : View) (world : WorldShape) (holder owner : HostId) :
     Type 0 where
   pub waits : IsWaiting split view world holder owner owner holder
-  pub answer : IsAnswer split c view holder waits.thread waits.flight.message
+  pub answer : IsAnswerTo split c view holder waits.thread waits.flight.message
 
 pub record IsGiving (split : Split) (c : Configuration) (view : View) (world : WorldShape) (holder owner : HostId) :
     Type 0 where
@@ -131,7 +131,7 @@ pub record IsReturning (split : Split) (c : Configuration) (view : View) (world 
   pub left : IsLeft split c view.keeper (chain_due split view.chain)
 
 pub record IsHalted (split : Split) (c : Configuration) (view : View) (world : WorldShape) : Type 0 where
-  pub state : HostShape
+  pub state : HostState
   pub there : state_at world split.code.root ≡ Some state
   pub halted : state.halted ≡ true
   pub flying : world.flying ≡ nothing
@@ -178,8 +178,8 @@ pub record IsOrderly (split : Split) (world : WorldShape) : Type 0 where
   pub unaffected : split.exposure.bad ≡ []
   pub count : length world.hosts ≡ length split.code.hosts
   pub none_bad : (host : HostId) → misbehaves world host ≡ false
-  pub numbers : (host : HostId) (state : HostShape) → state_at world host ≡ Some state → state.me ≡ host
-  pub ignored : (host : HostId) (state : HostShape) → state_at world host ≡ Some state → state.ignored ≡ 0
+  pub numbers : (host : HostId) (state : HostState) → state_at world host ≡ Some state → state.me ≡ host
+  pub ignored : (host : HostId) (state : HostState) → state_at world host ≡ Some state → state.ignored ≡ 0
 
 -- those on the stack of a host
 abbrev pub on_stack : HostId → List Link → List StackEntry
@@ -190,18 +190,18 @@ on_stack host (link ∷ chain) =
 -- each host has its part of the chain on its stack
 abbrev pub AreStacks : List Link → WorldShape → Type 0
 AreStacks chain world =
-    (host : HostId) (state : HostShape) → state_at world host ≡ Some state → state.entries ≡ on_stack host chain
+    (host : HostId) (state : HostState) → state_at world host ≡ Some state → state.entries ≡ on_stack host chain
 
 -- nothing runs or waits but on the holder
 abbrev pub AreIdle : Holder → WorldShape → Type 0
 AreIdle holder world =
-    (host : HostId) (state : HostShape) → state_at world host ≡ Some state → IsIdle holder host →
+    (host : HostId) (state : HostState) → state_at world host ≡ Some state → IsIdle holder host →
     (state.running ≡ None) × (state.waiting ≡ [])
 
 -- no host has halted while the token is held
 abbrev pub GoesOn : Holder → WorldShape → Type 0
 GoesOn halted world = ⊤
-GoesOn other world = (host : HostId) (state : HostShape) → state_at world host ≡ Some state → state.halted ≡ false
+GoesOn other world = (host : HostId) (state : HostState) → state_at world host ≡ Some state → state.halted ≡ false
 
 pub record Simulates (split : Split) (c : Configuration) (world : WorldShape) : Type 0 where
   pub view : View
@@ -210,7 +210,7 @@ pub record Simulates (split : Split) (c : Configuration) (world : WorldShape) : 
   pub stacks : AreStacks view.chain world
   pub idle : AreIdle holder world
   pub goes_on : GoesOn holder world
-  pub holds : Holds split c view world
+  pub holds : HostsHold split c view world
   pub stands : Stands split c view world holder
   pub fuel : ℕ
   pub fueled : Paced split → IsFueled split c view world holder stands fuel

@@ -19,7 +19,7 @@ use Rattle.host_code.specs.declared.code.Entry.{Entry}
 use Rattle.host_code.specs.Code.{CodeShape, CodeFieldShape, halt, entry_at}
 use Rattle.host_code.specs.Sound.{EntryFits}
 use Rattle.host_stores.specs.Stores.{own_rows}
-use Rattle.host_core.specs.Host.{HostShape, new_token, after_push, after_entering, with_running, thread_at}
+use Rattle.host_core.specs.Host.{HostState, new_token, after_push, after_entering, with_running, thread_at}
 use Rattle.host_core.specs.Start.{main_frame, last_token, idle_host, root_host, host_at_start}
 use Rattle.net_world.specs.World.{AreHostsOf, named_host, world_at_start, state_at, given}
 use Rattle.net_world.specs.World.{hosts_before}
@@ -27,7 +27,7 @@ use Rattle.split_rules.specs.Pace.{PACE}
 use Rattle.net_world.proofs.Obeying.{no_bad, obey_at_start}
 use Rattle.net_world.proofs.Present.{same_id}
 use Rattle.typed_steps.specs.Views.{Split}
-use Rattle.typed_steps.specs.Variables.{AreFresh, Holds}
+use Rattle.typed_steps.specs.Variables.{AreFresh, HostsHold}
 use Rattle.typed_steps.specs.Weights.{Paced, STEP, weight_at}
 use Rattle.typed_steps.proofs.Pops.{entry_pace}
 use Rattle.typed_steps.proofs.MainStart.{calls_at_start, last_entry, last_link, naming_at_start, view_at_start}
@@ -43,12 +43,12 @@ all_there P xs i x all there =
 -- ---- hosts before the first event
 
 -- a state before the first event is that of a host of the number
-pub record IsStart (code : CodeShape) (store : List (List ℤ)) (host : HostId) (state : HostShape) : Type 0 where
+pub record IsStart (code : CodeShape) (store : List (List ℤ)) (host : HostId) (state : HostState) : Type 0 where
   pub key : List ℕ
   pub is : state ≡ host_at_start code store key host
 
 start_from : (code : CodeShape) (store : List (List ℤ)) (n : ℕ) (rows : List declared_hosts.HostShape) (k : ℕ)
-    (host : HostId) (state : HostShape) → host.0 ≡ n + k →
+    (host : HostId) (state : HostState) → host.0 ≡ n + k →
     given (slice_get (hosts_before code store 0 n rows) k) ≡ Some state → IsStart code store host state
 start_from code store n [] k host state at is = absurd (cc)
 start_from code store n (row ∷ rows) zero host state at is =
@@ -61,12 +61,12 @@ start_from code store n (row ∷ rows) (suc k) host state at is =
     start_from code store (n + 1) rows k host state (omega arith) is
 
 pub starts : (code : CodeShape) (store : List (List ℤ)) (rows : List declared_hosts.HostShape) (host : HostId)
-    (state : HostShape) → state_at (world_at_start code rows 0 store) host ≡ Some state →
+    (state : HostState) → state_at (world_at_start code rows 0 store) host ≡ Some state →
     IsStart code store host state
 starts code store rows host state is = start_from code store 0 rows host.0 host state (omega arith) is
 
 there_within : (code : CodeShape) (store : List (List ℤ)) (n : ℕ) (rows : List declared_hosts.HostShape) (k : ℕ) →
-    k < length rows → (state : HostShape) × (given (slice_get (hosts_before code store 0 n rows) k) ≡ Some state)
+    k < length rows → (state : HostState) × (given (slice_get (hosts_before code store 0 n rows) k) ≡ Some state)
 there_within code store n [] k within = absurd (omega arith)
 there_within code store n (row ∷ rows) zero within =
     (host_at_start code store row.key (record { 0 = n }), no_bad code store n row)
@@ -82,7 +82,7 @@ idle_there code store key host apart =
     (ne_eqb host.0 code.root.0 apart)
 
 -- the root runs at `main`
-abbrev root_state : CodeShape → List (List ℤ) → List ℕ → HostId → Entry → HostShape
+abbrev root_state : CodeShape → List (List ℤ) → List ℕ → HostId → Entry → HostState
 root_state code store key host entry =
     let idle = idle_host code store key host in
     with_running (after_push idle halt main_frame (last_token idle.me))
@@ -98,7 +98,7 @@ root_is code store key host entry same is =
     (new_token idle halt main_frame)) is
 
 -- what all hosts have before the first event
-pub record IsFresh (code : CodeShape) (store : List (List ℤ)) (host : HostId) (state : HostShape) : Type 0 where
+pub record IsFresh (code : CodeShape) (store : List (List ℤ)) (host : HostId) (state : HostState) : Type 0 where
   pub me : state.me ≡ host
   pub ignored : state.ignored ≡ 0
   pub rows : state.rows ≡ own_rows host store 0 code.fields
@@ -108,19 +108,19 @@ pub record IsFresh (code : CodeShape) (store : List (List ℤ)) (host : HostId) 
   pub rest : host.0 ≢ code.root.0 → state.running ≡ None
   pub entries : host.0 ≢ code.root.0 → state.entries ≡ []
 
-fresh : (code : CodeShape) (store : List (List ℤ)) (host : HostId) (state : HostShape) (entry : Entry) →
+fresh : (code : CodeShape) (store : List (List ℤ)) (host : HostId) (state : HostState) (entry : Entry) →
     entry_at code code.main ≡ Some entry → IsStart code store host state → IsFresh code store host state
 fresh code store host state entry main start = elim (eqb_tells host.0 code.root.0) [
   | inl same ↦
       let is : state ≡ root_state code store start.key host entry =
       start.is ∙ root_is code store start.key host entry same.1 main in
       record {
-        me = ap (λ (s : HostShape). s.me) is;
-        ignored = ap (λ (s : HostShape). s.ignored) is;
-        rows = ap (λ (s : HostShape). s.rows) is;
-        halts = ap (λ (s : HostShape). s.halted) is;
-        waiting = ap (λ (s : HostShape). s.waiting) is;
-        variables = ap (λ (s : HostShape). s.variables) is;
+        me = ap (λ (s : HostState). s.me) is;
+        ignored = ap (λ (s : HostState). s.ignored) is;
+        rows = ap (λ (s : HostState). s.rows) is;
+        halts = ap (λ (s : HostState). s.halted) is;
+        waiting = ap (λ (s : HostState). s.waiting) is;
+        variables = ap (λ (s : HostState). s.variables) is;
         rest = λ apart. absurd (apart same.1);
         entries = λ apart. absurd (apart same.1);
       }
@@ -128,14 +128,14 @@ fresh code store host state entry main start = elim (eqb_tells host.0 code.root.
       let is : state ≡ idle_host code store start.key host =
       start.is ∙ idle_there code store start.key host apart.1 in
       record {
-        me = ap (λ (s : HostShape). s.me) is;
-        ignored = ap (λ (s : HostShape). s.ignored) is;
-        rows = ap (λ (s : HostShape). s.rows) is;
-        halts = ap (λ (s : HostShape). s.halted) is;
-        waiting = ap (λ (s : HostShape). s.waiting) is;
-        variables = ap (λ (s : HostShape). s.variables) is;
-        rest = λ other. ap (λ (s : HostShape). s.running) is;
-        entries = λ other. ap (λ (s : HostShape). s.entries) is;
+        me = ap (λ (s : HostState). s.me) is;
+        ignored = ap (λ (s : HostState). s.ignored) is;
+        rows = ap (λ (s : HostState). s.rows) is;
+        halts = ap (λ (s : HostState). s.halted) is;
+        waiting = ap (λ (s : HostState). s.waiting) is;
+        variables = ap (λ (s : HostState). s.variables) is;
+        rest = λ other. ap (λ (s : HostState). s.running) is;
+        entries = λ other. ap (λ (s : HostState). s.entries) is;
       }
 ]
 
@@ -153,7 +153,7 @@ own_row_at host store n (first ∷ fields) (suc k) field there same =
 
 -- each host is fresh
 fresh_there : (split : Split) (store : List (List ℤ)) (rows : List declared_hosts.HostShape) (entry : Entry) →
-    entry_at split.code split.code.main ≡ Some entry → (host : HostId) (state : HostShape) →
+    entry_at split.code split.code.main ≡ Some entry → (host : HostId) (state : HostState) →
     state_at (world_at_start split.code rows 0 store) host ≡ Some state → IsFresh split.code store host state
 fresh_there split store rows entry main host state is =
     fresh split.code store host state entry main (starts split.code store rows host state is)
@@ -178,7 +178,7 @@ stacks_at_start split store rows entry main key there host state is =
           let state_is : state ≡ root_state code store key code.root entry =
           some_same (state_at world code.root) state (root_state code store key code.root entry)
           (ap (state_at world) (sym one) ∙ is) there in
-          ap (λ (s : HostShape). s.entries) state_is ∙ sym (own_stack host last [] (sym one))
+          ap (λ (s : HostState). s.entries) state_is ∙ sym (own_stack host last [] (sym one))
       | inr apart ↦
           (fresh_there split store rows entry main host state is).entries apart.1
           ∙ sym (other_stack code.root host last [] refl apart.1)
@@ -199,7 +199,7 @@ fresh_frames split store rows entry main host state site count at there least =
 
 holds_at_start : (split : Split) (store : List (List ℤ)) (rows : List declared_hosts.HostShape) (entry : Entry) →
     entry_at split.code split.code.main ≡ Some entry → (key : List ℕ) →
-    Holds split (configuration_at_start split.program store) (view_at_start split store key)
+    HostsHold split (configuration_at_start split.program store) (view_at_start split store key)
     (world_at_start split.code rows 0 store)
 holds_at_start split store rows entry main key =
     let fresh_at = fresh_there split store rows entry main in

@@ -15,7 +15,7 @@ use Rattle.host_code.specs.declared.message.Message.TheVariants as message
 use Rattle.host_code.specs.Thread.{ThreadShape, Awaited, WaitingShape}
 use Rattle.host_code.specs.Thread.Awaited.{value_of_field, acknowledgement, token_of_entry}
 use Rattle.host_core.specs.Awaiting.{awaits, is_same_answer}
-use Rattle.host_core.specs.Host.{HostShape, Outcome, without_message}
+use Rattle.host_core.specs.Host.{HostState, Outcome, without_message}
 use Rattle.host_core.specs.Host.{after_pop}
 use Rattle.host_core.specs.Host.{with_running}
 use Rattle.host_core.specs.Taking.{IsTaking, place_of_awaiting}
@@ -26,8 +26,8 @@ use Rattle.net_world.proofs.Moved.{Moved, mover_state, other_state, moved_silent
 use Rattle.typed_steps.specs.Views.{Split, View, with_out}
 use Rattle.typed_steps.specs.Chains.{IsChain}
 use Rattle.typed_steps.specs.Threads.{IsAt}
-use Rattle.typed_steps.specs.Variables.{Sends, Holds}
-use Rattle.typed_steps.specs.Requests.{IsAnswer, starting}
+use Rattle.typed_steps.specs.Variables.{HasWhatIsOwed, HostsHold}
+use Rattle.typed_steps.specs.Requests.{IsAnswerTo, starting}
 use Rattle.typed_steps.specs.Weights.{Paced, STEP, weight_at, IsFueledRequest}
 use Rattle.typed_steps.proofs.HeldSteps.{holds_same, holds_calm}
 use Rattle.typed_steps.proofs.Takes.{passing}
@@ -48,11 +48,11 @@ answers : (split : Split) (c now : Configuration) (world after : WorldShape) (si
     (before : Holder) (holder owner : HostId) → AreIdle before world → NoneHalted world →
     ((other : HostId) → other.0 ≢ owner.0 → IsIdle (answered holder owner) other → IsIdle before other) →
     IsIdle before owner →
-    (waits : IsWaiting split sim.view world holder owner holder owner) (old : HostShape) (label : ℕ)
+    (waits : IsWaiting split sim.view world holder owner holder owner) (old : HostState) (label : ℕ)
     (outcome : Outcome) → state_at world owner ≡ Some old →
     after_step (without_flight world holder owner 0) owner outcome (Some label) ≡ after → (enough : ℕ → Type 0) →
     (Paced split → enough sim.fuel) → (more most : ℕ) → sim.fuel + more ≤ most →
-    takes.Answers split sim.view world holder owner waits.thread old enough now more outcome →
+    takes.AnswersRequest split sim.view world holder owner waits.thread old enough now more outcome →
     Falls split now most after
 answers split c now world after sim before holder owner idle none_halted idles rests waits old label outcome obeys
     leaves enough fueled more most least a =
@@ -109,7 +109,7 @@ answers_any : (split : Split) (c : Configuration) (world after : WorldShape) (si
     (before : Holder) (holder owner : HostId) → AreIdle before world → NoneHalted world →
     ((other : HostId) → other.0 ≢ owner.0 → IsIdle (answered holder owner) other → IsIdle before other) →
     IsIdle before owner →
-    (waits : IsWaiting split sim.view world holder owner holder owner) (old : HostShape) (label : ℕ)
+    (waits : IsWaiting split sim.view world holder owner holder owner) (old : HostState) (label : ℕ)
     (outcome : Outcome) → state_at world owner ≡ Some old →
     after_step (without_flight world holder owner 0) owner outcome (Some label) ≡ after → (enough : ℕ → Type 0) →
     (Paced split → enough sim.fuel) →
@@ -129,7 +129,7 @@ answers_any split c world after sim before holder owner idle none_halted idles r
 
 -- who owns what is asked for
 owner_of : (split : Split) (c : Configuration) (world : WorldShape) (sim : Simulates split c world) →
-    IsChain split sim.view.naming sim.view.chain → (owner : HostId) (old : HostShape) →
+    IsChain split sim.view.naming sim.view.chain → (owner : HostId) (old : HostState) →
     state_at world owner ≡ Some old → takes.IsOwner split c sim.view world owner old
 owner_of split c world sim is_chain owner old obeys = record {
   there = obeys;
@@ -150,7 +150,7 @@ first_passes : {X : Type 0} (p : X → Bool) (x : X) → p x ≡ true → positi
 first_passes p x passes = rw passes refl
 
 -- the one thread that waits is the one that is answered
-pub awaited_first : (state : HostShape) (waiting : WaitingShape) (awaited : Awaited) (request : RequestId)
+pub awaited_first : (state : HostState) (waiting : WaitingShape) (awaited : Awaited) (request : RequestId)
     (from : HostId) → state.waiting ≡ waiting ∷ [] → waiting.awaited ≡ awaited → waiting.request ≡ request →
     waiting.asked ≡ from → place_of_awaiting state awaited request from ≡ Some 0
 awaited_first state waiting awaited request from is kind number by =
@@ -177,15 +177,15 @@ awaited_first state waiting awaited request from is kind number by =
 begins : (split : Split) (c : Configuration) (world after : WorldShape) (sim : Simulates split c world)
     (before : Holder) (from host : HostId) (flight : Flight) (seen : View) → AreIdle before world → NoneHalted world →
     ((other : HostId) → other.0 ≢ host.0 → IsIdle before other) → world.flying ≡ only from host (flight ∷ []) →
-    (old new : HostShape) (thread : ThreadShape) → state_at world host ≡ Some old → new.me ≡ old.me →
+    (old new : HostState) (thread : ThreadShape) → state_at world host ≡ Some old → new.me ≡ old.me →
     new.ignored ≡ old.ignored → new.halted ≡ old.halted → new.running ≡ Some thread → new.waiting ≡ [] →
     new.entries ≡ on_stack host seen.chain →
     ((other : HostId) → other.0 ≢ host.0 → on_stack other seen.chain ≡ on_stack other sim.view.chain) →
     (outcome : Outcome) (label : ℕ) → without_message new ≡ outcome →
     after_step (without_flight world from host 0) host outcome (Some label) ≡ after →
     IsChain split seen.naming seen.chain →
-    (Moved world host new (without_flight world from host 0).flying after → Holds split c seen after) →
-    Sends split seen new host → IsAt split c seen host thread →
+    (Moved world host new (without_flight world from host 0).flying after → HostsHold split c seen after) →
+    HasWhatIsOwed split seen new host → IsAt split c seen host thread →
     (Paced split → weight_at split seen.chain host thread.at < sim.fuel) → Goes split c sim.fuel after
 begins split c world after sim before from host flight seen idle none_halted apart flying old new thread obeys me
     ignored halts running waiting entries others outcome label is leaves is_chain holds sent at less =
@@ -227,7 +227,7 @@ begins split c world after sim before from host flight seen idle none_halted apa
 answer_taken : (split : Split) (c : Configuration) (world after : WorldShape) (sim : Simulates split c world)
     (holder owner : HostId) → AreIdle (answered holder owner) world → NoneHalted world →
     IsChain split sim.view.naming sim.view.chain → (waits : IsWaiting split sim.view world holder owner owner holder)
-    (m : Message) → IsAnswer split c sim.view holder waits.thread m → (outcome : Outcome) (label : ℕ) →
+    (m : Message) → IsAnswerTo split c sim.view holder waits.thread m → (outcome : Outcome) (label : ℕ) →
     IsTaking split.code waits.state owner m outcome →
     after_step (without_flight world owner holder 0) holder outcome (Some label) ≡ after →
     (Paced split → weight_at split sim.view.chain holder waits.thread.thread.at + 1 ≤ sim.fuel) →
@@ -239,7 +239,7 @@ answer_taken split c world after sim holder owner idle none_halted is_chain wait
     waits.asked in
     let resumes = typed.answer_taken split c sim.view holder owner waits.thread state 0 first m answer outcome taking in
     let thread = resumes.change waits.thread.thread in
-    let new : HostShape = record state { running = Some thread; waiting = [] } in
+    let new : HostState = record state { running = Some thread; waiting = [] } in
     let done : without_message new ≡ outcome =
     sym (ap (λ (list : List WaitingShape). without_message (record state {
       running = option_map (λ waiting. resumes.change waiting.thread) (slice_get list 0);
@@ -261,7 +261,7 @@ answer_taken split c world after sim holder owner idle none_halted is_chain wait
 -- an entry is gone to, and what rode is there
 token_goes : (split : Split) (c : Configuration) (world after : WorldShape) (sim : Simulates split c world)
     (from to : HostId) → AreIdle (goes from to) world → NoneHalted world →
-    IsChain split sim.view.naming sim.view.chain → (going : IsGoing split c sim.view world from to) (old : HostShape) →
+    IsChain split sim.view.naming sim.view.chain → (going : IsGoing split c sim.view world from to) (old : HostState) →
     state_at world to ≡ Some old → (outcome : Outcome) (label : ℕ) →
     IsTaking split.code old from going.flight.message outcome →
     after_step (without_flight world from to 0) to outcome (Some label) ≡ after →
@@ -282,7 +282,7 @@ token_goes split c world after sim from to idle none_halted is_chain going old o
 token_returns : (split : Split) (c : Configuration) (world after : WorldShape) (sim : Simulates split c world)
     (from to : HostId) → AreIdle (returns from to) world → NoneHalted world →
     IsChain split sim.view.naming sim.view.chain → (back : IsReturning split c sim.view world from to)
-    (old : HostShape) → state_at world to ≡ Some old → (outcome : Outcome) (label : ℕ) →
+    (old : HostState) → state_at world to ≡ Some old → (outcome : Outcome) (label : ℕ) →
     IsTaking split.code old from (message.Lgoto back.token) outcome →
     after_step (without_flight world from to 0) to outcome (Some label) ≡ after →
     (Ended split c sim.view.chain to old ⊎ Continued split c sim.view sim.view.chain to old) →
@@ -291,7 +291,7 @@ token_returns split c world after sim from to idle none_halted is_chain back old
     (inl ended) fueled =
     let view = sim.view in
     let stack = sim.stacks to old obeys in
-    let new : HostShape = record old { entries = []; running = None; halted = true } in
+    let new : HostState = record old { entries = []; running = None; halted = true } in
     let passed = passing split old from (message.Lgoto back.token) outcome takes
     (ap top_token stack ∙ top_on_stack to view.chain back.token back.top back.host) in
     let done : without_message new ≡ outcome =
@@ -356,7 +356,7 @@ take_at split world after from to from' to' place from_is to_is place_is step =
 
 -- a host takes the one message in flight
 record TakesOne (split : Split) (world after : WorldShape) (from to : HostId) (m : Message) : Type 0 where
-  old : HostShape
+  old : HostState
   obeys : state_at world to ≡ Some old
   outcome : Outcome
   label : ℕ
@@ -428,7 +428,7 @@ answered_taken split c world after sim holder owner idle none_halted is_chain st
     let state = some_same (state_at world holder) one.old waits.state one.obeys waits.there in
     answer_taken split c world after sim holder owner idle none_halted is_chain waits waits.flight.message stands.answer
     one.outcome one.label
-    (subst (λ (s : HostShape). IsTaking split.code s owner waits.flight.message one.outcome) state one.takes) one.leaves
+    (subst (λ (s : HostState). IsTaking split.code s owner waits.flight.message one.outcome) state one.takes) one.leaves
     fueled
 
 -- the token is taken at an entry

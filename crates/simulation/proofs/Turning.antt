@@ -10,7 +10,7 @@ use Rattle.host_code.specs.declared.message.Message.{Message}
 use Rattle.host_code.specs.declared.message.Message.TheVariants as message
 use Rattle.host_code.specs.Thread.{ThreadShape, Awaited}
 use Rattle.host_code.specs.Thread.Awaited.{acknowledgement}
-use Rattle.host_core.specs.Host.{HostShape, Outcome, with_message, without_message, after_asking, with_running}
+use Rattle.host_core.specs.Host.{HostState, Outcome, with_message, without_message, after_asking, with_running}
 use Rattle.host_core.specs.Host.{after_pop, with_one_ignored}
 use Rattle.host_core.specs.Turn.{IsTurn, label_of_turn}
 use Rattle.split_rules.specs.Pace.{PACE}
@@ -24,7 +24,7 @@ use Rattle.typed_steps.specs.Values.{HoldsNumbers}
 use Rattle.typed_steps.specs.Turns.{IsActing, Grows, stays, grows, Turned, waiting_for}
 use Rattle.typed_steps.specs.Views.{Split, Link, View}
 use Rattle.typed_steps.specs.Chains.{IsChain}
-use Rattle.typed_steps.specs.Variables.{Holds}
+use Rattle.typed_steps.specs.Variables.{HostsHold}
 use Rattle.typed_steps.specs.Weights.{Paced, STEP, weight_at}
 use Rattle.typed_steps.specs.Requests.{starting}
 use Rattle.typed_steps.proofs.HeldSteps.{holds_same, holds_calm}
@@ -44,7 +44,7 @@ pub record Turning (split : Split) (c : Configuration) (world after : WorldShape
   pub stacks : AreStacks view.chain world
   pub idle : AreIdle (runs host) world
   pub none_halted : NoneHalted world
-  pub holds : Holds split c view world
+  pub holds : HostsHold split c view world
   pub run : IsRunning split c view world host
   pub outcome : Outcome
   pub label : ℕ
@@ -68,7 +68,7 @@ others_grown host chain now old new (grows link on_host chain_is is) other apart
     ap (on_stack other) chain_is ∙ other_stack host other link chain on_host apart
 
 -- the holder once its thread waits
-abbrev pub asking : HostShape → ℕ → ThreadShape → Awaited → HostId → HostShape
+abbrev pub asking : HostState → ℕ → ThreadShape → Awaited → HostId → HostState
 asking old at thread awaited to = after_asking (with_running old None) at thread awaited to
 
 -- one thread waits, and its message is in flight
@@ -214,7 +214,7 @@ module _ (split : Split) (c : Configuration) (world after : WorldShape) (host : 
       (Paced split → 3 * (PACE + length t.view.chain) ≤ t.fuel) → Goes split c t.fuel after
   returns_own none is (inl ended) most =
       let old = t.run.state in
-      let new : HostShape = record old { entries = []; running = None; halted = true } in
+      let new : HostState = record old { entries = []; running = None; halted = true } in
       let moved = moved_silent world host t.outcome new (Some t.label) after
       (sym (ap without_message ended.is) ∙ is) t.leaves in
       inl (record {
@@ -246,7 +246,7 @@ module _ (split : Split) (c : Configuration) (world after : WorldShape) (host : 
       })
   returns_own none is (inr more) most =
       let old = t.run.state in
-      let state : HostShape = record old { running = None; entries = on_stack host more.now } in
+      let state : HostState = record old { running = None; entries = on_stack host more.now } in
       let new = with_running state (Some more.thread) in
       let moved = moved_silent world host t.outcome new (Some t.label) after
       (sym (ap without_message more.is) ∙ is) t.leaves in
@@ -369,7 +369,7 @@ module _ (split : Split) (c : Configuration) (world after : WorldShape) (host : 
       (λ paced. let most = e.pace paced in let before = t.fueled paced in omega arith)
 
 -- where nothing is affected nothing is asked of what a host has
-pub no_numbers : (split : Split) → split.exposure.bad ≡ [] → (state : HostShape) → HoldsNumbers split.exposure state
+pub no_numbers : (split : Split) → split.exposure.bad ≡ [] → (state : HostState) → HoldsNumbers split.exposure state
 no_numbers split none state = record {
   elements = λ field place far. absurd (no_field split.exposure none field far);
   variables = λ frame x far.

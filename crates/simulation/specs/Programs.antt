@@ -4,7 +4,7 @@ use Rattle.js_base.specs.declared.ids.VarId.{VarId}
 use Rattle.jif_tree.specs.Trees.{MethodTree, ProgramTree}
 
 -- the parameters of each method have numbers that rise
-abbrev pub AreInOrder : ProgramTree → Type 0
-AreInOrder program = (place first second : ℕ) (method : MethodTree) (x y : VarId) →
+abbrev pub AreParamsInOrder : ProgramTree → Type 0
+AreParamsInOrder program = (place first second : ℕ) (method : MethodTree) (x y : VarId) →
     slice_get program.methods place ≡ Some method → slice_get method.params first ≡ Some x →
     slice_get method.params second ≡ Some y → first < second → x.0 < y.0

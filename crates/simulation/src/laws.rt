@@ -11,7 +11,7 @@ ghost use Rattle.net_world.specs.World.{WorldShape, IsStep, IsRun, world_at_star
 ghost use Rattle.split_rules.specs.Placed.{PlacedProgram};
 ghost use Rattle.split_rules.specs.SplitCode.{split_code};
 ghost use Rattle.simulation.specs.Ending.{EVENTS, HaltsWithin};
-ghost use Rattle.simulation.specs.Obeying.{Counted, Follows, IsSet};
+ghost use Rattle.simulation.specs.Obeying.{CountedSteps, FollowsPlainRun, IsSet};
 
 use jif_tree::altered_laws;
 use split_rules::{pace_laws, split_laws, trust_laws};
@@ -25,14 +25,14 @@ pub fn obeying_laws()
         let code = split_code placed in
         IsSet program placed →
         IsRun code (world_at_start code placed.hosts.hosts 0 store) events world →
-        Follows program code placed.hosts.hosts store events world }
+        FollowsPlainRun program code placed.hosts.hosts store events world }
     // So the fields in the end are those after some number of steps, which is the length of the run once it has halted.
     ensures counted { (program : Program) (placed : PlacedProgram) (store : List (List ℤ)) (events : List Event)
         (world : WorldShape) →
         let code = split_code placed in
         IsSet program placed →
         IsRun code (world_at_start code placed.hosts.hosts 0 store) events world →
-        Counted program code store world }
+        CountedSteps program code store world }
     ensures idle { (program : Program) (placed : PlacedProgram) (store : List (List ℤ)) (events : List Event)
         (world : WorldShape) →
         let code = split_code placed in
@@ -41,7 +41,7 @@ pub fn obeying_laws()
         has_halted code.root world }
     ensures ignored { (program : Program) (placed : PlacedProgram) (store : List (List ℤ)) (events : List Event)
         (world : WorldShape) (host : HostId)
-        (state : host_state.HostShape) →
+        (state : host_state.HostState) →
         let code = split_code placed in
         IsSet program placed →
         IsRun code (world_at_start code placed.hosts.hosts 0 store) events world → state_at world host ≡ Some state →

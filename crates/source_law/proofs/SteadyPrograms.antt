@@ -26,7 +26,7 @@ use Rattle.jif_tree.proofs.LabelsKept.{Stay, stay_same, stay_then, block_stays}
 use Rattle.need_labels.specs.Labelled.{Labelled}
 use Rattle.need_labels.specs.Needs.{NeedsShape, StatementUse, block_uses, method_uses, statement_uses, IsNeed}
 use Rattle.need_labels.proofs.Ordered.{use_numbered}
-use Rattle.source_law.specs.Checked.{IsChecked, exposed_to}
+use Rattle.source_law.specs.Checked.{PassesLabelCheck, exposed_to}
 use Rattle.source_law.specs.Steady.{AreIdle, AreSteady, AllIdle, AllSteady, IsSteadyProgram}
 use Rattle.source_law.specs.Unendorsed.{IsUnendorsedBlock, EndorsesNothing}
 use Rattle.source_law.proofs.ExposedPrograms.{ExposedProgram, OwnMethod, IsNeeded, labelled_in}
@@ -160,7 +160,8 @@ module _ (principals : Declared) (program : Program) (scene : ExposedProgram pro
 
 -- ---- programs
 
-use_needed : (principals : Declared) (labelled : Labelled) (needs : NeedsShape) → IsChecked principals labelled needs →
+use_needed : (principals : Declared) (labelled : Labelled) (needs : NeedsShape) →
+    PassesLabelCheck principals labelled needs →
     (place : ℕ) (one : StatementUse) → slice_get (statement_uses principals labelled) place ≡ Some one →
     IsNeed principals one.backing (slice_index needs.need one.id.0)
 use_needed principals labelled needs checked place one there =
@@ -176,7 +177,7 @@ use_needed principals labelled needs checked place one there =
 steady_there : (principals : Declared) (program : Program) (var_labels pcs : List Label) (needs : NeedsShape)
     (bad : List Label) →
     let labelled : Labelled = record { program = program_tree program; var_labels = var_labels; pc = pcs } in
-    IsChecked principals labelled needs → EndorsesNothing (program_tree program) →
+    PassesLabelCheck principals labelled needs → EndorsesNothing (program_tree program) →
     IsSteadyProgram program (exposed_to labelled needs bad)
 steady_there principals program var_labels pcs needs bad checked pure =
     let labelled : Labelled = record { program = program_tree program; var_labels = var_labels; pc = pcs } in
@@ -208,11 +209,11 @@ steady_there principals program var_labels pcs needs bad checked pure =
     }
 
 pub program_steady : (principals : Declared) (program : Program) (labelled : Labelled) (needs : NeedsShape)
-    (bad : List Label) → program_tree program ≡ labelled.program → IsChecked principals labelled needs →
+    (bad : List Label) → program_tree program ≡ labelled.program → PassesLabelCheck principals labelled needs →
     EndorsesNothing labelled.program → IsSteadyProgram program (exposed_to labelled needs bad)
 program_steady principals program labelled needs bad same checked pure =
     let P : ProgramTree → Type 0 = λ tree.
-    IsChecked principals (record { program = tree; var_labels = labelled.var_labels; pc = labelled.pc }) needs in
+    PassesLabelCheck principals (record { program = tree; var_labels = labelled.var_labels; pc = labelled.pc }) needs in
     let R : ProgramTree → Type 0 = λ tree.
     IsSteadyProgram program (exposed_to (record { program = tree; var_labels = labelled.var_labels; pc = labelled.pc })
     needs bad) in

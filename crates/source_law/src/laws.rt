@@ -23,7 +23,7 @@ ghost use Rattle.jif_tree.specs.Trees.{BlockTree, Heading, MethodTree, ProgramTr
 ghost use Rattle.jif_tree.specs.Trees.{give_back, loop, set_element, set_local, declassified, element, endorsed, local};
 ghost use Rattle.need_labels.specs.Labelled.{Labelled};
 ghost use Rattle.need_labels.specs.Needs.{NeedsShape};
-ghost use Rattle.source_law.specs.Checked.{IsChecked, exposed_to};
+ghost use Rattle.source_law.specs.Checked.{PassesLabelCheck, exposed_to};
 ghost use Rattle.source_law.specs.Follows.{ComesTo, EndsAfter, FollowsPlain, KeepsUp};
 ghost use Rattle.source_law.specs.Related.{AreRelated};
 ghost use Rattle.source_law.specs.SteadyExamples.{begun, endorsed_0, only, second_pending, sets_0, sets_1_by, sets_9};
@@ -35,7 +35,7 @@ ghost use Rattle.source_law.specs.Unendorsed.{EndorsesNothing, IsUnendorsedBlock
 pub fn steady_laws()
     // In a checked program that endorses nothing, what may be affected decides on nothing else.
     ensures steady { (principals : Declared) (program : Program) (labelled : Labelled) (needs : NeedsShape)
-        (bad : List Label) → program_tree program ≡ labelled.program → IsChecked principals labelled needs →
+        (bad : List Label) → program_tree program ≡ labelled.program → PassesLabelCheck principals labelled needs →
         EndorsesNothing labelled.program → IsSteadyProgram program (exposed_to labelled needs bad) }
     // So an altered run and the plain run are related where they start.
     ensures starts { (program : Program) (exposure : Exposure) (store : List (List ℤ)) →
@@ -52,7 +52,7 @@ pub fn steady_laws()
     // them where the altered run is at its end.
     ensures plainly { (principals : Declared) (program : Program) (labelled : Labelled) (needs : NeedsShape)
         (bad : List Label) (store : List (List ℤ)) (length_of : ℕ) (moments : List Configuration) →
-        program_tree program ≡ labelled.program → IsChecked principals labelled needs →
+        program_tree program ≡ labelled.program → PassesLabelCheck principals labelled needs →
         EndorsesNothing labelled.program → HasLength program store length_of →
         ComesTo program (exposed_to labelled needs bad) (configuration_at_start program store) moments →
         FollowsPlain program (exposed_to labelled needs bad) store length_of

@@ -7,7 +7,7 @@ use Rattle.std.proofs.lemmas.List.{length-map}
 use Rattle.std.proofs.lemmas.Option.{slice_get_within, get_or_from_slice_get}
 use Rattle.host_code.specs.Code.{CodeShape, CodeHostShape, CodeFieldShape}
 use Rattle.host_code.specs.Sound.{IsSoundCode, FieldFits}
-use Rattle.host_core.specs.Host.{HostShape}
+use Rattle.host_core.specs.Host.{HostState}
 use Rattle.host_decl.specs.Hosts as declared_hosts
 use Rattle.js_base.specs.declared.ids.HostId.{HostId}
 use Rattle.net_world.specs.Secret.{IsReadable}
@@ -22,7 +22,7 @@ use Rattle.split_cli.proofs.SomeCompare.{same_list, same_int}
 -- ---- who misbehaves at the start
 
 -- a host that does not misbehave is there
-stands_or_lacks : (found : Option HostShape) → is_absent (Some found) ≡ false → IsSome (given (Some found))
+stands_or_lacks : (found : Option HostState) → is_absent (Some found) ≡ false → IsSome (given (Some found))
 stands_or_lacks None obeys = absurd (true≢false obeys)
 stands_or_lacks (Some state) obeys = refl
 

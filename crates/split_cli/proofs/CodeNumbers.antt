@@ -27,7 +27,7 @@ use Rattle.msg_cost.specs.Moves.{PlannedShape, is_same, end_of, next_spot, carri
 use Rattle.msg_cost.specs.Moves.{called_home}
 use Rattle.split_rules.specs.Placed.{PlacedProgram, planned_from}
 use Rattle.split_rules.specs.Emissions.{Emission, instruction, entry, stands, lands, Counts, counts_after}
-use Rattle.split_rules.specs.Expressions.{Reading, reads_in, nodes_of, readings_of, first_element}
+use Rattle.split_rules.specs.Expressions.{ElementReading, reads_in, nodes_of, readings_of, first_element}
 use Rattle.split_rules.specs.SplitCode.{emitted_on, landed, placed_instruction, part_on, code_labels, split_code}
 use Rattle.split_rules.specs.Walk.{Walked, Around, Lane, lane_on, entry_id, under_token, emitted, push_or_ask}
 use Rattle.split_rules.specs.Walk.{expr_emissions, read_emissions, told_readers, leave_emissions, go_with, call_with}
@@ -69,7 +69,7 @@ nodes_have first (endorsed operand label) small = nodes_have first operand small
 first_has : HaveNumbers first_element
 first_has = one_node (node.Number (pos 0)) zero_fits
 
-abbrev ReadingHasNumbers : Reading → Type 0
+abbrev ReadingHasNumbers : ElementReading → Type 0
 ReadingHasNumbers reading = HaveNumbers reading.index
 
 readings_have : (first : ℕ) (value : ExprTree) → ExprHasNumbers value →
@@ -102,7 +102,7 @@ EmitNumbers emissions = AllByRecursion EmissionHasNumbers emissions
 both : (xs ys : List Emission) → EmitNumbers xs → EmitNumbers ys → EmitNumbers (xs ++ ys)
 both xs ys one two = all_both EmissionHasNumbers xs ys one two
 
-reads_have : (host : HostId) (pc : Label) (statement : StmtId) (readings : List Reading) →
+reads_have : (host : HostId) (pc : Label) (statement : StmtId) (readings : List ElementReading) →
     AllByRecursion ReadingHasNumbers readings → EmitNumbers (read_emissions host pc statement readings)
 reads_have host pc statement [] small = tt
 reads_have host pc statement (reading ∷ readings) small =
@@ -204,8 +204,13 @@ call_has walked counts host pc statement site method arguments into carried left
       (
         tt,
         both (argument_emissions walked host home pc statement params arguments) _
-            (arguments_have walked host home pc statement params arguments small)
-            (tt, (called_has (riding_params walked.planned host home params arguments) (suc method.0) home, (tt, kept))),
+            (arguments_have walked host home pc statement params arguments small) (
+              tt,
+              (
+                called_has (riding_params walked.planned host home params arguments) (suc method.0) home,
+                (tt, kept),
+              ),
+            ),
       ),
     )
 

@@ -12,13 +12,13 @@ use Rattle.event_text.specs.Script.{ScriptShape, script_of}
 use Rattle.host_code.specs.Code.{CodeShape}
 use Rattle.host_code.specs.Sound.{IsSoundCode}
 use Rattle.net_world.specs.Fits.{HasOwnToken}
-use Rattle.net_world.specs.Released.{IsFront, AreAlike, AreReleased}
+use Rattle.net_world.specs.Released.{IsListFront, OneIsFront, AreReleased}
 use Rattle.net_world.specs.Secret.{IsSeenRun, IsPrompt}
 use Rattle.net_world.specs.Told.{SentMessage}
 use Rattle.net_world.specs.World.{WorldShape, world_at_start, not_bad, not_there, host_busy, no_such_token}
 use Rattle.split_rules.specs.Placed.{PlacedProgram}
 use Rattle.split_rules.specs.Allowed.{IsAllowed}
-use Rattle.split_rules.specs.Held.{IsHeld}
+use Rattle.split_rules.specs.Held.{IsWellHeld}
 use Rattle.split_rules.specs.Releases.{ReleasesShape, releases_of}
 use Rattle.split_rules.specs.SplitCode.{split_code}
 use Rattle.split_rules.specs.Splittable.{IsSplittable}
@@ -27,12 +27,12 @@ use Rattle.split_shades.specs.Sites.{ReleasesNothing}
 use Rattle.agreement.specs.Alike.{AreStoresAlike}
 use Rattle.front_end.specs.PlacedCode.{code_of, program_of}
 use Rattle.front_end.specs.PlacedSources.{PlacedSource, PlacedSources}
-use Rattle.front_end.specs.Stages.{Outcome, given, stopped, DueThen}
+use Rattle.front_end.specs.Stages.{StageEnd, given, stopped, DueThen}
 use Rattle.front_end.specs.Verdicts.{VerdictShape, Print}
 use Rattle.split_words.specs.Commands.{Compare, words_of}
 use Rattle.run_comparison.specs.Compare.{StartAlike, holds, fails, SameMisbehave, SameStarts, SameEvents}
 use Rattle.run_comparison.specs.Compare.{IsPromptRun, Compared, agree, differ}
-use Rattle.run_comparison.specs.Compare.{ScriptFollowed, DueForRuns, DueForSaid, DueForCompare}
+use Rattle.run_comparison.specs.Compare.{ScriptFollowed, DueForRuns, DueForReadScripts, DueForCompare}
 use Rattle.split_cli.specs.Due.{Due}
 use Rattle.script_stages.specs.FirstWorld.{first_world}
 use Rattle.split_cli.specs.Headline.{IsPlacedAs, IsPrivate, OfFourFiles}
@@ -44,7 +44,7 @@ use Rattle.script_stages.proofs.ScriptReads.{code_hosts}
 use Rattle.split_cli.proofs.Faithful.{AllLaws, Says, refused_says, placed_says, IsRead, script_says, played}
 use Rattle.split_cli.proofs.Faithful.{SaysOfBytes, OnlyTwo, four_due}
 use Rattle.split_cli.proofs.OneCompare.{differ_not_alike}
-use Rattle.split_cli.proofs.OneDrive.{OneStep}
+use Rattle.script_stages.proofs.OneScript.{OneStep}
 use Rattle.net_world.proofs.ReleasedValues.{released_once}
 use Rattle.run_comparison.proofs.FollowedEvents.{followed_ran}
 use Rattle.split_cli.proofs.PromptRuns.{followed_runs, followed_seen, all_seen, followed_prompt}
@@ -60,9 +60,9 @@ ToldAlikeLaw = (placed : PlacedProgram) (bad : ℕ) (store start : List (List �
     let table = releases_of placed in
     let first = world_at_start code placed.hosts.hosts bad store in
     let second = world_at_start code placed.hosts.hosts bad start in
-    IsSplittable placed → IsAllowed placed → IsHeld placed → AreResultsLabelled placed.labelled.program →
+    IsSplittable placed → IsAllowed placed → IsWellHeld placed → AreResultsLabelled placed.labelled.program →
     AreStoresAlike code first store start → AreReleased code table first events values →
-    AreReleased code table second others values_too → AreAlike values values_too → All (HasOwnToken first) seen →
+    AreReleased code table second others values_too → OneIsFront values values_too → All (HasOwnToken first) seen →
     IsSeenRun code first events (seen ++ more) one → IsSeenRun code second others seen other →
     IsPrompt code first events → IsPrompt code second others →
     (rest : List SentMessage) × (one.sent ≡ other.sent ++ rest)
@@ -70,7 +70,7 @@ ToldAlikeLaw = (placed : PlacedProgram) (bad : ℕ) (store start : List (List �
 -- a run of a program that releases nothing releases no value
 abbrev pub NoneReleasedLaw : Type 0
 NoneReleasedLaw = (placed : PlacedProgram) (world after : WorldShape) (events seen : List Event) →
-    IsSplittable placed → IsAllowed placed → IsHeld placed → AreResultsLabelled placed.labelled.program →
+    IsSplittable placed → IsAllowed placed → IsWellHeld placed → AreResultsLabelled placed.labelled.program →
     ReleasesNothing placed.labelled.program → IsSeenRun (split_code placed) world events seen after →
     AreReleased (split_code placed) (releases_of placed) world events []
 
@@ -92,11 +92,11 @@ record IsSeenSo (placed : PlacedSource) (world : WorldShape) (events seen : List
 -- the first of two runs is that of which more is seen
 longer_tells : AllLaws → PrivateLaws → (program hosts : List ℕ) (placed : PlacedSource) (tree : Program) (bad : ℕ)
     (store start : List (List ℤ)) (events others seen more : List Event) (values values_too : List ℤ)
-    (one other : WorldShape) → IsPlacedAs program hosts placed tree → AreAlike values values_too →
+    (one other : WorldShape) → IsPlacedAs program hosts placed tree → OneIsFront values values_too →
     AreStoresAlike (code_of placed) (first_world placed bad store) store start →
     All (HasOwnToken (first_world placed bad store)) others →
     IsSeenSo placed (first_world placed bad store) events (seen ++ more) values one →
-    IsSeenSo placed (first_world placed bad start) others seen values_too other → IsFront other.sent one.sent
+    IsSeenSo placed (first_world placed bad start) others seen values_too other → IsListFront other.sent one.sent
 longer_tells sets laws program hosts placed tree bad store start events others seen more values values_too one other
     is_placed same_values alike own first second =
     let code = code_of placed in
@@ -132,7 +132,7 @@ own_there sets placed script said bad store read same =
     (code_hosts placed code refl) (own k d less))
 
 -- lists that are alike are so in either order
-turned_round : {X : Type 0} (one other : List X) → AreAlike one other → AreAlike other one
+turned_round : {X : Type 0} (one other : List X) → OneIsFront one other → OneIsFront other one
 turned_round one other alike = ⊎_elim inr inl alike
 
 runs_tell : AllLaws → PrivateLaws → (program hosts one other : List ℕ) (placed : PlacedSource) (tree : Program)
@@ -143,7 +143,7 @@ runs_tell : AllLaws → PrivateLaws → (program hosts one other : List ℕ) (pl
     StartAlike (code_of placed) (first_world placed said.bad said.start) said.start said_too.start →
     IsSeenSo placed (first_world placed said.bad said.start) (events_in said.events) seen values last →
     IsSeenSo placed (first_world placed said_too.bad said_too.start) (events_in said_too.events) seen_too values_too
-    last_too → AreAlike seen seen_too → AreAlike values values_too → AreAlike last.sent last_too.sent
+    last_too → OneIsFront seen seen_too → OneIsFront values values_too → OneIsFront last.sent last_too.sent
 runs_tell sets laws program hosts one other placed tree said said_too seen seen_too values values_too last last_too
     is_placed read read_too same starts first second both same_values =
     let code = code_of placed in
@@ -176,7 +176,7 @@ runs_tell sets laws program hosts one other placed tree said said_too seen seen_
 -- what is reported of alike messages is that they agree
 alike_done : (placed : PlacedSource) (one other : List SentMessage) (released released_too : List ℤ)
     (verdict : VerdictShape) (status : Status) (text : List ℕ) →
-    Compared placed one other released released_too verdict → verdict ≡ Print status text → AreAlike one other →
+    Compared placed one other released released_too verdict → verdict ≡ Print status text → OneIsFront one other →
     status ≡ Done
 alike_done placed one other released released_too _ status text (agree alike) is also =
     let done : Done ≡ status = cc in sym done
@@ -186,7 +186,7 @@ alike_done placed one other released released_too _ status text (differ place ap
 -- ---- what a verdict says
 
 -- a stage that says something of what it gives, or stops the command
-then_says : {X : Type 0} (Text : Status → List ℕ → Type 0) (First : Outcome X → Type 0)
+then_says : {X : Type 0} (Text : Status → List ℕ → Type 0) (First : StageEnd X → Type 0)
     (Last : X → VerdictShape → Type 0) (verdict : VerdictShape) → (First (stopped verdict) → Says Text verdict) →
     ((x : X) → First (given x) → Last x verdict → Says Text verdict) → DueThen First Last verdict →
     Says Text verdict
@@ -195,13 +195,13 @@ then_says Text First Last verdict stops goes ends =
 
 -- events are followed, or stop the command
 abbrev FollowedSays : (Status → List ℕ → Type 0) → CodeShape → ReleasesShape → WorldShape → List (ℕ × Event) →
-    Outcome FollowedRun → Type 0
+    StageEnd FollowedRun → Type 0
 FollowedSays Text code table world said (given it) =
     IsFollowed code world said it.run × AreReleased code table world (events_in said) it.released
 FollowedSays Text code table world said (stopped verdict) = Says Text verdict
 
 followed_says : (Text : Status → List ℕ → Type 0) (file : List ℕ) (code : CodeShape) (table : ReleasesShape)
-    (world : WorldShape) (said : List (ℕ × Event)) (end : Outcome FollowedRun) →
+    (world : WorldShape) (said : List (ℕ × Event)) (end : StageEnd FollowedRun) →
     EventsFollowed file code table world said end → FollowedSays Text code table world said end
 unfolding Says
 followed_says Text file code table world said _ (followed run is values) = (is, values)
@@ -211,27 +211,27 @@ followed_says Text file code table world said _ (refused at host_busy stops) = t
 followed_says Text file code table world said _ (refused at (no_such_token count) stops) = tt
 
 -- a premise holds, or stops the command
-abbrev PremiseSays : (Status → List ℕ → Type 0) → Type 0 → Outcome ⊤ → Type 0
+abbrev PremiseSays : (Status → List ℕ → Type 0) → Type 0 → StageEnd ⊤ → Type 0
 PremiseSays Text Holds (given one) = Holds
 PremiseSays Text Holds (stopped verdict) = Says Text verdict
 
-misbehave_says : (Text : Status → List ℕ → Type 0) (one other : ScriptShape) (end : Outcome ⊤) →
+misbehave_says : (Text : Status → List ℕ → Type 0) (one other : ScriptShape) (end : StageEnd ⊤) →
     SameMisbehave one other end → PremiseSays Text (one.bad ≡ other.bad) end
 misbehave_says Text one other _ (holds is) = is
 misbehave_says Text one other _ (fails verdict not) = refused_says Text _ verdict not.1
 
-starts_say : (Text : Status → List ℕ → Type 0) (placed : PlacedSource) (one other : ScriptShape) (end : Outcome ⊤) →
+starts_say : (Text : Status → List ℕ → Type 0) (placed : PlacedSource) (one other : ScriptShape) (end : StageEnd ⊤) →
     SameStarts placed one other end →
     PremiseSays Text (StartAlike (code_of placed) (first_world placed one.bad one.start) one.start other.start) end
 starts_say Text placed one other _ (holds is) = is
 starts_say Text placed one other _ (fails verdict not) = refused_says Text _ verdict not.3
 
-events_say : (Text : Status → List ℕ → Type 0) (file : List ℕ) (one other : Followed) (end : Outcome ⊤) →
-    SameEvents file one other end → PremiseSays Text (AreAlike (events_in one.seen) (events_in other.seen)) end
+events_say : (Text : Status → List ℕ → Type 0) (file : List ℕ) (one other : Followed) (end : StageEnd ⊤) →
+    SameEvents file one other end → PremiseSays Text (OneIsFront (events_in one.seen) (events_in other.seen)) end
 events_say Text file one other _ (holds is) = is
 events_say Text file one other _ (fails verdict not) = refused_says Text _ verdict not.2
 
-prompt_says : (Text : Status → List ℕ → Type 0) (file : List ℕ) (run : Followed) (end : Outcome ⊤) →
+prompt_says : (Text : Status → List ℕ → Type 0) (file : List ℕ) (run : Followed) (end : StageEnd ⊤) →
     IsPromptRun file run end → PremiseSays Text (run.late ≡ None) end
 prompt_says Text file run _ (holds is) = is
 prompt_says Text file run _ (fails verdict not) = refused_says Text _ verdict not.2
@@ -277,14 +277,14 @@ none_so sets laws program hosts script placed tree said it is_placed was silent 
     (followed_seen code first said.events it.run was.followed))
 
 -- empty lists are alike
-both_empty : {X : Type 0} (one other : List X) → one ≡ [] → other ≡ [] → AreAlike one other
+both_empty : {X : Type 0} (one other : List X) → one ≡ [] → other ≡ [] → OneIsFront one other
 both_empty one other none none_too = inl ([], none_too ∙ ap (λ all. all ++ []) (sym none))
 
 -- all that is tested of two runs before they are compared
 record AreComparable (placed : PlacedSource) (said said_too : ScriptShape) (run run_too : FollowedRun) : Type 0 where
   same_bad : said.bad ≡ said_too.bad
   starts : StartAlike (code_of placed) (first_world placed said.bad said.start) said.start said_too.start
-  events : AreAlike (events_in run.run.seen) (events_in run_too.run.seen)
+  events : OneIsFront (events_in run.run.seen) (events_in run_too.run.seen)
   prompt : run.run.late ≡ None
   prompt_too : run_too.run.late ≡ None
 
@@ -307,12 +307,12 @@ is_private sets laws program hosts one other placed tree said said_too run run_t
     let tells = runs_tell sets laws program hosts one other placed tree said said_too (events_in run.run.seen)
     (events_in run_too.run.seen) run.released run_too.released run.run.last run_too.run.last is_placed first.was.read
     second.was.read both.same_bad both.starts one_seen other_seen both.events in
-    let agrees : AreAlike run.released run_too.released → status ≡ Done =
+    let agrees : OneIsFront run.released run_too.released → status ≡ Done =
     λ alike. alike_done placed run.run.last.sent run_too.run.last.sent run.released run_too.released
     (Print status text) status text reported refl (tells alike) in
     let none = none_so sets laws program hosts one placed tree said run is_placed first in
     let none_too = none_so sets laws program hosts other placed tree said_too run_too is_placed second in
-    let silent_alike : ReleasesNothing placed.source.tree → AreAlike run.released run_too.released =
+    let silent_alike : ReleasesNothing placed.source.tree → OneIsFront run.released run_too.released =
     λ silent. both_empty run.released run_too.released (none silent) (none_too silent) in
     record {
       placed = placed;
@@ -393,7 +393,7 @@ runs_say sets laws program hosts one other placed tree file file_too said said_t
 said_says : AllLaws → PrivateLaws → (program hosts one other : List ℕ) (placed : PlacedSource) (tree : Program)
     (file : List ℕ) (said : ScriptShape) (file_too : List ℕ) (said_too : ScriptShape) (verdict : VerdictShape) →
     IsPlacedAs program hosts placed tree → IsRead one placed said → IsRead other placed said_too →
-    DueForSaid placed file said file_too said_too verdict → Says (IsCompareText program hosts one other) verdict
+    DueForReadScripts placed file said file_too said_too verdict → Says (IsCompareText program hosts one other) verdict
 said_says sets laws program hosts one other placed tree file said file_too said_too verdict is_placed was was_too =
     let Text = IsCompareText program hosts one other in
     let code = code_of placed in
@@ -423,7 +423,7 @@ compare_says sets laws file file_too program hosts one other placed verdict acce
     let First = ScriptRead file one code in
     let Second = ScriptRead file_too other code in
     let Said : ScriptShape → ScriptShape → VerdictShape → Type 0 =
-    λ said said_too. DueForSaid placed file said file_too said_too in
+    λ said said_too. DueForReadScripts placed file said file_too said_too in
     then_says Text First (λ said. DueThen Second (Said said)) verdict
     (λ stops. script_says Text file one placed (stopped verdict) stops) (λ said was.
     then_says Text Second (Said said) verdict

@@ -1,5 +1,5 @@
 -- From each world that fits a sound code and whose hosts obey, something comes next or nothing, so a drive has an end.
-use Rattle.std.proofs.Common.{◌≡◌, ◌≢◌, ◌⊎◌, ℕ, zero, suc, ◌<◌, List, [], ◌∷◌, length, Option, Some, None}
+use Rattle.std.proofs.Common.{◌≢◌, ◌⊎◌, ℕ, zero, suc, ◌<◌, List, [], ◌∷◌, length, Option, Some, None}
 use Rattle.std.proofs.Common.{inl, inr, ⊎_elim, refl, ap, sym, ◌∙◌, arith}
 use Rattle.std.specs.Prelude.{IsSome, IsSomeAnd, All, slice_get}
 use Rattle.std.proofs.lemmas.List.Elements.{All-head}
@@ -12,12 +12,13 @@ use Rattle.event_text.specs.declared.event.Event.TheVariants.{Take, Turn}
 use Rattle.host_code.specs.Code.{CodeShape}
 use Rattle.host_code.specs.Sound.{IsSoundCode}
 use Rattle.host_code.specs.Thread.{ThreadShape}
-use Rattle.host_core.specs.Host.{HostShape}
+use Rattle.host_core.specs.Host.{HostState}
 use Rattle.net_world.specs.Choice.{Runs, NoneRuns, IsFirstRunning, Flies, NothingFliesFrom, NothingFlies, IsFirstFrom}
 use Rattle.net_world.specs.Choice.{IsFirstFlying, IsNextEvent}
 use Rattle.net_world.specs.Fits.{FlightFits, HasOwnToken, ShapeFits}
 use Rattle.net_world.specs.Flying.{Flight}
-use Rattle.net_world.specs.World.{WorldShape, AllObey, IsStep, Refusal, refusal_of, state_at, given}
+use Rattle.net_world.specs.World.{WorldShape, AllObey, IsStep, state_at, given}
+use Rattle.script_stages.proofs.SomeScript.{SomeStep}
 use Rattle.split_cli.specs.Driven.{DrivesTo, rested, spent}
 use Rattle.split_cli.proofs.FirstHosts.{first_or_none}
 use Rattle.net_world.proofs.NextGoes.{shape_goes, next_own}
@@ -29,11 +30,11 @@ runs_decided : (running : Option ThreadShape) → Decided (IsSome running)
 runs_decided None = inr (λ is. let no : ⊥ = cc in no)
 runs_decided (Some thread) = inl refl
 
-host_decided : (host : Option HostShape) → Decided (IsSomeAnd host (λ state. IsSome state.running))
+host_decided : (host : Option HostState) → Decided (IsSomeAnd host (λ state. IsSome state.running))
 host_decided None = inr (λ is. is)
 host_decided (Some state) = runs_decided state.running
 
-there_within : (hosts : List (Option HostShape)) (place : ℕ) →
+there_within : (hosts : List (Option HostState)) (place : ℕ) →
     IsSomeAnd (given (slice_get hosts place)) (λ state. IsSome state.running) → place < length hosts
 there_within [] place runs = absurd runs
 there_within (host ∷ hosts) zero runs = omega arith
@@ -116,12 +117,6 @@ next_or_rest code world fits =
     (running_or_none world)
 
 -- ---- drives
-
--- an event happens or is refused
-abbrev pub SomeStep : Type 0
-SomeStep = (code : CodeShape) (world : WorldShape) (event : Event) →
-    ((after : WorldShape) × IsStep code world event after)
-    ⊎ ((why : Refusal) × (refusal_of world event ≡ Some why))
 
 -- what is known of steps
 pub record StepCauses : Type 0 where

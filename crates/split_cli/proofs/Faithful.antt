@@ -37,7 +37,7 @@ use Rattle.split_rules.specs.Placed.{PlacedProgram}
 use Rattle.split_rules.specs.SplitCode.{split_code, placed_code_fields}
 use Rattle.split_rules.specs.Splittable.{IsSplittable}
 use Rattle.simulation.specs.Ending.{EVENTS}
-use Rattle.simulation.specs.Obeying.{IsSet, Follows}
+use Rattle.simulation.specs.Obeying.{IsSet, FollowsPlainRun}
 use Rattle.token_laws.specs.Numbers.{CodeHasNumbers, RowsHaveNumbers, EventHasNumbers}
 use Rattle.token_laws.specs.Reached.{IsReached}
 use Rattle.split_words.specs.Commands.{CommandShape, Replay, Drive, IsCommand, words_of, files_of}
@@ -46,7 +46,7 @@ use Rattle.front_end.specs.Refusals as refusals
 use Rattle.front_end.specs.Refusals.{RefusalShape, refusal_status}
 use Rattle.front_end.specs.Verdicts.{VerdictShape, Refuse, Print}
 use Rattle.front_end.specs.Loads.{FilesChange, Told}
-use Rattle.front_end.specs.Stages.{Outcome, given, stopped}
+use Rattle.front_end.specs.Stages.{StageEnd, given, stopped}
 use Rattle.front_end.specs.PlacedSources.{PlacedSource, PlacedSources}
 use Rattle.script_stages.specs.FirstWorld.{first_world}
 use Rattle.split_cli.specs.Drive.{drive_text, IsDriveReport, DueForDrive}
@@ -83,7 +83,7 @@ ObeyingLaw = (tree : Program) (placed : PlacedProgram) (store : List (List ℤ))
     (world : WorldShape) →
     IsSet tree placed →
     IsRun (split_code placed) (world_at_start (split_code placed) placed.hosts.hosts 0 store)
-    events world → Follows tree (split_code placed) placed.hosts.hosts store events world
+    events world → FollowsPlainRun tree (split_code placed) placed.hosts.hosts store events world
 
 -- where nothing goes on they have halted
 abbrev pub IdleLaw : Type 0
@@ -116,7 +116,8 @@ AlteredLaw = (tree : Program) (placed : PlacedProgram) (bad : ℕ) (store : List
     (world : WorldShape) →
     IsSet tree placed → CodeHasNumbers (split_code placed) → RowsHaveNumbers store →
     IsReached (split_code placed) placed.hosts.hosts bad store events world → All EventHasNumbers events →
-    altering.FollowsAltered tree (exposure_of placed bad) (split_code placed) placed.hosts.hosts bad store events world
+    altering.WorldFollowsAltered tree (exposure_of placed bad) (split_code placed) placed.hosts.hosts bad store events
+    world
 
 -- what emitted code and scripts are
 pub record ScriptLaws : Type 0 where
@@ -201,7 +202,8 @@ reached_there laws program hosts script placed tree said last is_placed read ran
     }
 
 -- a script that was read, and whose events happened
-unfoldable pub played : AllLaws → (program hosts script : List ℕ) (placed : PlacedSource) (tree : Program) (said : ScriptShape)
+unfoldable pub played : AllLaws →
+    (program hosts script : List ℕ) (placed : PlacedSource) (tree : Program) (said : ScriptShape)
     (last : WorldShape) → IsPlacedAs program hosts placed tree → length script ≤ SCRIPT_BYTES →
     script_of (code_of placed) script ≡ Ok said →
     IsRun (code_of placed) (first_world placed said.bad said.start) (events_in said.events) last →
@@ -389,24 +391,24 @@ pub record IsRead (script : List ℕ) (placed : PlacedSource) (said : ScriptShap
   pub read : script_of (code_of placed) script ≡ Ok said
 
 -- a script says something, or what is due for it is no success
-abbrev pub ScriptSays : (Status → List ℕ → Type 0) → List ℕ → PlacedSource → Outcome ScriptShape → Type 0
+abbrev pub ScriptSays : (Status → List ℕ → Type 0) → List ℕ → PlacedSource → StageEnd ScriptShape → Type 0
 ScriptSays Text script placed (given said) = IsRead script placed said
 ScriptSays Text script placed (stopped verdict) = Says Text verdict
 
 pub script_says : (Text : Status → List ℕ → Type 0) (file script : List ℕ) (placed : PlacedSource)
-    (end : Outcome ScriptShape) → ScriptRead file script (code_of placed) end → ScriptSays Text script placed end
+    (end : StageEnd ScriptShape) → ScriptRead file script (code_of placed) end → ScriptSays Text script placed end
 unfolding Says
 script_says Text file script placed _ (scripts.long more) = tt
 script_says Text file script placed _ (scripts.bad_line line short is) = tt
 script_says Text file script placed _ (scripts.read said short is) = record { short = short; read = is }
 
 -- its events leave a world, or what is due is no success
-abbrev EventsSay : (Status → List ℕ → Type 0) → CodeShape → WorldShape → List (ℕ × Event) → Outcome WorldShape → Type 0
+abbrev EventsSay : (Status → List ℕ → Type 0) → CodeShape → WorldShape → List (ℕ × Event) → StageEnd WorldShape → Type 0
 EventsSay Text code world said (given last) = IsRun code world (events_in said) last
 EventsSay Text code world said (stopped verdict) = Says Text verdict
 
 events_say : (Text : Status → List ℕ → Type 0) (file : List ℕ) (code : CodeShape) (world : WorldShape)
-    (said : List (ℕ × Event)) (end : Outcome WorldShape) → EventsHappen file code world said end →
+    (said : List (ℕ × Event)) (end : StageEnd WorldShape) → EventsHappen file code world said end →
     EventsSay Text code world said end
 unfolding Says
 events_say Text file code world said _ (scripts.happened last ran) = ran
@@ -462,12 +464,12 @@ record AreRead (start : List ℕ) (fields : List FieldForm) (values : List (List
   read : start_of fields start ≡ Ok values
 
 -- a file of starting values gives some, or what is due for it is no success
-abbrev StartSays : (Status → List ℕ → Type 0) → List ℕ → List FieldForm → Outcome (List (List ℤ)) → Type 0
+abbrev StartSays : (Status → List ℕ → Type 0) → List ℕ → List FieldForm → StageEnd (List (List ℤ)) → Type 0
 StartSays Text start fields (given values) = AreRead start fields values
 StartSays Text start fields (stopped verdict) = Says Text verdict
 
 start_says : (Text : Status → List ℕ → Type 0) (file start : List ℕ) (fields : List FieldForm)
-    (end : Outcome (List (List ℤ))) → StartingValues file start fields end → StartSays Text start fields end
+    (end : StageEnd (List (List ℤ))) → StartingValues file start fields end → StartSays Text start fields end
 unfolding Says
 start_says Text file start fields _ (starting.long more) = tt
 start_says Text file start fields _ (starting.bad_line line short is) = tt
@@ -711,7 +713,7 @@ drive_is_faithful laws program hosts start most held number status text few due 
 
 -- an answer that went well puts the text
 puts_text : (text : List ℕ) (status answer : Status) (sink : SinkChange) → IsSuccess answer →
-    answers.Puts text status answer sink → (answer ≡ status) × Takes text sink.taken_before sink.taken_after
+    answers.PutsWhole text status answer sink → (answer ≡ status) × Takes text sink.taken_before sink.taken_after
 puts_text text status answer sink success puts =
     ⊎_elim (λ put. (put.0, put.1))
     (λ fault. absurd (output_fails (subst IsSuccess fault.0 success)))

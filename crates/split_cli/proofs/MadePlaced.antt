@@ -18,7 +18,7 @@ use Rattle.need_labels.specs.Plan.{PlanShape}
 use Rattle.place_rules.specs.Allowed.{AllowedShape}
 use Rattle.place_rules.specs.PlaceRules.{AreAllowed}
 use Rattle.placement.specs.Placing.{IsPlaced}
-use Rattle.made_laws.specs.Made.{IsAccepted, labelled_with}
+use Rattle.made_laws.specs.Made.{IsMadeAccepted, labelled_with}
 use Rattle.made_laws.specs.MadePrograms.{made_hosts, made_program}
 use Rattle.front_end.specs.Answers.{SinkChange, IsAnswered}
 use Rattle.front_end.specs.Loads.{FilesChange, Told}
@@ -41,7 +41,7 @@ use Rattle.split_cli.proofs.RestingDrives.{HaltsLaw}
 
 -- what is known of made programs, and of hosts and plans
 pub record MakingLaws : Type 0 where
-  pub accepted : (statements : ℕ) → statements < STATEMENTS → IsAccepted statements
+  pub accepted : (statements : ℕ) → statements < STATEMENTS → IsMadeAccepted statements
   pub hosts : (bytes : List ℕ) (file : HostsShape) → ReadsHosts bytes file → AreHosts file
   pub some_plan : (labelled : Labelled) (needs : NeedsShape) (hosts : HostsShape) (allowed : AllowedShape) →
       0 < length hosts.hosts → AreAllowed labelled needs hosts allowed →
@@ -123,16 +123,16 @@ made_due laws all halts statements count =
     )
 
 -- it is due for the words, whatever the files hold and whether they tell or not
-due_for_words : (statements : ℕ) → IsMadeCount statements → (held : Option (List ℕ → Option (List ℕ)))
+verdict_for_words : (statements : ℕ) → IsMadeCount statements → (held : Option (List ℕ → Option (List ℕ)))
     (verdict : VerdictShape) → DueForMake statements verdict → Due (words_of (Make statements)) held 0 verdict
-due_for_words statements count held verdict due =
+verdict_for_words statements count held verdict due =
     for_command (Make statements) 0 verdict count refl (loaded verdict (record { bytes = []; told = tt; due = due }))
 
 pub made_done : MakingLaws → AllLaws → HaltsLaw → (statements : ℕ) (held : Option (List ℕ → Option (List ℕ))) →
     IsMadeCount statements → (text : List ℕ) × Due (words_of (Make statements)) held 0 (Print Done text)
 made_done laws all halts statements held count =
     let due = made_due laws all halts statements count in
-    (due.0, due_for_words statements count held (Print Done due.0) due.1)
+    (due.0, verdict_for_words statements count held (Print Done due.0) due.1)
 
 -- ---- nothing else is due
 
@@ -165,7 +165,7 @@ only_done : OneVerdict → (statements : ℕ) → IsMadeCount statements → (fi
     IsDue (words_of (Make statements)) files verdict → verdict ≡ Print Done text
 only_done one statements count files text verdict due (inl by_files) =
     (one (words_of (Make statements)) (λ name. None) 0 0 verdict (Print Done text)
-    (due_for_words statements count (Some (λ name. None)) verdict
+    (verdict_for_words statements count (Some (λ name. None)) verdict
     (due_of_words statements count files.held by_files.0 verdict by_files.1)) due).1
 only_done one statements count files text verdict due (inr fault) =
     absurd (never_fails statements files verdict

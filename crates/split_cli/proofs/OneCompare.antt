@@ -6,15 +6,18 @@ use Rattle.event_text.specs.declared.event.Event.{Event}
 use Rattle.event_text.specs.Script.{ScriptShape}
 use Rattle.host_code.specs.Code.{CodeShape, CodeFieldShape}
 use Rattle.net_world.specs.Told.{SentMessage}
-use Rattle.net_world.specs.World.{WorldShape, Refusal}
-use Rattle.net_world.specs.Released.{AreAlike}
+use Rattle.net_world.specs.World.{WorldShape, EventRefusal}
+use Rattle.net_world.specs.Released.{OneIsFront}
 use Rattle.run_comparison.specs.Compare.{DifferAt, IsFirstUnlike, Premise, holds}
-use Rattle.run_comparison.specs.Compare.{fails, SameMisbehave, SameStarts, GoApart, SameEvents, IsPromptRun, Compared, agree}
-use Rattle.run_comparison.specs.Compare.{differ, differ_text, ScriptFollowed, DueForRuns, DueForSaid, DueForCompare}
+use Rattle.run_comparison.specs.Compare.{fails, SameMisbehave, SameStarts, GoApart, SameEvents, IsPromptRun, Compared}
+use Rattle.run_comparison.specs.Compare.{agree}
+use Rattle.run_comparison.specs.Compare.{differ, differ_text, ScriptFollowed, DueForRuns, DueForReadScripts}
+use Rattle.run_comparison.specs.Compare.{DueForCompare}
 use Rattle.script_stages.specs.FirstWorld.{first_world}
 use Rattle.front_end.specs.PlacedCode.{code_of, program_of}
 use Rattle.split_rules.specs.Releases.{ReleasesShape, releases_of}
-use Rattle.run_comparison.specs.Followed.{Followed, IsKept, hidden, prompt, untimely, IsFollowed, EventsFollowed, followed}
+use Rattle.run_comparison.specs.Followed.{Followed, IsTraceKept, hidden, prompt, untimely, IsFollowed, EventsFollowed}
+use Rattle.run_comparison.specs.Followed.{followed}
 use Rattle.run_comparison.specs.Followed.{FollowedRun, refused}
 use Rattle.run_comparison.specs.ReleaseLines.{release_lines}
 use Rattle.front_end.specs.PlacedSources.{PlacedSource}
@@ -26,7 +29,7 @@ use Rattle.front_end.specs.Verdicts.{VerdictShape, Print, starts_differ, events_
 use Rattle.js_base.specs.declared.status.Status.TheVariants.{Differ}
 use Rattle.net_world.proofs.ReleasedValues.{released_once}
 use Rattle.run_comparison.proofs.FollowedEvents.{followed_ran}
-use Rattle.split_cli.proofs.OneReplay.{StepLaws, refused_once, ran_or_refused, script_once}
+use Rattle.script_stages.proofs.OneScript.{StepLaws, refused_once, ran_or_refused, script_once}
 use Rattle.front_end.proofs.Places.{same_place, same_here}
 use Rattle.front_end.proofs.Stages.{IsOne, give, stop_with, one_due}
 
@@ -50,7 +53,7 @@ one_value : {X : Type 0} (found : Option X) (x y : X) → found ≡ Some x → f
 one_value found x y one two = let both : Some x ≡ Some y = sym one ∙ two in cc
 
 -- lists that differ at a place are not alike
-pub differ_not_alike : {X : Type 0} (one other : List X) (place : ℕ) → DifferAt one other place → ¬ AreAlike one other
+pub differ_not_alike : {X : Type 0} (one other : List X) (place : ℕ) → DifferAt one other place → ¬ OneIsFront one other
 differ_not_alike {X} one other place apart alike =
     ⊎_elim
     (λ front. apart.differ (one_value (slice_get other place) apart.first apart.second
@@ -79,7 +82,7 @@ one_difference one other place also apart too =
 -- ---- runs
 
 kept_once : (code : CodeShape) (world : WorldShape) (event : ℕ × Event) (rest one two : Followed) →
-    IsKept code world event rest one → IsKept code world event rest two → one ≡ two
+    IsTraceKept code world event rest one → IsTraceKept code world event rest two → one ≡ two
 kept_once code world event rest _ _ (hidden is) (hidden also) = refl
 kept_once code world event rest _ _ (hidden is) (prompt not quiet) = absurd (not is)
 kept_once code world event rest _ _ (hidden is) (untimely not loud) = absurd (not is)
@@ -98,7 +101,7 @@ followed_once laws code world (event ∷ said) one two (next, rest, step, follow
     let rests : more ≡ rest = followed_once laws code next said more rest
     (subst (λ (w : WorldShape). IsFollowed code w said more) same also) follows in
     kept_once code world event rest one two kept
-    (subst (λ (r : Followed). IsKept code world event r two) rests too)
+    (subst (λ (r : Followed). IsTraceKept code world event r two) rests too)
 
 runs_once : StepLaws → (file : List ℕ) (code : CodeShape) (table : ReleasesShape) (world : WorldShape)
     (said : List (ℕ × Event)) → IsOne (EventsFollowed file code table world said)
@@ -116,7 +119,7 @@ runs_once laws file code table world said _ _ (refused at why stops) (followed i
 runs_once laws file code table world said _ _ (refused at why stops) (refused other also too) =
     let one = refused_once laws code world said at other why also stops too in
     ap (λ (it : ℕ × Event). stop_with {X = FollowedRun} (event_refused file it why)) one.places
-    ∙ ap (λ (cause : Refusal). stop_with {X = FollowedRun} (event_refused file other cause)) one.causes
+    ∙ ap (λ (cause : EventRefusal). stop_with {X = FollowedRun} (event_refused file other cause)) one.causes
 
 -- ---- premises
 
@@ -205,8 +208,8 @@ runs_due_once placed file said run other said_too run_too first second =
     compared_once placed run.run.last.sent run_too.run.last.sent run.released run_too.released first second)))))
 
 said_due_once : StepLaws → (placed : PlacedSource) (file : List ℕ) (said : ScriptShape) (other : List ℕ)
-    (said_too : ScriptShape) (first second : VerdictShape) → DueForSaid placed file said other said_too first →
-    DueForSaid placed file said other said_too second → first ≡ second
+    (said_too : ScriptShape) (first second : VerdictShape) → DueForReadScripts placed file said other said_too first →
+    DueForReadScripts placed file said other said_too second → first ≡ second
 said_due_once laws placed file said other said_too first second =
     let code = code_of placed in
     let table = releases_of (program_of placed) in
@@ -228,7 +231,7 @@ pub compare_once : StepLaws → (file script other script_too : List ℕ) (place
 compare_once laws file script other script_too placed first second one two =
     let code = code_of placed in
     let Said : ScriptShape → ScriptShape → VerdictShape → Type 0 =
-    λ said said_too. DueForSaid placed file said other said_too in
+    λ said said_too. DueForReadScripts placed file said other said_too in
     let Second : ScriptShape → VerdictShape → Type 0 = λ said. DueThen (ScriptRead other script_too code) (Said said) in
     one_due (ScriptRead file script code) Second first second (script_once file script code)
     (λ said _. one_due (ScriptRead other script_too code) (Said said) first second (script_once other script_too code)

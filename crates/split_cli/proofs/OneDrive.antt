@@ -11,6 +11,7 @@ use Rattle.host_code.specs.Code.{CodeShape}
 use Rattle.net_world.specs.Choice.{IsNextEvent, IsFirstRunning, IsFirstFrom, IsFirstFlying}
 use Rattle.net_world.specs.World.{WorldShape, IsStep, IsRun}
 use Rattle.script_stages.specs.FirstWorld.{first_world}
+use Rattle.script_stages.proofs.OneScript.{OneStep}
 use Rattle.split_cli.specs.Drive.{TellsDrive, DueForDriven}
 use Rattle.front_end.specs.PlacedCode.{code_of}
 use Rattle.simulation.specs.Driven.{IsDriven}
@@ -21,11 +22,6 @@ use Rattle.front_end.specs.Starting.{StartingValues}
 use Rattle.front_end.specs.Verdicts.{VerdictShape, Print}
 use Rattle.front_end.proofs.OneStart.{start_moved, start_once}
 use Rattle.front_end.proofs.Stages.{one_due, due_moved}
-
--- what is known of steps
-abbrev pub OneStep : Type 0
-OneStep = (code : CodeShape) (world first second : WorldShape) (event : Event) →
-    IsStep code world event first → IsStep code world event second → first ≡ second
 
 -- ---- one event comes next
 

@@ -25,7 +25,8 @@ use Rattle.split_cli.specs.Due.{DueForBytes, DueForFiles, DueForCommand, absent,
 use Rattle.split_cli.specs.Due.{IsFault, IsDue}
 use Rattle.split_cli.proofs.OneCompare.{compare_once}
 use Rattle.split_cli.proofs.OneDrive.{drive_once}
-use Rattle.split_cli.proofs.OneReplay.{StepLaws, replay_once}
+use Rattle.script_stages.proofs.OneScript.{StepLaws}
+use Rattle.split_cli.proofs.OneReplay.{replay_once}
 use Rattle.split_cli.proofs.OneRun.{RunLaws, run_once}
 use Rattle.split_cli.proofs.SplitStages.{split_once}
 use Rattle.front_end.proofs.Answering.{no_fault_and_fault}

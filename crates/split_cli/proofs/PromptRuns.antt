@@ -6,9 +6,9 @@ use Rattle.event_text.specs.declared.event.Event.{Event}
 use Rattle.host_code.specs.Code.{CodeShape}
 use Rattle.net_world.specs.Secret.{IsSecret, IsQuiet, IsSeenRun, IsPrompt}
 use Rattle.net_world.specs.World.{WorldShape, IsRun}
-use Rattle.run_comparison.specs.Followed.{Followed, IsKept, hidden, prompt, untimely, IsFollowed}
+use Rattle.run_comparison.specs.Followed.{Followed, IsTraceKept, hidden, prompt, untimely, IsFollowed}
 use Rattle.net_world.specs.Replay.{events_in}
-use Rattle.split_cli.proofs.OneDrive.{OneStep}
+use Rattle.script_stages.proofs.OneScript.{OneStep}
 
 -- ---- what is seen
 
@@ -20,7 +20,7 @@ IsSeenFrom code world next event events seen after =
     × ((others : List Event) × (seen ≡ event ∷ others) × IsSeenRun code next events others after))
 
 seen_from : (code : CodeShape) (world next : WorldShape) (one : ℕ × Event) (said : List (ℕ × Event))
-    (rest run : Followed) → IsKept code world one rest run →
+    (rest run : Followed) → IsTraceKept code world one rest run →
     IsSeenRun code next (events_in said) (events_in rest.seen) rest.last →
     IsSeenFrom code world next one.1 (events_in said) (events_in run.seen) run.last
 seen_from code world next one said rest _ (hidden is) ran = inl (is, ran)
@@ -35,7 +35,7 @@ followed_seen code world (one ∷ said) run (next, rest, step, follows, kept) =
     (next, step, seen_from code world next one said rest run kept (followed_seen code next said rest follows))
 
 kept_last : (code : CodeShape) (world : WorldShape) (one : ℕ × Event) (rest run : Followed) →
-    IsKept code world one rest run → rest.last ≡ run.last
+    IsTraceKept code world one rest run → rest.last ≡ run.last
 kept_last code world one rest _ (hidden is) = refl
 kept_last code world one rest _ (prompt not quiet) = refl
 kept_last code world one rest _ (untimely not loud) = refl
@@ -69,7 +69,7 @@ record IsTimely (code : CodeShape) (world : WorldShape) (event : Event) (rest : 
   behind : rest.late ≡ None
 
 timely : (code : CodeShape) (world : WorldShape) (one : ℕ × Event) (rest run : Followed) →
-    IsKept code world one rest run → run.late ≡ None → IsTimely code world one.1 rest
+    IsTraceKept code world one rest run → run.late ≡ None → IsTimely code world one.1 rest
 timely code world one rest _ (hidden is) none = record { here = inl is; behind = none }
 timely code world one rest _ (prompt not quiet) none = record { here = inr quiet; behind = none }
 timely code world one rest _ (untimely not loud) none =

@@ -38,13 +38,13 @@ use Rattle.placement.specs.Placing.{IsPlaced, IsAllowedPlan, HasHosts}
 use Rattle.split_rules.specs.Placed.{PlacedProgram}
 use Rattle.split_rules.specs.Allowed.{IsTrustedHost, IsAllowed}
 use Rattle.split_rules.specs.Asking.{AreGranted}
-use Rattle.split_rules.specs.Held.{IsHeld}
+use Rattle.split_rules.specs.Held.{IsWellHeld}
 use Rattle.split_rules.specs.SplitCode.{split_code}
 use Rattle.split_rules.specs.Splittable.{IsSplittable}
 use Rattle.split_shades.specs.Flows.{AreResultsLabelled}
-use Rattle.source_law.specs.Checked.{IsChecked}
+use Rattle.source_law.specs.Checked.{PassesLabelCheck}
 use Rattle.simulation.specs.Obeying.{IsSet}
-use Rattle.simulation.specs.Programs.{AreInOrder}
+use Rattle.simulation.specs.Programs.{AreParamsInOrder}
 use Rattle.front_end.specs.PlacedCode.{program_of}
 use Rattle.front_end.specs.PlacedSources.{PlacedSource, AreChosen, PlacedSources, labelled_source}
 use Rattle.front_end.specs.ReadPrograms.{AreShort}
@@ -82,7 +82,7 @@ pub record ReadingLaws : Type 0 where
   pub unread : (principals : Declared) (draft : DraftShape) (tree : ProgramTree) →
       IsProgramOf principals draft tree → AreUnread tree
   pub in_order : (principals : Declared) (draft : DraftShape) (tree : ProgramTree) →
-      IsProgramOf principals draft tree → AreInOrder tree
+      IsProgramOf principals draft tree → AreParamsInOrder tree
   pub tokens : (text : List ℕ) (list : List Token) → length text ≤ PROGRAM_BYTES → ReadsAs text (tokens list) →
       AreTokens list
   pub numbers : (list : List Token) (principals : Declared) (draft : DraftShape) (program : ProgramTree) →
@@ -101,7 +101,7 @@ pub record PlanLaws : Type 0 where
       (plan : PlanShape) → IsPlaced labelled need hosts allowed plan → HasHosts hosts plan
 
 abbrev pub GrantedLaw : Type 0
-GrantedLaw = (placed : PlacedProgram) → IsSplittable placed → IsAllowed placed → IsHeld placed →
+GrantedLaw = (placed : PlacedProgram) → IsSplittable placed → IsAllowed placed → IsWellHeld placed →
     AreGranted (split_code placed)
 
 -- ---- the plan
@@ -195,7 +195,7 @@ module _ (sources : ReadingLaws) (plans : PlanLaws) (granted : GrantedLaw) (prog
     trusted = trusted;
   }
 
-  seen : IsHeld (program_of placed)
+  seen : IsWellHeld (program_of placed)
   seen = record {
     pc = refl;
     values = sources.values placed.source.file.principals read.draft placed.source.tree read.resolved;
@@ -208,7 +208,7 @@ module _ (sources : ReadingLaws) (plans : PlanLaws) (granted : GrantedLaw) (prog
   results_there = sources.results placed.source.file.principals read.draft placed.source.tree read.resolved
 
   -- the program is accepted, with its labels and its needs
-  pub checked_there : IsChecked placed.source.file.principals (labelled_source placed.source) placed.needs
+  pub checked_there : PassesLabelCheck placed.source.file.principals (labelled_source placed.source) placed.needs
   checked_there = record {
     numbered = numbered;
     statements = statements;

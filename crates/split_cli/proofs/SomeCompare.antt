@@ -18,14 +18,14 @@ use Rattle.net_world.specs.Fits.{ShapeFits, HasOwnToken}
 use Rattle.net_world.specs.Secret.{IsReadable, IsSecret, IsQuiet}
 use Rattle.net_world.specs.Told.{SentMessage}
 use Rattle.net_world.specs.World.{WorldShape, IsStep, state_at}
-use Rattle.net_world.specs.Released.{AreAlike}
+use Rattle.net_world.specs.Released.{OneIsFront}
 use Rattle.split_rules.specs.Releases.{ReleasesShape, releases_of}
 use Rattle.run_comparison.specs.Compare.{DifferAt, StartsUnlike, Premise, holds, fails, ScriptFollowed}
 use Rattle.run_comparison.specs.Compare.{SameMisbehave, SameStarts, SameEvents, IsPromptRun, Compared, agree, differ}
 use Rattle.run_comparison.specs.Compare.{agree_text, differ_text, DueForRuns, DueForScripts, DueForCompare}
 use Rattle.script_stages.specs.FirstWorld.{first_world}
 use Rattle.front_end.specs.PlacedCode.{code_of, program_of}
-use Rattle.run_comparison.specs.Followed.{Followed, FollowedRun, IsKept, hidden, prompt, untimely, EventsFollowed}
+use Rattle.run_comparison.specs.Followed.{Followed, FollowedRun, IsTraceKept, hidden, prompt, untimely, EventsFollowed}
 use Rattle.run_comparison.specs.Followed.{followed, refused}
 use Rattle.run_comparison.specs.ReleaseLines.{release_lines}
 use Rattle.front_end.specs.PlacedSources.{PlacedSource, PlacedSources}
@@ -42,7 +42,7 @@ use Rattle.front_end.proofs.NativeParts.{IsSeen}
 use Rattle.script_stages.proofs.ScriptReads.{OwnAtStart, own_in_first}
 use Rattle.run_comparison.proofs.SameMessages.{same_event, same_option, same_sent}
 use Rattle.split_cli.proofs.SomeDrive.{CodeLaws, sound_code}
-use Rattle.split_cli.proofs.SomeReplay.{SomeScript, script_some}
+use Rattle.script_stages.proofs.SomeScript.{SomeScript, script_some}
 use Rattle.front_end.proofs.SomeStages.{HasOutcome, HasVerdict, some_due}
 
 -- what is known of events, of what misbehaving hosts may see, and of what they present
@@ -61,7 +61,7 @@ pub record CompareCauses : Type 0 where
 
 some_kept : (code : CodeShape) (world : WorldShape) (one : ℕ × Event) (rest : Followed) →
     Decided (IsSecret code world one.1) → Decided (IsQuiet code world) →
-    (run : Followed) × IsKept code world one rest run
+    (run : Followed) × IsTraceKept code world one rest run
 some_kept code world one rest (inl is) quiet = (rest, hidden is)
 some_kept code world one rest (inr not) (inl is) =
     (record { seen = one ∷ rest.seen; late = rest.late; last = rest.last }, prompt not is)
@@ -104,7 +104,7 @@ follow_some laws file code table sound (one ∷ said) world fits own =
 -- ---- lists
 
 alike_or_differ : {X : Type 0} → ((x y : X) → Decided (x ≡ y)) → (one other : List X) →
-    AreAlike one other ⊎ ((place : ℕ) × DifferAt one other place)
+    OneIsFront one other ⊎ ((place : ℕ) × DifferAt one other place)
 alike_or_differ each [] other = inl (inl (other, refl))
 alike_or_differ each (x ∷ one) [] = inl (inr (x ∷ one, refl))
 alike_or_differ each (x ∷ one) (y ∷ other) = elim (each x y) [

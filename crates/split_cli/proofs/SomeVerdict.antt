@@ -28,7 +28,8 @@ use Rattle.split_cli.proofs.SomeCompare.{CompareCauses, compare_some}
 use Rattle.split_cli.proofs.SomeDrive.{CodeLaws, drive_some}
 use Rattle.front_end.proofs.ReadSources.{source_given}
 use Rattle.split_cli.proofs.DriveEnds.{StepCauses}
-use Rattle.split_cli.proofs.SomeReplay.{SomeScript, replay_some}
+use Rattle.script_stages.proofs.SomeScript.{SomeScript}
+use Rattle.split_cli.proofs.SomeReplay.{replay_some}
 use Rattle.split_cli.proofs.SomeRun.{SomeEnd, run_some}
 use Rattle.front_end.proofs.SomeStart.{SomeStart}
 use Rattle.front_end.proofs.SomeStages.{HasOutcome, HasVerdict, some_due}

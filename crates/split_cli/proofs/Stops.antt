@@ -36,9 +36,9 @@ loading_due command files verdict kept stops =
     stops
 
 -- what is due for a command is due for its words
-pub due_for_words : (words : List (List ℕ)) (command : CommandShape) (files : FilesChange) (verdict : VerdictShape) →
+pub verdict_for_words : (words : List (List ℕ)) (command : CommandShape) (files : FilesChange) (verdict : VerdictShape) →
     IsCommand command → words ≡ words_of command → IsDueForCommand command files verdict → IsDue words files verdict
-due_for_words words command files verdict is asked due =
+verdict_for_words words command files verdict is asked due =
     ⊎_elim
     (λ whole. inl (
       whole.0,

@@ -12,7 +12,7 @@ use Rattle.host_code.specs.Code.{CodeShape}
 use Rattle.event_text.specs.declared.event.Event.{Event}
 use Rattle.net_world.specs.Together.{Together}
 use Rattle.net_world.specs.World.{WorldShape}
-use Rattle.source_law.specs.Checked.{IsChecked, exposed_to}
+use Rattle.source_law.specs.Checked.{PassesLabelCheck, exposed_to}
 use Rattle.source_law.specs.Follows.{EndsAfter, KeepsUp}
 use Rattle.source_law.specs.Related.{AreRelated}
 use Rattle.source_law.specs.Steady.{IsSteadyProgram}
@@ -25,7 +25,7 @@ use Rattle.split_cli.specs.Headline.{MakesSteps}
 -- the laws of altered runs of programs that endorse nothing
 pub record UnalteredLaws : Type 0 where
   pub steady : (principals : Declared) (program : Program) (labelled : Labelled) (needs : NeedsShape)
-      (bad : List Label) → program_tree program ≡ labelled.program → IsChecked principals labelled needs →
+      (bad : List Label) → program_tree program ≡ labelled.program → PassesLabelCheck principals labelled needs →
       EndorsesNothing labelled.program → IsSteadyProgram program (exposed_to labelled needs bad)
   pub starts : (program : Program) (exposure : Exposure) (store : List (List ℤ)) → IsSteadyProgram program exposure →
       AreRelated program exposure (configuration_at_start program store) (configuration_at_start program store)
@@ -66,7 +66,7 @@ module _ (laws : UnalteredLaws) (tree : Program) (power : Exposure) (code : Code
 -- along the events of a world in which some hosts misbehave
 pub unaltered : UnalteredLaws → (tree : Program) (placed : PlacedProgram) (bad : ℕ) (start : List (List ℤ))
     (events : List Event) (world last : WorldShape) (code : CodeShape) → program_tree tree ≡ placed.labelled.program →
-    IsChecked placed.hosts.principals placed.labelled placed.needs → EndorsesNothing placed.labelled.program →
+    PassesLabelCheck placed.hosts.principals placed.labelled placed.needs → EndorsesNothing placed.labelled.program →
     (steps : ℕ) → HasLength tree start steps →
     Together (StandsFor code (exposure_of placed bad)) (GoesOnAltered tree (exposure_of placed bad)) code world
     (configuration_at_start tree start) events last →

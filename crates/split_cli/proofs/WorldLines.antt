@@ -13,7 +13,7 @@ use Rattle.js_base.specs.declared.ids.HostId.{HostId}
 use Rattle.host_code.specs.declared.message.Message.{Message}
 use Rattle.host_code.specs.Messages.{MessageFits}
 use Rattle.host_code.specs.Code.{CodeShape, CodeFieldShape}
-use Rattle.host_core.specs.Host.{HostModel, HostShape, state_of}
+use Rattle.host_core.specs.Host.{HostModel, HostState, state_of}
 use Rattle.net_world.specs.Fits.{FlightFits, WorldModel, host_at, world_of}
 use Rattle.net_world.specs.Flying.{Flight}
 use Rattle.net_world.specs.Told.{SentMessage}
@@ -131,14 +131,14 @@ pub host_shown : (world : WorldModel) (number : HostId) (name other : List ℕ) 
 host_shown world number name other host there same =
     ap (λ (one : List ℕ). line_text (state_line one (state_of host))) same
     ∙ sym (append-nil (line_text (state_line other (state_of host))))
-    ∙ ap (λ (state : Option HostShape). lines_text (host_line other state))
+    ∙ ap (λ (state : Option HostState). lines_text (host_line other state))
     (sym (state_there world number (Some host) there))
 
 pub host_hidden : (world : WorldModel) (number : HostId) (name text : List ℕ) → None ≡ host_at world number →
     text ≡ text ++ lines_text (host_line name (state_at (world_of world) number))
 host_hidden world number name text none =
     sym (append-nil text)
-    ∙ ap (λ (state : Option HostShape). text ++ lines_text (host_line name state))
+    ∙ ap (λ (state : Option HostState). text ++ lines_text (host_line name state))
     (sym (state_there world number None none))
 
 -- ---- messages in flight
@@ -175,7 +175,7 @@ pub value_shown : (world : WorldModel) (place : ℕ) (field : CodeFieldShape) (a
 value_shown world place field at name size row host there here named sized are =
     elements_shown (λ one elements. codes " " ++ one ++ codes " " ++ row_text elements) field place name size row host
     named sized are
-    ∙ ap (λ (state : Option HostShape). field_value state place field)
+    ∙ ap (λ (state : Option HostState). field_value state place field)
     (sym (field_there world field at host there here))
 
 pub field_shown : (world : WorldModel) (place : ℕ) (field : CodeFieldShape) (at : HostId) (name : List ℕ) (size : ℕ)
@@ -185,7 +185,7 @@ pub field_shown : (world : WorldModel) (place : ℕ) (field : CodeFieldShape) (a
 field_shown world place field at name size row host there here named sized are =
     elements_shown (λ one elements. line_text (row_line one elements)) field place name size row host named sized are
     ∙ sym (append-nil (line_text (row_line field.name (elements_of (state_of host) place field.size))))
-    ∙ ap (λ (state : Option HostShape). lines_text (field_line state place field))
+    ∙ ap (λ (state : Option HostState). lines_text (field_line state place field))
     (sym (field_there world field at host there here))
 
 pub one_element : (host : HostModel) (field : ℕ) (index : ℕ) (row next : List ℤ) (value : ℤ) →

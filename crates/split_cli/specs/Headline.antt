@@ -21,7 +21,7 @@ use Rattle.event_text.specs.Misbehaving.{past_bad}
 use Rattle.event_text.specs.Script.{ScriptShape, script_of}
 use Rattle.event_text.specs.Settings.{form_of, settings_in_front, after_settings}
 use Rattle.event_text.specs.Start.{start_of, program_form}
-use Rattle.net_world.specs.Released.{AreAlike, AreReleased}
+use Rattle.net_world.specs.Released.{OneIsFront, AreReleased}
 use Rattle.net_world.specs.Replay.{events_in}
 use Rattle.net_world.specs.Secret.{IsSeenRun, IsPrompt}
 use Rattle.net_world.specs.Together.{Together}
@@ -162,16 +162,16 @@ pub record IsPrivate (program hosts one other : List ℕ) (status : Status) (tex
   pub seen_too : List Event
   pub first_seen : IsSeen placed tree one first seen
   pub second_seen : IsSeen placed tree other second seen_too
-  pub alike : AreAlike seen seen_too
+  pub alike : OneIsFront seen seen_too
   pub released : List ℤ
   pub released_too : List ℤ
   pub first_released : HasReleased placed tree one first released
   pub second_released : HasReleased placed tree other second released_too
   pub reported : Compared placed first.last.sent second.last.sent released released_too (Print status text)
-  pub released_alike : AreAlike released released_too → AreAlike first.last.sent second.last.sent
-  pub differs : status ≡ Differ → ¬ AreAlike released released_too
+  pub released_alike : OneIsFront released released_too → OneIsFront first.last.sent second.last.sent
+  pub differs : status ≡ Differ → ¬ OneIsFront released released_too
   pub silent : ReleasesNothing placed.source.tree → (released ≡ []) × (released_too ≡ [])
-  pub told_alike : ReleasesNothing placed.source.tree → AreAlike first.last.sent second.last.sent
+  pub told_alike : ReleasesNothing placed.source.tree → OneIsFront first.last.sent second.last.sent
   pub never_differs : ReleasesNothing placed.source.tree → status ≡ Done
 
 -- ---- what is put

@@ -6,7 +6,7 @@
 use Rattle.std.specs.Prelude.{ℕ, ◌+◌, List, [], ◌∷◌, ◌++◌, codes, Option, Some, None}
 use Rattle.std.specs.Fmt.{decimal}
 use Rattle.host_code.specs.Code.{CodeShape, CodeFieldShape}
-use Rattle.host_core.specs.Host.{HostShape}
+use Rattle.host_core.specs.Host.{HostState}
 use Rattle.net_world.specs.World.{WorldShape, state_at}
 use Rattle.front_end.specs.declared.step_counts.TheConstants.{STEPS}
 use Rattle.front_end.specs.PlacedCode.{cost_of}
@@ -22,7 +22,7 @@ use Rattle.split_cli.specs.WorldReport.{elements_of}
 -- ---- what is told
 
 -- ` NAME V`, where the field's host obeys
-abbrev pub field_value : Option HostShape → ℕ → CodeFieldShape → List ℕ
+abbrev pub field_value : Option HostState → ℕ → CodeFieldShape → List ℕ
 field_value None number field = []
 field_value (Some host) number field =
     codes " " ++ field.name ++ codes " " ++ row_text (elements_of host number field.size)

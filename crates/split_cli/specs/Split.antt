@@ -5,7 +5,7 @@ use Rattle.split_cli.specs.Check.{plan_lines}
 use Rattle.split_cli.specs.CodeLines.{code_lines}
 use Rattle.front_end.specs.PlacedCode.{code_of}
 use Rattle.front_end.specs.PlacedSources.{PlacedSource, PlacedSources}
-use Rattle.front_end.specs.Stages.{Outcome, given, Then}
+use Rattle.front_end.specs.Stages.{StageEnd, given, Then}
 use Rattle.front_end.specs.Text.{lines_text}
 use Rattle.split_cli.specs.declared.commands.split.Split.{Split}
 
@@ -22,7 +22,7 @@ split_of placed = record {
 }
 
 -- a program and a host file, up to their split
-abbrev pub SplitSources : List ℕ → List ℕ → Outcome SplitShape → Type 0
+abbrev pub SplitSources : List ℕ → List ℕ → StageEnd SplitShape → Type 0
 SplitSources program hosts = Then (PlacedSources program hosts) (λ placed end. end ≡ given (split_of placed))
 
 -- ---- in the program

@@ -10,13 +10,13 @@ use Rattle.jif_tree.specs.Store.{element_at, row_of}
 use Rattle.host_code.specs.declared.message.Message.{Message}
 use Rattle.host_code.specs.Code.{CodeShape, CodeFieldShape}
 use Rattle.host_code.specs.MessageText.{host_text, message_text}
-use Rattle.host_core.specs.Host.{HostShape}
+use Rattle.host_core.specs.Host.{HostState}
 use Rattle.net_world.specs.Told.{SentMessage}
 use Rattle.net_world.specs.World.{WorldShape, state_at}
 use Rattle.split_cli.specs.Report.{row_line}
 
 -- `halted yes` where the root host obeys, and took the entry that ends the program off its control stack
-abbrev pub is_halted : Option HostShape → Bool
+abbrev pub is_halted : Option HostState → Bool
 is_halted None = false
 is_halted (Some root) = root.halted
 
@@ -26,11 +26,11 @@ halted_line code w = if is_halted (state_at w code.root) then codes "halted yes"
 -- ---- fields
 
 -- the elements of a field of this number on its host, as many as the code gives it
-abbrev pub elements_of : HostShape → ℕ → ℕ → List ℤ
+abbrev pub elements_of : HostState → ℕ → ℕ → List ℤ
 elements_of host number size = map (λ index. element_at (row_of host.rows number) (pos index)) (range_with_len 0 size)
 
 -- `field NAME = V`, where the field's host obeys
-abbrev pub field_line : Option HostShape → ℕ → CodeFieldShape → List (List ℕ)
+abbrev pub field_line : Option HostState → ℕ → CodeFieldShape → List (List ℕ)
 field_line None number field = []
 field_line (Some host) number field = row_line field.name (elements_of host number field.size) ∷ []
 
@@ -43,7 +43,7 @@ field_lines w number (field ∷ fields) =
 -- ---- hosts
 
 -- `host H: running R, waiting W, stack D, ignored I`
-abbrev pub state_line : List ℕ → HostShape → List ℕ
+abbrev pub state_line : List ℕ → HostState → List ℕ
 state_line name host =
     codes "host " ++ name
     ++ codes ": running " ++ decimal (if is_some host.running then 1 else 0)
@@ -52,7 +52,7 @@ state_line name host =
     ++ codes ", ignored " ++ decimal host.ignored
 
 -- the line of a host, where it obeys
-abbrev pub host_line : List ℕ → Option HostShape → List (List ℕ)
+abbrev pub host_line : List ℕ → Option HostState → List (List ℕ)
 host_line name None = []
 host_line name (Some host) = state_line name host ∷ []
 

@@ -28,13 +28,13 @@ ghost use Rattle.front_end.specs.Loads.{files_change};
 ghost use Rattle.front_end.specs.StepCounts.{IsStepCount};
 ghost use Rattle.front_end.specs.Verdicts.{Print, verdict_shape};
 
-use crate::commands::check::due_for_check;
-use crate::commands::compare::due_for_compare;
-use crate::commands::drive::due_for_drive;
-use crate::commands::make::due_for_make;
-use crate::commands::replay::due_for_replay;
-use crate::commands::run::due_for_run;
-use crate::commands::split::due_for_split;
+use crate::commands::check::verdict_for_check;
+use crate::commands::compare::verdict_for_compare;
+use crate::commands::drive::verdict_for_drive;
+use crate::commands::make::verdict_for_make;
+use crate::commands::replay::verdict_for_replay;
+use crate::commands::run::verdict_for_run;
+use crate::commands::split::verdict_for_split;
 use crate::laws::{due_laws, headline_laws};
 use front_end::{Stop, Verdict, answer};
 use js_base::{Files, OutOfMemory, Sink, Status};
@@ -150,12 +150,16 @@ pub fn jifsplit<F: Files, S: Sink, E: Sink>(
 {
     due_laws();
     headline_laws();
-    let found = due(alloc, words, files);
+    let found = due_verdict(alloc, words, files);
     answer(alloc, PROGRAM, NO_MEMORY, found, out, err)
 }
 
 /// What is due for the words.
-fn due<F: Files>(alloc: Global, words: &[String], files: &mut F) -> Result<Verdict, OutOfMemory>
+fn due_verdict<F: Files>(
+    alloc: Global,
+    words: &[String],
+    files: &mut F,
+) -> Result<Verdict, OutOfMemory>
     ensures due { IfOk result (λ verdict. IsDue (map string_bytes words.now)
         (files_change F.Files files.old files.new)
         (verdict_shape verdict)) }
@@ -167,13 +171,13 @@ fn due<F: Files>(alloc: Global, words: &[String], files: &mut F) -> Result<Verdi
         (map string_bytes words.now) (files_change F.Files files.old files.new) }
 {
     match command_of(words) {
-        Some(asked) => due_for(alloc, &asked, files),
+        Some(asked) => verdict_for_command(alloc, &asked, files),
         None => Verdict::usage(alloc, FORMS),
     }
 }
 
 /// What is due for a command.
-fn due_for<F: Files>(
+fn verdict_for_command<F: Files>(
     alloc: Global,
     asked: &Command<'_>,
     files: &mut F,
@@ -185,7 +189,7 @@ fn due_for<F: Files>(
     ensures loads { F.loads files.new ≤ F.loads files.old + length (command.files_of (command_shape asked.now)) }
     ensures saves { MaySave (command_shape asked.now) (files_change F.Files files.old files.new) }
 {
-    match ended(alloc, asked, files) {
+    match verdict_or_stop(alloc, asked, files) {
         Ok(verdict) => Ok(verdict),
         Err(Stop::Due(verdict)) => Ok(verdict),
         Err(Stop::OutOfMemory) => Err(OutOfMemory),
@@ -193,42 +197,46 @@ fn due_for<F: Files>(
 }
 
 /// How a command ends: what is due for it, whether it stops early or not.
-fn ended<F: Files>(alloc: Global, asked: &Command<'_>, files: &mut F) -> Result<Verdict, Stop>
+fn verdict_or_stop<F: Files>(
+    alloc: Global,
+    asked: &Command<'_>,
+    files: &mut F,
+) -> Result<Verdict, Stop>
     requires { command.IsCommand (command_shape asked.now) }
     ensures due { EndsIn (IsDueForCommand (command_shape asked.now) (files_change F.Files files.old files.new)) result }
     ensures loads { F.loads files.new ≤ F.loads files.old + length (command.files_of (command_shape asked.now)) }
     ensures saves { MaySave (command_shape asked.now) (files_change F.Files files.old files.new) }
 {
     match asked {
-        Command::Check { program, hosts } => due_for_check(alloc, program, hosts, files),
+        Command::Check { program, hosts } => verdict_for_check(alloc, program, hosts, files),
         Command::Run {
             program,
             hosts,
             start,
             steps,
-        } => due_for_run(alloc, program, hosts, start, *steps, files),
+        } => verdict_for_run(alloc, program, hosts, start, *steps, files),
         Command::Replay {
             program,
             hosts,
             events,
-        } => due_for_replay(alloc, program, hosts, events, files),
+        } => verdict_for_replay(alloc, program, hosts, events, files),
         Command::Drive {
             program,
             hosts,
             start,
             events,
-        } => due_for_drive(alloc, program, hosts, start, *events, files),
+        } => verdict_for_drive(alloc, program, hosts, start, *events, files),
         Command::Compare {
             program,
             hosts,
             one,
             other,
-        } => due_for_compare(alloc, program, hosts, one, other, files),
+        } => verdict_for_compare(alloc, program, hosts, one, other, files),
         Command::Split {
             program,
             hosts,
             out,
-        } => due_for_split(alloc, program, hosts, out, files),
-        Command::Make { statements } => due_for_make(alloc, *statements, files),
+        } => verdict_for_split(alloc, program, hosts, out, files),
+        Command::Make { statements } => verdict_for_make(alloc, *statements, files),
     }
 }

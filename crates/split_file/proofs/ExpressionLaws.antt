@@ -23,7 +23,7 @@ use Rattle.byte_format.proofs.Sequels.{reads_if, again_then, again_given, again_
 use Rattle.byte_format.proofs.ItemLaws.{all_of, in_all, all_weaker, all_read, items_again}
 use Rattle.split_file.specs.declared.fault.Fault.TheVariants as fault
 use Rattle.split_file.specs.Spelling.{operator_byte, node_bytes, expression_bytes}
-use Rattle.split_file.specs.Reader.{Reader, byte_at}
+use Rattle.split_file.specs.Reader.{SplitReader, byte_at}
 use Rattle.split_file.specs.Reading.{operator_of, number_node_at, variable_id_at, variable_node_at, temporary_node_at}
 use Rattle.split_file.specs.Reading.{operator_node_at, node_of, node_at, leave_one, expression_at}
 use Rattle.split_file.proofs.Sequels.{reads_place, reads_in_range, again_place, again_in_range}
@@ -75,7 +75,7 @@ NodeIs variables temporaries (node.Temp temporary) = temporary < temporaries
 NodeIs variables temporaries _ = ⊤
 
 -- what follows a first byte
-pub reads_tag : {A : Type 0} {reader : Reader A} {s : A → List ℕ} {P : A → Type 0} (tag byte : ℕ) →
+pub reads_tag : {A : Type 0} {reader : SplitReader A} {s : A → List ℕ} {P : A → Type 0} (tag byte : ℕ) →
     (byte == tag) ≡ true → Reads reader (λ x text. (tag ∷ text ≡ s x) × P x) →
     Reads reader (λ x text. (byte ∷ text ≡ s x) × P x)
 reads_tag {reader = reader} {s = s} {P = P} tag byte is one =

@@ -22,10 +22,10 @@ use Rattle.split_file.specs.declared.error.SplitError.TheVariants as refusal
 use Rattle.split_file.specs.declared.reading.Front.{Front}
 use Rattle.split_file.specs.Spelling.{magic, any_ride, version_of, table_bytes, start_bytes, part_bytes, file_as}
 use Rattle.split_file.specs.Spelling.{split_file}
-use Rattle.split_file.specs.Reader.{Reader, Fails}
+use Rattle.split_file.specs.Reader.{SplitReader, ReadFails}
 use Rattle.split_file.specs.Reading.{next_part_at, front_at, with_parts, ended, PLACE_BYTES, ENTRY_BYTES, entries_stand}
 use Rattle.split_file.specs.Reading.{version_stands, code_at}
-use Rattle.split_file.specs.File.{IsRealCode, IsRefusal, refusal_of, outcome, file_code}
+use Rattle.split_file.specs.File.{IsRealCode, IsSplitRefusal, refusal_of, outcome, file_code}
 use Rattle.split_file.proofs.Sequels.{require_reads, require_again}
 use Rattle.split_file.proofs.PartLaws.{parts_reads, parts_again}
 use Rattle.split_file.proofs.FrontLaws.{front_bytes, front_reads, front_of, named_bytes, front_again, is_version}
@@ -60,16 +60,16 @@ ended_is [] x rest is =
 ended_is (byte ∷ bytes) x rest is = absurd cc
 
 -- what is read behind the front, up to the end
-abbrev entries_behind : CodeShape × Front → List (List Instr) → Reader CodeShape
+abbrev entries_behind : CodeShape × Front → List (List Instr) → SplitReader CodeShape
 entries_behind front parts =
     sequel (entries_stand (with_parts front.0 parts) front.0.entries front.1.behind)
     (λ _. given (with_parts front.0 parts))
 
-abbrev behind_parts : CodeShape × Front → List (List Instr) → Reader CodeShape
+abbrev behind_parts : CodeShape × Front → List (List Instr) → SplitReader CodeShape
 behind_parts front parts =
     sequel ended (λ _. sequel (version_stands (with_parts front.0 parts) front.1) (λ _. entries_behind front parts))
 
-abbrev behind_front : CodeShape × Front → Reader CodeShape
+abbrev behind_front : CodeShape × Front → SplitReader CodeShape
 behind_front front =
     sequel (items_at (next_part_at front.1.version front.0) [] (length front.0.hosts)) (behind_parts front)
 
@@ -267,7 +267,7 @@ file_again code sound = ap (outcome (length (split_file code))) (code_again code
 
 -- where there is something to read, only memory may fail
 pub only_memory : (e : ReadError) (total : ℕ) (refused : SplitError) (reading : Result (CodeShape × List ℕ) Fault)
-    (x : CodeShape × List ℕ) → Fails e reading → reading ≡ Ok x → IsRefusal total e refused →
+    (x : CodeShape × List ℕ) → ReadFails e reading → reading ≡ Ok x → IsSplitRefusal total e refused →
     refused ≡ refusal.OutOfMemory
 only_memory error.OutOfMemory total refused reading x fails is refusing = refusing
 only_memory (error.Fault what) total refused reading x fails is refusing =

@@ -15,7 +15,7 @@ use Rattle.byte_format.proofs.Sequels.{again_given, again_require}
 use Rattle.split_file.specs.declared.fault.Fault.TheVariants as fault
 use Rattle.split_file.specs.declared.reading.Front.{Front}
 use Rattle.split_file.specs.Spelling.{magic, table_bytes, start_bytes}
-use Rattle.split_file.specs.Reader.{Reader, place, number_at}
+use Rattle.split_file.specs.Reader.{SplitReader, place, number_at}
 use Rattle.split_file.specs.Reading.{magic_at, version_at, TablesShape, tables_at, StartsShape, starts_at, code_with}
 use Rattle.split_file.specs.Reading.{front_at, with_parts}
 use Rattle.split_file.proofs.Sequels.{AgainSome, reads_place, require_reads, require_again, some_then, some_some}
@@ -44,7 +44,7 @@ version_reads =
     reads_given _ (append-nil (to_be_bytes w16 version), tt))))
 
 -- what is read behind the place of the version
-abbrev behind_place : ℕ → Reader (ℕ × ℕ)
+abbrev behind_place : ℕ → SplitReader (ℕ × ℕ)
 behind_place at =
     sequel (number_at w16) (λ version. sequel (require (version == 1 || version == 2) fault.BadVersion)
     (λ _. given (version, at)))
@@ -112,7 +112,7 @@ with_start : (version : ℕ × ℕ) (code : CodeShape) (starts : StartsShape) �
 with_start version code starts is = (is.0, ap (read_front version (tables_in code)) is.1)
 
 -- what stands behind the version, and its bytes
-abbrev behind_version : ℕ × ℕ → Reader (CodeShape × Front)
+abbrev behind_version : ℕ × ℕ → SplitReader (CodeShape × Front)
 behind_version version =
     sequel tables_at (λ tables. sequel (starts_at (length tables.hosts) (length tables.labels))
     (λ starts. given (read_front version tables starts)))

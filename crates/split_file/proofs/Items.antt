@@ -5,20 +5,20 @@ use Rattle.byte_format.proofs.Items.{items_refused}
 use Rattle.split_file.specs.declared.fault.Fault.{Fault}
 use Rattle.split_file.specs.declared.fault.ReadError.{ReadError}
 use Rattle.split_file.specs.declared.fault.ReadError.TheVariants as error
-use Rattle.split_file.specs.Reader.{Reader, Fails}
+use Rattle.split_file.specs.Reader.{SplitReader, ReadFails}
 use Rattle.split_file.specs.Reading.{is_empty}
 
 -- an item that is not read
-pub items_fail : {A : Type 0} (item : List A → Reader A) (before : List A) (count i : ℕ) (e : ReadError)
-    (bytes : List ℕ) (total : Result (List A × List ℕ) Fault) → i < count → Fails e (item before bytes) →
-    items_at item before (count - i) bytes ≡ total → Fails e total
+pub items_fail : {A : Type 0} (item : List A → SplitReader A) (before : List A) (count i : ℕ) (e : ReadError)
+    (bytes : List ℕ) (total : Result (List A × List ℕ) Fault) → i < count → ReadFails e (item before bytes) →
+    items_at item before (count - i) bytes ≡ total → ReadFails e total
 items_fail item before count i error.OutOfMemory bytes total lt fails so_far = tt
 items_fail item before count i (error.Fault what) bytes total lt fails so_far =
     items_refused item before count i what bytes total lt fails so_far
 
 -- what fails is not read on
-pub fails_on : {A B : Type 0} (e : ReadError) (reading : Result (A × List ℕ) Fault) (next : A → Reader B) →
-    Fails e reading → Fails e (handed_on reading next)
+pub fails_on : {A B : Type 0} (e : ReadError) (reading : Result (A × List ℕ) Fault) (next : A → SplitReader B) →
+    ReadFails e reading → ReadFails e (handed_on reading next)
 fails_on error.OutOfMemory reading next fails = tt
 fails_on (error.Fault what) reading next fails = rw fails refl
 

@@ -22,7 +22,7 @@ use Rattle.byte_format.proofs.ItemLaws.{all_weaker, all_read, items_again, each_
 use Rattle.byte_format.proofs.ItemLaws.{counted_within, within_again}
 use Rattle.split_file.specs.declared.fault.Fault.TheVariants as fault
 use Rattle.split_file.specs.Spelling.{host_id_bytes, expression_bytes, riders_bytes, operation_bytes}
-use Rattle.split_file.specs.Reader.{Reader, byte_at}
+use Rattle.split_file.specs.Reader.{SplitReader, byte_at}
 use Rattle.split_file.specs.Reading.{valued_at, sent_at, entered_at, read_at, let_at, put_at, send_at, frame_at, arg_at}
 use Rattle.split_file.specs.Reading.{pass_at, push_at, ask_at, go_at, call_at, ret_at, branch_at, operation_of}
 use Rattle.split_file.specs.Reading.{operation_at, variable_id_at, riders_at, go_with_at, call_with_at}
@@ -153,7 +153,7 @@ riders_again code riders few are =
     (items_again (λ _. variable_id_at variables) (λ variable. number_bytes variable.0) [] riders each)
 
 -- an entry on another host, and what rides there
-abbrev carried_at : CodeShape → HostId → (EntryId → HostId → List VarId → Op) → Reader Op
+abbrev carried_at : CodeShape → HostId → (EntryId → HostId → List VarId → Op) → SplitReader Op
 carried_at code me with =
     sequel (entered_at code me) (λ where_to. sequel (riders_at (length code.variables))
     (λ riders. given (with where_to.0 where_to.1 riders)))
@@ -278,7 +278,7 @@ call_with_reads version code me temporaries places is =
     )))
 
 -- the tag of an operation with which values ride
-reads_riding : {version byte : ℕ} {reader : Reader Op} {P : Op → Type 0} (tag : ℕ) →
+reads_riding : {version byte : ℕ} {reader : SplitReader Op} {P : Op → Type 0} (tag : ℕ) →
     (byte == tag && version == 2) ≡ true →
     (version ≡ 2 → Reads reader (λ o text. (tag ∷ text ≡ operation_bytes o) × P o)) →
     Reads reader (λ o text. (byte ∷ text ≡ operation_bytes o) × P o)
@@ -320,7 +320,7 @@ operation_reads version code me temporaries places =
 
 -- ---- what is read again
 
-abbrev Tail : ℕ → CodeShape → HostId → ℕ → ℕ → ℕ → Reader Op
+abbrev Tail : ℕ → CodeShape → HostId → ℕ → ℕ → ℕ → SplitReader Op
 Tail version code me temporaries places at =
     sequel byte_at (λ byte. operation_of version code me temporaries places at byte)
 

@@ -9,16 +9,16 @@ use Rattle.byte_format.proofs.Sequels.{Reads, Again, ok_is, reads_then, reads_gi
 use Rattle.byte_format.proofs.Sequels.{again_given, again_require}
 use Rattle.split_file.specs.declared.fault.Fault.{Fault}
 use Rattle.split_file.specs.declared.fault.Fault.TheVariants as fault
-use Rattle.split_file.specs.Reader.{Reader, place, in_range}
+use Rattle.split_file.specs.Reader.{SplitReader, place, in_range}
 
 -- ---- what is read
 
-pub reads_place : {B : Type 0} {next : ℕ → Reader B} {Q : B → List ℕ → Type 0} → ((at : ℕ) → Reads (next at) Q) →
+pub reads_place : {B : Type 0} {next : ℕ → SplitReader B} {Q : B → List ℕ → Type 0} → ((at : ℕ) → Reads (next at) Q) →
     Reads (sequel place next) Q
 unfolding sequel place
 reads_place others = record { taken = λ bytes y rest fits is. (others _).taken bytes y rest fits is }
 
-pub reads_in_range : {A : Type 0} {test : A → Bool} {item : Reader A} {s : A → List ℕ} {P : A → Type 0} →
+pub reads_in_range : {A : Type 0} {test : A → Bool} {item : SplitReader A} {s : A → List ℕ} {P : A → Type 0} →
     Reads item (λ x text. (text ≡ s x) × P x) →
     Reads (in_range test item) (λ x text. (text ≡ s x) × (P x × (test x ≡ true)))
 unfolding in_range
@@ -28,12 +28,13 @@ reads_in_range {s = s} one =
 
 -- ---- what is read again
 
-pub again_place : {B : Type 0} {next : ℕ → Reader B} {y : B} {text : List ℕ} → ((at : ℕ) → Again (next at) y text) →
+pub again_place : {B : Type 0} {next : ℕ → SplitReader B} {y : B} {text : List ℕ} →
+    ((at : ℕ) → Again (next at) y text) →
     Again (sequel place next) y text
 unfolding sequel place
 again_place others = record { again = λ rest. (others _).again rest }
 
-pub again_in_range : {A : Type 0} (test : A → Bool) {item : Reader A} {x : A} {text : List ℕ} → test x ≡ true →
+pub again_in_range : {A : Type 0} (test : A → Bool) {item : SplitReader A} {x : A} {text : List ℕ} → test x ≡ true →
     Again item x text → Again (in_range test item) x text
 unfolding in_range
 again_in_range test {item = item} {x = x} {text = text} passes one =
@@ -48,14 +49,16 @@ again_in_range test {item = item} {x = x} {text = text} passes one =
 -- ---- what is read again but for places
 
 -- the bytes are read as some such value, and what follows them is left
-pub record AgainSome {A : Type 0} (reader : Reader A) (P : A → Type 0) (text : List ℕ) : Type 0 where
+pub record AgainSome {A : Type 0} (reader : SplitReader A) (P : A → Type 0) (text : List ℕ) : Type 0 where
   pub again : (rest : List ℕ) → (x : A) × (reader (text ++ rest) ≡ Ok (x, rest)) × P x
 
-pub some_same : {A : Type 0} {reader : Reader A} {x : A} {text : List ℕ} (P : A → Type 0) → Again reader x text → P x →
+pub some_same : {A : Type 0} {reader : SplitReader A} {x : A} {text : List ℕ} (P : A → Type 0) → Again reader x text →
+    P x →
     AgainSome reader P text
 some_same {x = x} P one is = record { again = λ rest. (x, one.again rest, is) }
 
-pub some_then : {A B : Type 0} {first : Reader A} (next : A → Reader B) {x : A} {P : B → Type 0} {text more : List ℕ} →
+pub some_then : {A B : Type 0} {first : SplitReader A} (next : A → SplitReader B) {x : A} {P : B → Type 0}
+    {text more : List ℕ} →
     Again first x text → AgainSome (next x) P more → AgainSome (sequel first next) P (text ++ more)
 unfolding sequel
 some_then {first = first} next {text = text} {more = more} one other = record {
@@ -68,12 +71,12 @@ some_then {first = first} next {text = text} {more = more} one other = record {
       );
 }
 
-pub some_place : {B : Type 0} {next : ℕ → Reader B} {P : B → Type 0} {text : List ℕ} →
+pub some_place : {B : Type 0} {next : ℕ → SplitReader B} {P : B → Type 0} {text : List ℕ} →
     ((at : ℕ) → AgainSome (next at) P text) → AgainSome (sequel place next) P text
 unfolding sequel place
 some_place others = record { again = λ rest. (others _).again rest }
 
-pub some_some : {A B : Type 0} {first : Reader A} {next : A → Reader B} {P : A → Type 0} {Q : B → Type 0}
+pub some_some : {A B : Type 0} {first : SplitReader A} {next : A → SplitReader B} {P : A → Type 0} {Q : B → Type 0}
     {text more : List ℕ} → AgainSome first P text → ((x : A) → P x → AgainSome (next x) Q more) →
     AgainSome (sequel first next) Q (text ++ more)
 unfolding sequel

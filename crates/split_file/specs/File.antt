@@ -62,9 +62,9 @@ refusal_of total (fault.BadField left) = refusal.BadField (total - left)
 refusal_of total fault.Trailing = refusal.Trailing
 
 -- what stands for an error, of which want of memory is no fault of the bytes
-abbrev pub IsRefusal : ℕ → ReadError → SplitError → Type 0
-IsRefusal total error.OutOfMemory refused = refused ≡ refusal.OutOfMemory
-IsRefusal total (error.Fault what) refused = refused ≡ refusal_of total what
+abbrev pub IsSplitRefusal : ℕ → ReadError → SplitError → Type 0
+IsSplitRefusal total error.OutOfMemory refused = refused ≡ refusal.OutOfMemory
+IsSplitRefusal total (error.Fault what) refused = refused ≡ refusal_of total what
 
 abbrev pub outcome : ℕ → Result (CodeShape × List ℕ) Fault → Result CodeShape SplitError
 outcome total (Ok x) = Ok x.0

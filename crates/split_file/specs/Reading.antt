@@ -38,7 +38,8 @@ use Rattle.byte_format.specs.Reader.{◌>>=◌, given, refused, require, items_a
 use Rattle.split_file.specs.declared.fault.Fault.TheVariants as fault
 use Rattle.split_file.specs.declared.reading.Front.{Front}
 use Rattle.split_file.specs.Spelling.{magic, version_of}
-use Rattle.split_file.specs.Reader.{Reader, place, in_range, byte_at, bytes_at, number_at, integer_at, text_at, list_at}
+use Rattle.split_file.specs.Reader.{SplitReader, place, in_range, byte_at, bytes_at, number_at, integer_at, text_at}
+use Rattle.split_file.specs.Reader.{list_at}
 
 -- ---- names
 
@@ -51,42 +52,42 @@ is_variable_name text =
     is_name (before_first is_dot text)
     && (is_name (after_first is_dot text) || bytes_eq (after_first is_dot text) (codes "return"))
 
-unfoldable pub name_at : Reader (List ℕ)
+unfoldable pub name_at : SplitReader (List ℕ)
 name_at = in_range is_name text_at
 
 -- ---- indices
 
 -- a number below a count
-unfoldable pub index_at : ℕ → Reader ℕ
+unfoldable pub index_at : ℕ → SplitReader ℕ
 index_at count = in_range (λ index. nat_lt index count) (number_at w32)
 
-unfoldable pub host_id_at : ℕ → Reader HostId
+unfoldable pub host_id_at : ℕ → SplitReader HostId
 host_id_at hosts = do
   host ← in_range (λ host. nat_lt host hosts) byte_at
   given (record { 0 = host })
 
 -- ---- labels and hosts
 
-unfoldable pub label_at : Reader Label
+unfoldable pub label_at : SplitReader Label
 label_at = do
   rows ← items_at (λ _. number_at w64) [] PRINCIPALS
   trust ← number_at w64
   given (record { rows = rows; trust = trust })
 
-unfoldable pub host_row_at : Reader CodeHostShape
+unfoldable pub host_row_at : SplitReader CodeHostShape
 host_row_at = do
   name ← name_at
   label ← label_at
   given (record { name = name; label = label })
 
-unfoldable pub hosts_at : Reader (List CodeHostShape)
+unfoldable pub hosts_at : SplitReader (List CodeHostShape)
 hosts_at = do
   count ← in_range (λ count. nat_lt 0 count && nat_le count HOSTS) (number_at w32)
   items_at (λ _. host_row_at) [] count
 
 -- ---- fields and variables
 
-unfoldable pub flag_at : Reader Bool
+unfoldable pub flag_at : SplitReader Bool
 flag_at = do
   byte ← in_range (λ byte. nat_le byte 1) byte_at
   given (byte == 1)
@@ -101,7 +102,7 @@ is_size before size = nat_lt 0 size && nat_le size ARRAY_SIZE && nat_le (before 
 
 -- A size, and whether it is that of an array. A plain field has one element, and where it has not, its size is out of
 -- range.
-unfoldable pub shape_at : ℕ → Reader (ℕ × Bool)
+unfoldable pub shape_at : ℕ → SplitReader (ℕ × Bool)
 shape_at before = do
   at ← place
   size ← in_range (is_size before) (number_at w32)
@@ -110,7 +111,7 @@ shape_at before = do
   given (size, array)
 
 -- a field, where those before it have so many elements
-unfoldable pub field_row_at : ℕ → ℕ → ℕ → Reader CodeFieldShape
+unfoldable pub field_row_at : ℕ → ℕ → ℕ → SplitReader CodeFieldShape
 field_row_at hosts labels before = do
   name ← name_at
   label ← index_at labels
@@ -119,7 +120,7 @@ field_row_at hosts labels before = do
   host ← host_id_at hosts
   given (record { name = name; label = label; size = shape.0; array = shape.1; first = first; host = host })
 
-unfoldable pub variable_row_at : ℕ → Reader CodeVariableShape
+unfoldable pub variable_row_at : ℕ → SplitReader CodeVariableShape
 variable_row_at labels = do
   name ← in_range is_variable_name text_at
   label ← index_at labels
@@ -132,7 +133,7 @@ is_empty [] = true
 is_empty (x ∷ xs) = false
 
 -- an entry; the first of all stands at its host's first instruction
-unfoldable pub entry_row_at : ℕ → ℕ → Bool → Reader Entry
+unfoldable pub entry_row_at : ℕ → ℕ → Bool → SplitReader Entry
 entry_row_at hosts labels is_first = do
   host ← host_id_at hosts
   at ← in_range (λ at. not is_first || at == 0) (number_at w32)
@@ -144,12 +145,12 @@ entry_row_at hosts labels is_first = do
 abbrev pub is_entry_on : List Entry → ℕ → ℕ → Bool
 is_entry_on entries number host = option_map_or (λ entry. entry.host.0 == host) (slice_get entries number) false
 
-unfoldable pub root_at : List Entry → Reader HostId
+unfoldable pub root_at : List Entry → SplitReader HostId
 root_at entries = do
   root ← in_range (is_entry_on entries 0) byte_at
   given (record { 0 = root })
 
-unfoldable pub main_at : List Entry → HostId → Reader EntryId
+unfoldable pub main_at : List Entry → HostId → SplitReader EntryId
 main_at entries root = do
   main ← in_range (λ main. is_entry_on entries main root.0) (number_at w32)
   given (record { 0 = main })
@@ -157,7 +158,7 @@ main_at entries root = do
 -- ---- expressions
 
 -- an operator by its byte
-unfoldable pub operator_of : ℕ → ℕ → Reader BinOp
+unfoldable pub operator_of : ℕ → ℕ → SplitReader BinOp
 operator_of at byte =
     if byte == 6 then given binary.Or
     else (if byte == 7 then given binary.And
@@ -174,34 +175,34 @@ operator_of at byte =
     else (if byte == 18 then given binary.Remainder
     else refused (fault.BadField at)))))))))))))
 
-unfoldable pub number_node_at : Reader Node
+unfoldable pub number_node_at : SplitReader Node
 number_node_at = do
   n ← integer_at
   given (node.Number n)
 
 -- one of so many variables
-unfoldable pub variable_id_at : ℕ → Reader VarId
+unfoldable pub variable_id_at : ℕ → SplitReader VarId
 variable_id_at variables = do
   variable ← index_at variables
   given (record { 0 = variable })
 
-unfoldable pub variable_node_at : ℕ → Reader Node
+unfoldable pub variable_node_at : ℕ → SplitReader Node
 variable_node_at variables = do
   variable ← variable_id_at variables
   given (node.Var variable)
 
-unfoldable pub temporary_node_at : ℕ → Reader Node
+unfoldable pub temporary_node_at : ℕ → SplitReader Node
 temporary_node_at temporaries = do
   temporary ← index_at temporaries
   given (node.Temp temporary)
 
-unfoldable pub operator_node_at : ℕ → ℕ → Reader Node
+unfoldable pub operator_node_at : ℕ → ℕ → SplitReader Node
 operator_node_at at byte = do
   operator ← operator_of at byte
   given (node.Binary operator)
 
 -- what follows the first byte of a node
-unfoldable pub node_of : ℕ → ℕ → ℕ → ℕ → Reader Node
+unfoldable pub node_of : ℕ → ℕ → ℕ → ℕ → SplitReader Node
 node_of variables temporaries at byte =
     if byte == 1 then number_node_at
     else (if byte == 2 then variable_node_at variables
@@ -211,7 +212,7 @@ node_of variables temporaries at byte =
     else operator_node_at at byte))))
 
 -- a node, where there are so many variables and a thread has so many temporaries
-unfoldable pub node_at : ℕ → ℕ → Reader Node
+unfoldable pub node_at : ℕ → ℕ → SplitReader Node
 node_at variables temporaries = do
   at ← place
   byte ← byte_at
@@ -222,7 +223,7 @@ abbrev pub leave_one : List Node → Bool
 leave_one nodes = option_map_or (λ depth. depth == 1) (depth_after nodes 0) false
 
 -- an expression, or its count of nodes is out of range
-unfoldable pub expression_at : ℕ → ℕ → Reader (List Node)
+unfoldable pub expression_at : ℕ → ℕ → SplitReader (List Node)
 expression_at variables temporaries = do
   at ← place
   count ← in_range (λ count. nat_le count MOST_NODES) (number_at w32)
@@ -232,43 +233,43 @@ expression_at variables temporaries = do
 
 -- ---- operands
 
-unfoldable pub field_id_at : CodeShape → Reader FieldId
+unfoldable pub field_id_at : CodeShape → SplitReader FieldId
 field_id_at code = do
   field ← index_at (length code.fields)
   given (record { 0 = field })
 
 -- another host
-unfoldable pub other_host_at : CodeShape → HostId → Reader HostId
+unfoldable pub other_host_at : CodeShape → HostId → SplitReader HostId
 other_host_at code me = do
   host ← in_range (λ host. nat_lt host (length code.hosts) && not (host == me.0)) byte_at
   given (record { 0 = host })
 
 -- a site on this host
-unfoldable pub own_site_at : CodeShape → HostId → Reader SiteId
+unfoldable pub own_site_at : CodeShape → HostId → SplitReader SiteId
 own_site_at code me = do
   site ← in_range (λ site. option_map_or (λ host. host.0 == me.0) (host_of_site code.sites site) false) (number_at w32)
   given (record { 0 = site })
 
 -- an entry on this host, which is not the one that ends the program
-unfoldable pub own_entry_at : CodeShape → HostId → Reader EntryId
+unfoldable pub own_entry_at : CodeShape → HostId → SplitReader EntryId
 own_entry_at code me = do
   entry ← in_range (λ entry. not (entry == 0) && is_entry_on code.entries entry me.0) (number_at w32)
   given (record { 0 = entry })
 
 -- an entry that is not the one that ends the program
-unfoldable pub some_entry_at : CodeShape → Reader EntryId
+unfoldable pub some_entry_at : CodeShape → SplitReader EntryId
 some_entry_at code = do
   entry ← in_range (λ entry. not (entry == 0) && nat_lt entry (length code.entries)) (number_at w32)
   given (record { 0 = entry })
 
 -- the host of an entry
-unfoldable pub host_of_entry_at : CodeShape → EntryId → Reader HostId
+unfoldable pub host_of_entry_at : CodeShape → EntryId → SplitReader HostId
 host_of_entry_at code entry = do
   host ← in_range (λ host. nat_lt host (length code.hosts) && is_entry_on code.entries entry.0 host) byte_at
   given (record { 0 = host })
 
 -- the host of an entry, which is another host
-unfoldable pub other_host_of_entry_at : CodeShape → HostId → EntryId → Reader HostId
+unfoldable pub other_host_of_entry_at : CodeShape → HostId → EntryId → SplitReader HostId
 other_host_of_entry_at code me entry = do
   host ← in_range (λ host. nat_lt host (length code.hosts) && not (host == me.0)
       && is_entry_on code.entries entry.0 host) byte_at
@@ -277,117 +278,117 @@ other_host_of_entry_at code me entry = do
 -- ---- operations
 
 -- a variable and its value
-unfoldable pub valued_at : CodeShape → ℕ → Reader (VarId × List Node)
+unfoldable pub valued_at : CodeShape → ℕ → SplitReader (VarId × List Node)
 valued_at code temporaries = do
   variable ← variable_id_at (length code.variables)
   value ← expression_at (length code.variables) temporaries
   given (variable, value)
 
 -- a variable and another host
-unfoldable pub sent_at : CodeShape → HostId → Reader (VarId × HostId)
+unfoldable pub sent_at : CodeShape → HostId → SplitReader (VarId × HostId)
 sent_at code me = do
   variable ← variable_id_at (length code.variables)
   to ← other_host_at code me
   given (variable, to)
 
 -- an entry on another host
-unfoldable pub entered_at : CodeShape → HostId → Reader (EntryId × HostId)
+unfoldable pub entered_at : CodeShape → HostId → SplitReader (EntryId × HostId)
 entered_at code me = do
   entry ← some_entry_at code
   on ← other_host_of_entry_at code me entry
   given (entry, on)
 
-unfoldable pub read_at : CodeShape → ℕ → Reader Op
+unfoldable pub read_at : CodeShape → ℕ → SplitReader Op
 read_at code temporaries = do
   field ← field_id_at code
   index ← expression_at (length code.variables) temporaries
   given (op.Read field index)
 
-unfoldable pub let_at : CodeShape → ℕ → Reader Op
+unfoldable pub let_at : CodeShape → ℕ → SplitReader Op
 let_at code temporaries = do
   to ← valued_at code temporaries
   given (op.Let to.0 to.1)
 
-unfoldable pub put_at : CodeShape → ℕ → Reader Op
+unfoldable pub put_at : CodeShape → ℕ → SplitReader Op
 put_at code temporaries = do
   field ← field_id_at code
   index ← expression_at (length code.variables) temporaries
   value ← expression_at (length code.variables) temporaries
   given (op.Put field index value)
 
-unfoldable pub send_at : CodeShape → HostId → Reader Op
+unfoldable pub send_at : CodeShape → HostId → SplitReader Op
 send_at code me = do
   what ← sent_at code me
   given (op.Send what.0 what.1)
 
-unfoldable pub frame_at : CodeShape → HostId → Reader Op
+unfoldable pub frame_at : CodeShape → HostId → SplitReader Op
 frame_at code me = do
   site ← own_site_at code me
   given (op.Frame site)
 
-unfoldable pub arg_at : CodeShape → ℕ → Reader Op
+unfoldable pub arg_at : CodeShape → ℕ → SplitReader Op
 arg_at code temporaries = do
   to ← valued_at code temporaries
   given (op.Arg to.0 to.1)
 
-unfoldable pub pass_at : CodeShape → HostId → Reader Op
+unfoldable pub pass_at : CodeShape → HostId → SplitReader Op
 pass_at code me = do
   what ← sent_at code me
   given (op.Pass what.0 what.1)
 
-unfoldable pub push_at : CodeShape → HostId → Reader Op
+unfoldable pub push_at : CodeShape → HostId → SplitReader Op
 push_at code me = do
   entry ← own_entry_at code me
   given (op.Push entry)
 
-unfoldable pub ask_at : CodeShape → HostId → Reader Op
+unfoldable pub ask_at : CodeShape → HostId → SplitReader Op
 ask_at code me = do
   where_to ← entered_at code me
   given (op.Ask where_to.0 where_to.1)
 
-unfoldable pub go_at : CodeShape → HostId → Reader Op
+unfoldable pub go_at : CodeShape → HostId → SplitReader Op
 go_at code me = do
   where_to ← entered_at code me
   given (op.Go where_to.0 where_to.1)
 
-unfoldable pub call_at : CodeShape → Reader Op
+unfoldable pub call_at : CodeShape → SplitReader Op
 call_at code = do
   entry ← some_entry_at code
   on ← host_of_entry_at code entry
   given (op.Call entry on)
 
-unfoldable pub ret_at : CodeShape → ℕ → Reader Op
+unfoldable pub ret_at : CodeShape → ℕ → SplitReader Op
 ret_at code temporaries = do
   to ← valued_at code temporaries
   given (op.Ret to.0 to.1)
 
 -- a host has so many instructions
-unfoldable pub branch_at : CodeShape → ℕ → ℕ → Reader Op
+unfoldable pub branch_at : CodeShape → ℕ → ℕ → SplitReader Op
 branch_at code temporaries places = do
   guard ← expression_at (length code.variables) temporaries
   target ← index_at places
   given (op.Branch guard target)
 
 -- the variables whose values ride, 1 to 8, of so many
-unfoldable pub riders_at : ℕ → Reader (List VarId)
+unfoldable pub riders_at : ℕ → SplitReader (List VarId)
 riders_at variables = do
   count ← in_range (λ count. nat_le 1 count && nat_le count MOST_RIDERS) (number_at w32)
   items_at (λ _. variable_id_at variables) [] count
 
-unfoldable pub go_with_at : CodeShape → HostId → Reader Op
+unfoldable pub go_with_at : CodeShape → HostId → SplitReader Op
 go_with_at code me = do
   where_to ← entered_at code me
   riders ← riders_at (length code.variables)
   given (op.GoWith where_to.0 where_to.1 riders)
 
-unfoldable pub call_with_at : CodeShape → HostId → Reader Op
+unfoldable pub call_with_at : CodeShape → HostId → SplitReader Op
 call_with_at code me = do
   where_to ← entered_at code me
   riders ← riders_at (length code.variables)
   given (op.CallWith where_to.0 where_to.1 riders)
 
 -- what follows the first byte of an operation, in a file of this version
-unfoldable pub operation_of : ℕ → CodeShape → HostId → ℕ → ℕ → ℕ → ℕ → Reader Op
+unfoldable pub operation_of : ℕ → CodeShape → HostId → ℕ → ℕ → ℕ → ℕ → SplitReader Op
 operation_of version code me temporaries places at byte =
     if byte == 1 then read_at code temporaries
     else (if byte == 2 then let_at code temporaries
@@ -407,7 +408,7 @@ operation_of version code me temporaries places at byte =
     else (if byte == 16 && version == 2 then call_with_at code me
     else refused (fault.BadField at))))))))))))))))
 
-unfoldable pub operation_at : ℕ → CodeShape → HostId → ℕ → ℕ → Reader Op
+unfoldable pub operation_at : ℕ → CodeShape → HostId → ℕ → ℕ → SplitReader Op
 operation_at version code me temporaries places = do
   at ← place
   byte ← byte_at
@@ -424,7 +425,7 @@ is_leaving _ = false
 
 -- The instruction of this number, of a host that has so many, where a thread has so many temporaries. The last one has
 -- to leave the host, and is out of range as a whole where it does not.
-unfoldable pub instruction_at : ℕ → CodeShape → HostId → ℕ → ℕ → ℕ → Reader Instr
+unfoldable pub instruction_at : ℕ → CodeShape → HostId → ℕ → ℕ → ℕ → SplitReader Instr
 instruction_at version code me places temporaries number = do
   at ← place
   label ← index_at (length code.labels)
@@ -434,29 +435,29 @@ instruction_at version code me places temporaries number = do
   given (record { label = label; statement = record { 0 = statement }; op = operation })
 
 -- an instruction behind some others
-unfoldable pub next_instruction_at : ℕ → CodeShape → HostId → ℕ → List Instr → Reader Instr
+unfoldable pub next_instruction_at : ℕ → CodeShape → HostId → ℕ → List Instr → SplitReader Instr
 next_instruction_at version code me places before =
     instruction_at version code me places (temporaries_at code.entries me before (length before)) (length before)
 
 -- the instructions of a host
-unfoldable pub part_at : ℕ → CodeShape → HostId → Reader (List Instr)
+unfoldable pub part_at : ℕ → CodeShape → HostId → SplitReader (List Instr)
 part_at version code me = do
   places ← number_at w32
   items_at (next_instruction_at version code me places) [] places
 
 -- the parts of the hosts in order, behind those of some
-unfoldable pub next_part_at : ℕ → CodeShape → List (List Instr) → Reader (List Instr)
+unfoldable pub next_part_at : ℕ → CodeShape → List (List Instr) → SplitReader (List Instr)
 next_part_at version code before = part_at version code (record { 0 = length before })
 
 -- ---- the file
 
-unfoldable pub magic_at : Reader ⊤
+unfoldable pub magic_at : SplitReader ⊤
 magic_at = do
   bytes ← bytes_at 8
   require (bytes_eq bytes magic) fault.BadMagic
 
 -- the version, and how many bytes there are from it on
-unfoldable pub version_at : Reader (ℕ × ℕ)
+unfoldable pub version_at : SplitReader (ℕ × ℕ)
 version_at = do
   at ← place
   version ← number_at w16
@@ -470,7 +471,7 @@ pub record TablesShape : Type 0 where
   pub fields : List CodeFieldShape
   pub variables : List CodeVariableShape
 
-unfoldable pub tables_at : Reader TablesShape
+unfoldable pub tables_at : SplitReader TablesShape
 tables_at = do
   hosts ← hosts_at
   labels ← list_at (λ _. label_at)
@@ -486,7 +487,7 @@ pub record StartsShape : Type 0 where
   pub root : HostId
   pub main : EntryId
 
-unfoldable pub starts_at : ℕ → ℕ → Reader StartsShape
+unfoldable pub starts_at : ℕ → ℕ → SplitReader StartsShape
 starts_at hosts labels = do
   entries ← list_at (λ before. entry_row_at hosts labels (is_empty before))
   behind ← place
@@ -510,7 +511,7 @@ code_with tables starts = record {
 }
 
 -- all that stands before the instructions
-unfoldable pub front_at : Reader (CodeShape × Front)
+unfoldable pub front_at : SplitReader (CodeShape × Front)
 front_at = do
   _ ← magic_at
   version ← version_at
@@ -518,12 +519,12 @@ front_at = do
   starts ← starts_at (length tables.hosts) (length tables.labels)
   given (code_with tables starts, record { version = version.0; from_version = version.1; behind = starts.behind })
 
-unfoldable pub ended : Reader ⊤
+unfoldable pub ended : SplitReader ⊤
 ended [] = Ok (tt, [])
 ended (byte ∷ bytes) = Err fault.Trailing
 
 -- the file is of the version of its code, or this is out of range
-unfoldable pub version_stands : CodeShape → Front → Reader ⊤
+unfoldable pub version_stands : CodeShape → Front → SplitReader ⊤
 version_stands code front = require (front.version == version_of code) (fault.BadField front.from_version)
 
 -- how many bytes an entry has, and how many of them there are from its place on
@@ -534,7 +535,7 @@ abbrev pub PLACE_BYTES : ℕ
 PLACE_BYTES = 16
 
 -- each of some entries, behind which there are so many bytes, stands at an instruction of its host
-unfoldable pub entries_stand : CodeShape → List Entry → ℕ → Reader ⊤
+unfoldable pub entries_stand : CodeShape → List Entry → ℕ → SplitReader ⊤
 entries_stand code [] behind = given tt
 entries_stand code (entry ∷ entries) behind = do
   _ ← require (nat_lt entry.at (length (part_of code entry.host)))
@@ -546,7 +547,7 @@ abbrev pub with_parts : CodeShape → List (List Instr) → CodeShape
 with_parts code parts = record code { parts = parts }
 
 -- all of the bytes
-unfoldable pub code_at : Reader CodeShape
+unfoldable pub code_at : SplitReader CodeShape
 code_at = do
   front ← front_at
   parts ← items_at (next_part_at front.1.version front.0) [] (length front.0.hosts)

@@ -5,7 +5,7 @@ ghost use Rattle.std.specs.Prelude.{◌≡◌, ◌≤◌, ℕ, List, length, nat
 ghost use Rattle.std.specs.Int.{w32};
 ghost use Rattle.host_code.specs.declared.code_expr.TheConstants.{MOST_NODES};
 ghost use Rattle.byte_format.specs.Reader.{items_at};
-ghost use Rattle.split_file.specs.Reader.{Gives, in_range, number_at};
+ghost use Rattle.split_file.specs.Reader.{GivesRead, in_range, number_at};
 ghost use Rattle.split_file.specs.Reading.{operator_of, variable_id_at, node_of, node_at, leave_one, expression_at};
 
 use crate::fault::ReadError;
@@ -16,7 +16,7 @@ use std::alloc::Global;
 
 /// The operator of a byte, with which `item` begins.
 fn operator(byte: u8, item: &[u8]) -> Result<BinOp, ReadError>
-    ensures { (rest : List ℕ) → Gives (λ x. (x, rest)) result (operator_of (length item.now) byte rest) }
+    ensures { (rest : List ℕ) → GivesRead (λ x. (x, rest)) result (operator_of (length item.now) byte rest) }
 {
     match byte {
         6 => Ok(BinOp::Or),
@@ -38,7 +38,7 @@ fn operator(byte: u8, item: &[u8]) -> Result<BinOp, ReadError>
 
 /// One of so many variables.
 pub fn variable_id_of(vars: usize, bytes: &[u8]) -> Result<(VarId, &[u8]), ReadError>
-    ensures { Gives (λ x. (x.0, x.1.now)) result (variable_id_at vars bytes.now) }
+    ensures { GivesRead (λ x. (x.0, x.1.now)) result (variable_id_at vars bytes.now) }
 {
     let (var, rest) = index_of(vars, bytes)?;
     Ok((VarId(var), rest))
@@ -52,7 +52,7 @@ fn node_tail_of<'a>(
     item: &[u8],
     bytes: &'a [u8],
 ) -> Result<(Node, &'a [u8]), ReadError>
-    ensures { Gives (λ x. (x.0, x.1.now)) result (node_of vars temporaries (length item.now) byte bytes.now) }
+    ensures { GivesRead (λ x. (x.0, x.1.now)) result (node_of vars temporaries (length item.now) byte bytes.now) }
 {
     match byte {
         1 => {
@@ -78,7 +78,7 @@ fn node_tail_of<'a>(
 
 /// A node, where a thread has so many temporaries.
 fn node_of(vars: usize, temporaries: usize, bytes: &[u8]) -> Result<(Node, &[u8]), ReadError>
-    ensures { Gives (λ x. (x.0, x.1.now)) result (node_at vars temporaries bytes.now) }
+    ensures { GivesRead (λ x. (x.0, x.1.now)) result (node_at vars temporaries bytes.now) }
 {
     let (byte, rest) = byte_of(bytes)?;
     node_tail_of(vars, temporaries, byte, bytes, rest)
@@ -92,7 +92,7 @@ fn nodes_of(
     count: u32,
     bytes: &[u8],
 ) -> Result<(Vec<Node>, &[u8]), ReadError>
-    ensures nodes { Gives (λ x. (x.0.items, x.1.now)) result
+    ensures nodes { GivesRead (λ x. (x.0.items, x.1.now)) result
         (items_at (λ _. node_at vars temporaries) [] count bytes.now) }
     ensures count { IfOk result (λ x. length x.0.items ≡ count) }
 {
@@ -118,7 +118,7 @@ fn leave_one(nodes: &[Node]) -> bool
 
 /// How many nodes an expression has.
 fn node_count_of(bytes: &[u8]) -> Result<(u32, &[u8]), ReadError>
-    ensures count { Gives (λ x. (x.0, x.1.now)) result
+    ensures count { GivesRead (λ x. (x.0, x.1.now)) result
         (in_range (λ count. nat_le count MOST_NODES) (number_at w32) bytes.now) }
     ensures few { IfOk result (λ x. x.0 ≤ MOST_NODES) }
 {
@@ -136,7 +136,7 @@ pub fn expression_of(
     temporaries: usize,
     bytes: &[u8],
 ) -> Result<(CodeExpr, &[u8]), ReadError>
-    ensures { Gives (λ x. (x.0, x.1.now)) result (expression_at vars temporaries bytes.now) }
+    ensures { GivesRead (λ x. (x.0, x.1.now)) result (expression_at vars temporaries bytes.now) }
 {
     let (count, rest) = node_count_of(bytes)?;
     let (nodes, rest) = nodes_of(alloc, vars, temporaries, count, rest)?;

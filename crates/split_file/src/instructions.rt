@@ -8,7 +8,7 @@ ghost use Rattle.std.specs.BTreeSet.{contains};
 ghost use Rattle.host_code.specs.CodeParts.{shape_of};
 ghost use Rattle.host_code.specs.Sound.{is_entrance, temporaries_after};
 ghost use Rattle.byte_format.specs.Reader.{items_at};
-ghost use Rattle.split_file.specs.Reader.{Gives};
+ghost use Rattle.split_file.specs.Reader.{GivesRead};
 ghost use Rattle.split_file.specs.Reading.{is_leaving, instruction_at, next_instruction_at, part_at, next_part_at};
 
 use crate::fault::ReadError;
@@ -68,7 +68,7 @@ fn instruction_of<'a>(
     bytes: &'a [u8],
 ) -> Result<(Instr, &'a [u8]), ReadError>
     requires { number < places }
-    ensures { Gives (λ x. (x.0, x.1.now)) result
+    ensures { GivesRead (λ x. (x.0, x.1.now)) result
         (instruction_at version (shape_of code.now) me places temporaries number bytes.now) }
 {
     let (label, rest) = index_of(code.labels.len(), bytes)?;
@@ -96,7 +96,7 @@ fn instructions_of<'a>(
     bytes: &'a [u8],
 ) -> Result<(Vec<Instr>, &'a [u8]), ReadError>
     requires { (at : ℕ) → contains nat_cmp entrances.now at ≡ is_entrance code.now.entries.items me at }
-    ensures { Gives (λ x. (x.0.items, x.1.now)) result
+    ensures { GivesRead (λ x. (x.0.items, x.1.now)) result
         (items_at (next_instruction_at version (shape_of code.now) me places) [] places bytes.now) }
 {
     let mut instructions = Vec::new(alloc);
@@ -129,7 +129,7 @@ fn part_of<'a>(
     me: HostId,
     bytes: &'a [u8],
 ) -> Result<(Part, &'a [u8]), ReadError>
-    ensures { Gives (λ x. (x.0, x.1.now)) result (part_at version (shape_of code.now) me bytes.now) }
+    ensures { GivesRead (λ x. (x.0, x.1.now)) result (part_at version (shape_of code.now) me bytes.now) }
 {
     let (places, rest) = u32_of(bytes)?;
     let entrances = entrances_of(alloc, &code.entries, me)?;
@@ -145,7 +145,7 @@ pub fn parts_of<'a>(
     count: u8,
     bytes: &'a [u8],
 ) -> Result<(Vec<Part>, &'a [u8]), ReadError>
-    ensures { Gives (λ x. (x.0.items, x.1.now)) result
+    ensures { GivesRead (λ x. (x.0.items, x.1.now)) result
         (items_at (next_part_at version (shape_of code.now)) [] count bytes.now) }
 {
     let mut parts = Vec::new(alloc);

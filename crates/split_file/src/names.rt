@@ -6,7 +6,7 @@ ghost use Rattle.std.specs.List.{position_or_len};
 ghost use Rattle.std.specs.Str.{bytes_eq};
 ghost use Rattle.std.specs.String.{string_bytes};
 ghost use Rattle.js_base.specs.Name.{is_name};
-ghost use Rattle.split_file.specs.Reader.{Gives, in_range, text_at};
+ghost use Rattle.split_file.specs.Reader.{GivesRead, in_range, text_at};
 ghost use Rattle.split_file.specs.Reading.{name_at, is_dot, is_variable_name};
 
 use crate::fault::ReadError;
@@ -21,7 +21,7 @@ const DOT: u8 = b'.';
 
 /// A name.
 pub fn name_of(alloc: Global, bytes: &[u8]) -> Result<(String, &[u8]), ReadError>
-    ensures { Gives (λ x. (string_bytes x.0, x.1.now)) result (name_at bytes.now) }
+    ensures { GivesRead (λ x. (string_bytes x.0, x.1.now)) result (name_at bytes.now) }
 {
     let (text, rest) = text_of(bytes)?;
     if !is_name(text) {
@@ -65,7 +65,7 @@ fn is_variable_name(text: &[u8]) -> bool
 
 /// The name of a variable, with that of its method in front.
 pub fn variable_name_of(alloc: Global, bytes: &[u8]) -> Result<(String, &[u8]), ReadError>
-    ensures { Gives (λ x. (string_bytes x.0, x.1.now)) result (in_range is_variable_name text_at bytes.now) }
+    ensures { GivesRead (λ x. (string_bytes x.0, x.1.now)) result (in_range is_variable_name text_at bytes.now) }
 {
     let (text, rest) = text_of(bytes)?;
     if !is_variable_name(text) {

@@ -5,7 +5,7 @@ ghost use Rattle.std.specs.Prelude.{◌≡◌, length, nat_lt};
 ghost use Rattle.std.specs.Int.{w16, w32, w64};
 ghost use Rattle.split_file.specs.declared.fault.Fault.TheVariants as fault;
 ghost use Rattle.split_file.specs.declared.fault.ReadError.TheVariants as error;
-ghost use Rattle.split_file.specs.Reader.{Gives, byte_at, bytes_at, number_at, integer_at, text_at};
+ghost use Rattle.split_file.specs.Reader.{GivesRead, byte_at, bytes_at, number_at, integer_at, text_at};
 ghost use Rattle.split_file.specs.Reading.{flag_at, index_at};
 
 use crate::fault::{Fault, ReadError};
@@ -19,7 +19,7 @@ pub fn out_of_range(bytes: &[u8]) -> ReadError
 
 /// The first byte.
 pub fn byte_of(bytes: &[u8]) -> Result<(u8, &[u8]), ReadError>
-    ensures { Gives (λ x. (x.0, x.1.now)) result (byte_at bytes.now) }
+    ensures { GivesRead (λ x. (x.0, x.1.now)) result (byte_at bytes.now) }
 {
     match bytes {
         [] => Err(ReadError::Fault(Fault::Short)),
@@ -29,7 +29,7 @@ pub fn byte_of(bytes: &[u8]) -> Result<(u8, &[u8]), ReadError>
 
 /// So many bytes.
 pub fn bytes_of(count: usize, bytes: &[u8]) -> Result<(&[u8], &[u8]), ReadError>
-    ensures { Gives (λ x. (x.0.now, x.1.now)) result (bytes_at count bytes.now) }
+    ensures { GivesRead (λ x. (x.0.now, x.1.now)) result (bytes_at count bytes.now) }
 {
     if bytes.len() < count {
         return Err(ReadError::Fault(Fault::Short));
@@ -39,7 +39,7 @@ pub fn bytes_of(count: usize, bytes: &[u8]) -> Result<(&[u8], &[u8]), ReadError>
 
 /// A number of two bytes.
 pub fn u16_of(bytes: &[u8]) -> Result<(u16, &[u8]), ReadError>
-    ensures { Gives (λ x. (x.0, x.1.now)) result (number_at w16 bytes.now) }
+    ensures { GivesRead (λ x. (x.0, x.1.now)) result (number_at w16 bytes.now) }
 {
     if bytes.len() < 2 {
         return Err(ReadError::Fault(Fault::Short));
@@ -50,7 +50,7 @@ pub fn u16_of(bytes: &[u8]) -> Result<(u16, &[u8]), ReadError>
 
 /// A number of four bytes.
 pub fn u32_of(bytes: &[u8]) -> Result<(u32, &[u8]), ReadError>
-    ensures { Gives (λ x. (x.0, x.1.now)) result (number_at w32 bytes.now) }
+    ensures { GivesRead (λ x. (x.0, x.1.now)) result (number_at w32 bytes.now) }
 {
     if bytes.len() < 4 {
         return Err(ReadError::Fault(Fault::Short));
@@ -62,7 +62,7 @@ pub fn u32_of(bytes: &[u8]) -> Result<(u32, &[u8]), ReadError>
 
 /// A number of eight bytes.
 pub fn u64_of(bytes: &[u8]) -> Result<(u64, &[u8]), ReadError>
-    ensures { Gives (λ x. (x.0, x.1.now)) result (number_at w64 bytes.now) }
+    ensures { GivesRead (λ x. (x.0, x.1.now)) result (number_at w64 bytes.now) }
 {
     if bytes.len() < 8 {
         return Err(ReadError::Fault(Fault::Short));
@@ -76,7 +76,7 @@ pub fn u64_of(bytes: &[u8]) -> Result<(u64, &[u8]), ReadError>
 
 /// A signed number of eight bytes.
 pub fn i64_of(bytes: &[u8]) -> Result<(i64, &[u8]), ReadError>
-    ensures { Gives (λ x. (x.0, x.1.now)) result (integer_at bytes.now) }
+    ensures { GivesRead (λ x. (x.0, x.1.now)) result (integer_at bytes.now) }
 {
     let (word, rest) = u64_of(bytes)?;
     Ok((word.cast_signed(), rest))
@@ -84,7 +84,7 @@ pub fn i64_of(bytes: &[u8]) -> Result<(i64, &[u8]), ReadError>
 
 /// A text, behind its length.
 pub fn text_of(bytes: &[u8]) -> Result<(&[u8], &[u8]), ReadError>
-    ensures { Gives (λ x. (x.0.now, x.1.now)) result (text_at bytes.now) }
+    ensures { GivesRead (λ x. (x.0.now, x.1.now)) result (text_at bytes.now) }
 {
     let (count, rest) = u32_of(bytes)?;
     bytes_of(count as usize, rest)
@@ -92,7 +92,7 @@ pub fn text_of(bytes: &[u8]) -> Result<(&[u8], &[u8]), ReadError>
 
 /// A number below a count.
 pub fn index_of(count: usize, bytes: &[u8]) -> Result<(u32, &[u8]), ReadError>
-    ensures { Gives (λ x. (x.0, x.1.now)) result (index_at count bytes.now) }
+    ensures { GivesRead (λ x. (x.0, x.1.now)) result (index_at count bytes.now) }
 {
     let (index, rest) = u32_of(bytes)?;
     if index as usize >= count {
@@ -103,7 +103,7 @@ pub fn index_of(count: usize, bytes: &[u8]) -> Result<(u32, &[u8]), ReadError>
 
 /// A byte that is 0 or 1.
 pub fn flag_of(bytes: &[u8]) -> Result<(bool, &[u8]), ReadError>
-    ensures { Gives (λ x. (x.0, x.1.now)) result (flag_at bytes.now) }
+    ensures { GivesRead (λ x. (x.0, x.1.now)) result (flag_at bytes.now) }
 {
     let (byte, rest) = byte_of(bytes)?;
     if byte > 1 {

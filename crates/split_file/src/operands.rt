@@ -8,7 +8,7 @@ ghost use Rattle.host_code.specs.declared.riders.TheConstants.{MOST_RIDERS};
 ghost use Rattle.host_code.specs.Code.{host_of_site};
 ghost use Rattle.host_code.specs.CodeParts.{shape_of};
 ghost use Rattle.byte_format.specs.Reader.{items_at};
-ghost use Rattle.split_file.specs.Reader.{Gives, in_range, number_at};
+ghost use Rattle.split_file.specs.Reader.{GivesRead, in_range, number_at};
 ghost use Rattle.split_file.specs.Reading.{field_id_at, other_host_at, own_site_at, own_entry_at, some_entry_at};
 ghost use Rattle.split_file.specs.Reading.{host_of_entry_at, other_host_of_entry_at, valued_at, sent_at, entered_at};
 ghost use Rattle.split_file.specs.Reading.{variable_id_at, riders_at};
@@ -23,7 +23,7 @@ use std::alloc::Global;
 
 /// A field of the code.
 pub fn field_id_of<'a>(code: &CodeParts, bytes: &'a [u8]) -> Result<(FieldId, &'a [u8]), ReadError>
-    ensures { Gives (λ x. (x.0, x.1.now)) result (field_id_at (shape_of code.now) bytes.now) }
+    ensures { GivesRead (λ x. (x.0, x.1.now)) result (field_id_at (shape_of code.now) bytes.now) }
 {
     let (field, rest) = index_of(code.fields.len(), bytes)?;
     Ok((FieldId(field), rest))
@@ -35,7 +35,7 @@ fn other_host_of<'a>(
     me: HostId,
     bytes: &'a [u8],
 ) -> Result<(HostId, &'a [u8]), ReadError>
-    ensures { Gives (λ x. (x.0, x.1.now)) result (other_host_at (shape_of code.now) me bytes.now) }
+    ensures { GivesRead (λ x. (x.0, x.1.now)) result (other_host_at (shape_of code.now) me bytes.now) }
 {
     let (host, rest) = byte_of(bytes)?;
     if host as usize >= code.hosts.len() || host == me.0 {
@@ -63,7 +63,7 @@ pub fn own_site_of<'a>(
     me: HostId,
     bytes: &'a [u8],
 ) -> Result<(SiteId, &'a [u8]), ReadError>
-    ensures { Gives (λ x. (x.0, x.1.now)) result (own_site_at (shape_of code.now) me bytes.now) }
+    ensures { GivesRead (λ x. (x.0, x.1.now)) result (own_site_at (shape_of code.now) me bytes.now) }
 {
     let (site, rest) = u32_of(bytes)?;
     if !is_site_on(&code.sites, site, me) {
@@ -78,7 +78,7 @@ pub fn own_entry_of<'a>(
     me: HostId,
     bytes: &'a [u8],
 ) -> Result<(EntryId, &'a [u8]), ReadError>
-    ensures { Gives (λ x. (x.0, x.1.now)) result (own_entry_at (shape_of code.now) me bytes.now) }
+    ensures { GivesRead (λ x. (x.0, x.1.now)) result (own_entry_at (shape_of code.now) me bytes.now) }
 {
     let (entry, rest) = u32_of(bytes)?;
     if entry == 0 || !is_entry_on(&code.entries, entry, me.0) {
@@ -92,7 +92,7 @@ pub fn some_entry_of<'a>(
     code: &CodeParts,
     bytes: &'a [u8],
 ) -> Result<(EntryId, &'a [u8]), ReadError>
-    ensures { Gives (λ x. (x.0, x.1.now)) result (some_entry_at (shape_of code.now) bytes.now) }
+    ensures { GivesRead (λ x. (x.0, x.1.now)) result (some_entry_at (shape_of code.now) bytes.now) }
 {
     let (entry, rest) = u32_of(bytes)?;
     if entry == 0 || entry as usize >= code.entries.len() {
@@ -107,7 +107,7 @@ pub fn host_of_entry_of<'a>(
     entry: EntryId,
     bytes: &'a [u8],
 ) -> Result<(HostId, &'a [u8]), ReadError>
-    ensures { Gives (λ x. (x.0, x.1.now)) result (host_of_entry_at (shape_of code.now) entry bytes.now) }
+    ensures { GivesRead (λ x. (x.0, x.1.now)) result (host_of_entry_at (shape_of code.now) entry bytes.now) }
 {
     let (host, rest) = byte_of(bytes)?;
     if host as usize >= code.hosts.len() || !is_entry_on(&code.entries, entry.0, host) {
@@ -123,7 +123,7 @@ fn other_host_of_entry_of<'a>(
     entry: EntryId,
     bytes: &'a [u8],
 ) -> Result<(HostId, &'a [u8]), ReadError>
-    ensures { Gives (λ x. (x.0, x.1.now)) result
+    ensures { GivesRead (λ x. (x.0, x.1.now)) result
         (other_host_of_entry_at (shape_of code.now) me entry bytes.now) }
 {
     let (host, rest) = byte_of(bytes)?;
@@ -143,7 +143,7 @@ pub fn valued_of<'a>(
     temporaries: usize,
     bytes: &'a [u8],
 ) -> Result<((VarId, CodeExpr), &'a [u8]), ReadError>
-    ensures { Gives (λ x. (x.0, x.1.now)) result (valued_at (shape_of code.now) temporaries bytes.now) }
+    ensures { GivesRead (λ x. (x.0, x.1.now)) result (valued_at (shape_of code.now) temporaries bytes.now) }
 {
     let (var, rest) = variable_id_of(code.vars.len(), bytes)?;
     let (value, rest) = expression_of(alloc, code.vars.len(), temporaries, rest)?;
@@ -156,7 +156,7 @@ pub fn sent_of<'a>(
     me: HostId,
     bytes: &'a [u8],
 ) -> Result<((VarId, HostId), &'a [u8]), ReadError>
-    ensures { Gives (λ x. (x.0, x.1.now)) result (sent_at (shape_of code.now) me bytes.now) }
+    ensures { GivesRead (λ x. (x.0, x.1.now)) result (sent_at (shape_of code.now) me bytes.now) }
 {
     let (var, rest) = variable_id_of(code.vars.len(), bytes)?;
     let (to, rest) = other_host_of(code, me, rest)?;
@@ -169,7 +169,7 @@ pub fn entered_of<'a>(
     me: HostId,
     bytes: &'a [u8],
 ) -> Result<((EntryId, HostId), &'a [u8]), ReadError>
-    ensures { Gives (λ x. (x.0, x.1.now)) result (entered_at (shape_of code.now) me bytes.now) }
+    ensures { GivesRead (λ x. (x.0, x.1.now)) result (entered_at (shape_of code.now) me bytes.now) }
 {
     let (entry, rest) = some_entry_of(code, bytes)?;
     let (on, rest) = other_host_of_entry_of(code, me, entry, rest)?;
@@ -178,7 +178,7 @@ pub fn entered_of<'a>(
 
 /// How many variables ride, 1 to 8.
 fn rider_count_of(bytes: &[u8]) -> Result<(u32, &[u8]), ReadError>
-    ensures count { Gives (λ x. (x.0, x.1.now)) result
+    ensures count { GivesRead (λ x. (x.0, x.1.now)) result
         (in_range (λ count. nat_le 1 count && nat_le count MOST_RIDERS) (number_at w32) bytes.now) }
     ensures some { IfOk result (λ x. 1 ≤ x.0) }
     ensures few { IfOk result (λ x. x.0 ≤ MOST_RIDERS) }
@@ -197,7 +197,7 @@ fn variable_ids_of(
     count: u32,
     bytes: &[u8],
 ) -> Result<(Vec<VarId>, &[u8]), ReadError>
-    ensures variables { Gives (λ x. (x.0.items, x.1.now)) result
+    ensures variables { GivesRead (λ x. (x.0.items, x.1.now)) result
         (items_at (λ _. variable_id_at vars) [] count bytes.now) }
     ensures count { IfOk result (λ x. length x.0.items ≡ count) }
 {
@@ -213,7 +213,7 @@ fn variable_ids_of(
 
 /// The variables whose values ride, 1 to 8, of so many.
 pub fn riders_of(alloc: Global, vars: usize, bytes: &[u8]) -> Result<(RiderVars, &[u8]), ReadError>
-    ensures { Gives (λ x. (x.0, x.1.now)) result (riders_at vars bytes.now) }
+    ensures { GivesRead (λ x. (x.0, x.1.now)) result (riders_at vars bytes.now) }
 {
     let (count, rest) = rider_count_of(bytes)?;
     let (riders, rest) = variable_ids_of(alloc, vars, count, rest)?;

@@ -3,7 +3,7 @@
 
 ghost use Rattle.std.specs.Prelude.{◌≡◌, length};
 ghost use Rattle.host_code.specs.CodeParts.{shape_of};
-ghost use Rattle.split_file.specs.Reader.{Gives};
+ghost use Rattle.split_file.specs.Reader.{GivesRead};
 ghost use Rattle.split_file.specs.Reading.{read_at, let_at, put_at, send_at, frame_at, arg_at, pass_at, push_at};
 ghost use Rattle.split_file.specs.Reading.{ask_at, go_at, call_at, ret_at, branch_at, go_with_at, call_with_at};
 ghost use Rattle.split_file.specs.Reading.{operation_of, operation_at};
@@ -27,7 +27,7 @@ fn read_of<'a>(
     temporaries: usize,
     bytes: &'a [u8],
 ) -> Result<(Op, &'a [u8]), ReadError>
-    ensures { Gives (λ x. (x.0, x.1.now)) result (read_at (shape_of code.now) temporaries bytes.now) }
+    ensures { GivesRead (λ x. (x.0, x.1.now)) result (read_at (shape_of code.now) temporaries bytes.now) }
 {
     let (field, rest) = field_id_of(code, bytes)?;
     let (index, rest) = expression_of(alloc, code.vars.len(), temporaries, rest)?;
@@ -41,7 +41,7 @@ fn let_of<'a>(
     temporaries: usize,
     bytes: &'a [u8],
 ) -> Result<(Op, &'a [u8]), ReadError>
-    ensures { Gives (λ x. (x.0, x.1.now)) result (let_at (shape_of code.now) temporaries bytes.now) }
+    ensures { GivesRead (λ x. (x.0, x.1.now)) result (let_at (shape_of code.now) temporaries bytes.now) }
 {
     let ((to, value), rest) = valued_of(alloc, code, temporaries, bytes)?;
     Ok((Op::Let(to, value), rest))
@@ -54,7 +54,7 @@ fn put_of<'a>(
     temporaries: usize,
     bytes: &'a [u8],
 ) -> Result<(Op, &'a [u8]), ReadError>
-    ensures { Gives (λ x. (x.0, x.1.now)) result (put_at (shape_of code.now) temporaries bytes.now) }
+    ensures { GivesRead (λ x. (x.0, x.1.now)) result (put_at (shape_of code.now) temporaries bytes.now) }
 {
     let (field, rest) = field_id_of(code, bytes)?;
     let (index, rest) = expression_of(alloc, code.vars.len(), temporaries, rest)?;
@@ -64,7 +64,7 @@ fn put_of<'a>(
 
 /// A variable that is forwarded, and the host.
 fn send_of<'a>(code: &CodeParts, me: HostId, bytes: &'a [u8]) -> Result<(Op, &'a [u8]), ReadError>
-    ensures { Gives (λ x. (x.0, x.1.now)) result (send_at (shape_of code.now) me bytes.now) }
+    ensures { GivesRead (λ x. (x.0, x.1.now)) result (send_at (shape_of code.now) me bytes.now) }
 {
     let ((var, to), rest) = sent_of(code, me, bytes)?;
     Ok((Op::Send(var, to), rest))
@@ -72,7 +72,7 @@ fn send_of<'a>(code: &CodeParts, me: HostId, bytes: &'a [u8]) -> Result<(Op, &'a
 
 /// The site of a new frame.
 fn frame_of<'a>(code: &CodeParts, me: HostId, bytes: &'a [u8]) -> Result<(Op, &'a [u8]), ReadError>
-    ensures { Gives (λ x. (x.0, x.1.now)) result (frame_at (shape_of code.now) me bytes.now) }
+    ensures { GivesRead (λ x. (x.0, x.1.now)) result (frame_at (shape_of code.now) me bytes.now) }
 {
     let (site, rest) = own_site_of(code, me, bytes)?;
     Ok((Op::Frame(site), rest))
@@ -85,7 +85,7 @@ fn arg_of<'a>(
     temporaries: usize,
     bytes: &'a [u8],
 ) -> Result<(Op, &'a [u8]), ReadError>
-    ensures { Gives (λ x. (x.0, x.1.now)) result (arg_at (shape_of code.now) temporaries bytes.now) }
+    ensures { GivesRead (λ x. (x.0, x.1.now)) result (arg_at (shape_of code.now) temporaries bytes.now) }
 {
     let ((to, value), rest) = valued_of(alloc, code, temporaries, bytes)?;
     Ok((Op::Arg(to, value), rest))
@@ -93,7 +93,7 @@ fn arg_of<'a>(
 
 /// A parameter that is forwarded, and the host.
 fn pass_of<'a>(code: &CodeParts, me: HostId, bytes: &'a [u8]) -> Result<(Op, &'a [u8]), ReadError>
-    ensures { Gives (λ x. (x.0, x.1.now)) result (pass_at (shape_of code.now) me bytes.now) }
+    ensures { GivesRead (λ x. (x.0, x.1.now)) result (pass_at (shape_of code.now) me bytes.now) }
 {
     let ((var, to), rest) = sent_of(code, me, bytes)?;
     Ok((Op::Pass(var, to), rest))
@@ -101,7 +101,7 @@ fn pass_of<'a>(code: &CodeParts, me: HostId, bytes: &'a [u8]) -> Result<(Op, &'a
 
 /// The entry that is pushed here.
 fn push_of<'a>(code: &CodeParts, me: HostId, bytes: &'a [u8]) -> Result<(Op, &'a [u8]), ReadError>
-    ensures { Gives (λ x. (x.0, x.1.now)) result (push_at (shape_of code.now) me bytes.now) }
+    ensures { GivesRead (λ x. (x.0, x.1.now)) result (push_at (shape_of code.now) me bytes.now) }
 {
     let (entry, rest) = own_entry_of(code, me, bytes)?;
     Ok((Op::Push(entry), rest))
@@ -109,7 +109,7 @@ fn push_of<'a>(code: &CodeParts, me: HostId, bytes: &'a [u8]) -> Result<(Op, &'a
 
 /// The entry that is to be pushed, and its host.
 fn ask_of<'a>(code: &CodeParts, me: HostId, bytes: &'a [u8]) -> Result<(Op, &'a [u8]), ReadError>
-    ensures { Gives (λ x. (x.0, x.1.now)) result (ask_at (shape_of code.now) me bytes.now) }
+    ensures { GivesRead (λ x. (x.0, x.1.now)) result (ask_at (shape_of code.now) me bytes.now) }
 {
     let ((entry, on), rest) = entered_of(code, me, bytes)?;
     Ok((Op::Ask(entry, on), rest))
@@ -117,7 +117,7 @@ fn ask_of<'a>(code: &CodeParts, me: HostId, bytes: &'a [u8]) -> Result<(Op, &'a 
 
 /// The entry to go on at, and its host.
 fn go_of<'a>(code: &CodeParts, me: HostId, bytes: &'a [u8]) -> Result<(Op, &'a [u8]), ReadError>
-    ensures { Gives (λ x. (x.0, x.1.now)) result (go_at (shape_of code.now) me bytes.now) }
+    ensures { GivesRead (λ x. (x.0, x.1.now)) result (go_at (shape_of code.now) me bytes.now) }
 {
     let ((entry, on), rest) = entered_of(code, me, bytes)?;
     Ok((Op::Go(entry, on), rest))
@@ -125,7 +125,7 @@ fn go_of<'a>(code: &CodeParts, me: HostId, bytes: &'a [u8]) -> Result<(Op, &'a [
 
 /// The entry that is called, and its host.
 fn call_of<'a>(code: &CodeParts, bytes: &'a [u8]) -> Result<(Op, &'a [u8]), ReadError>
-    ensures { Gives (λ x. (x.0, x.1.now)) result (call_at (shape_of code.now) bytes.now) }
+    ensures { GivesRead (λ x. (x.0, x.1.now)) result (call_at (shape_of code.now) bytes.now) }
 {
     let (entry, rest) = some_entry_of(code, bytes)?;
     let (on, rest) = host_of_entry_of(code, entry, rest)?;
@@ -139,7 +139,7 @@ fn ret_of<'a>(
     temporaries: usize,
     bytes: &'a [u8],
 ) -> Result<(Op, &'a [u8]), ReadError>
-    ensures { Gives (λ x. (x.0, x.1.now)) result (ret_at (shape_of code.now) temporaries bytes.now) }
+    ensures { GivesRead (λ x. (x.0, x.1.now)) result (ret_at (shape_of code.now) temporaries bytes.now) }
 {
     let ((to, value), rest) = valued_of(alloc, code, temporaries, bytes)?;
     Ok((Op::Ret(to, value), rest))
@@ -153,7 +153,7 @@ fn branch_of<'a>(
     places: usize,
     bytes: &'a [u8],
 ) -> Result<(Op, &'a [u8]), ReadError>
-    ensures { Gives (λ x. (x.0, x.1.now)) result (branch_at (shape_of code.now) temporaries places bytes.now) }
+    ensures { GivesRead (λ x. (x.0, x.1.now)) result (branch_at (shape_of code.now) temporaries places bytes.now) }
 {
     let (guard, rest) = expression_of(alloc, code.vars.len(), temporaries, bytes)?;
     let (target, rest) = index_of(places, rest)?;
@@ -167,7 +167,7 @@ fn go_with_of<'a>(
     me: HostId,
     bytes: &'a [u8],
 ) -> Result<(Op, &'a [u8]), ReadError>
-    ensures { Gives (λ x. (x.0, x.1.now)) result (go_with_at (shape_of code.now) me bytes.now) }
+    ensures { GivesRead (λ x. (x.0, x.1.now)) result (go_with_at (shape_of code.now) me bytes.now) }
 {
     let ((entry, on), rest) = entered_of(code, me, bytes)?;
     let (riders, rest) = riders_of(alloc, code.vars.len(), rest)?;
@@ -181,7 +181,7 @@ fn call_with_of<'a>(
     me: HostId,
     bytes: &'a [u8],
 ) -> Result<(Op, &'a [u8]), ReadError>
-    ensures { Gives (λ x. (x.0, x.1.now)) result (call_with_at (shape_of code.now) me bytes.now) }
+    ensures { GivesRead (λ x. (x.0, x.1.now)) result (call_with_at (shape_of code.now) me bytes.now) }
 {
     let ((entry, on), rest) = entered_of(code, me, bytes)?;
     let (riders, rest) = riders_of(alloc, code.vars.len(), rest)?;
@@ -200,7 +200,7 @@ fn operation_tail_of<'a>(
     item: &[u8],
     bytes: &'a [u8],
 ) -> Result<(Op, &'a [u8]), ReadError>
-    ensures { Gives (λ x. (x.0, x.1.now)) result
+    ensures { GivesRead (λ x. (x.0, x.1.now)) result
         (operation_of version (shape_of code.now) me temporaries places (length item.now) byte bytes.now) }
 {
     match byte {
@@ -235,7 +235,7 @@ pub fn operation<'a>(
     places: usize,
     bytes: &'a [u8],
 ) -> Result<(Op, &'a [u8]), ReadError>
-    ensures { Gives (λ x. (x.0, x.1.now)) result
+    ensures { GivesRead (λ x. (x.0, x.1.now)) result
         (operation_at version (shape_of code.now) me temporaries places bytes.now) }
 {
     let (byte, rest) = byte_of(bytes)?;

@@ -8,11 +8,11 @@ ghost use Rattle.host_code.specs.Code.{CodeShape, part_of};
 ghost use Rattle.host_code.specs.CodeParts.{shape_of};
 ghost use Rattle.split_file.specs.declared.error.SplitError.TheVariants as refusal;
 ghost use Rattle.split_file.specs.Spelling.{split_file};
-ghost use Rattle.split_file.specs.Reader.{Gives};
+ghost use Rattle.split_file.specs.Reader.{GivesRead};
 ghost use Rattle.split_file.specs.Reading.{magic_at, version_at, code_with, front_at, version_stands, entries_stand};
 ghost use Rattle.split_file.specs.Reading.{code_at};
 ghost use Rattle.split_file.specs.Shapes.{tables_shape, starts_shape};
-ghost use Rattle.split_file.specs.File.{IsRefusal, IsRealCode, file_code};
+ghost use Rattle.split_file.specs.File.{IsSplitRefusal, IsRealCode, file_code};
 
 use crate::error::SplitError;
 use crate::fault::{Fault, ReadError};
@@ -46,7 +46,7 @@ pub struct Front {
 
 /// Reads how the file begins.
 fn magic_of(bytes: &[u8]) -> Result<&[u8], ReadError>
-    ensures { Gives (λ rest. (tt, rest.now)) result (magic_at bytes.now) }
+    ensures { GivesRead (λ rest. (tt, rest.now)) result (magic_at bytes.now) }
 {
     let (magic, rest) = bytes_of(8, bytes)?;
     if magic != MAGIC.as_slice() {
@@ -57,7 +57,7 @@ fn magic_of(bytes: &[u8]) -> Result<&[u8], ReadError>
 
 /// Reads the version, and how many bytes there are from it on.
 fn version_of(bytes: &[u8]) -> Result<((u16, usize), &[u8]), ReadError>
-    ensures { Gives (λ x. (x.0, x.1.now)) result (version_at bytes.now) }
+    ensures { GivesRead (λ x. (x.0, x.1.now)) result (version_at bytes.now) }
 {
     let (version, rest) = u16_of(bytes)?;
     if version != PLAIN && version != RIDING {
@@ -68,7 +68,7 @@ fn version_of(bytes: &[u8]) -> Result<((u16, usize), &[u8]), ReadError>
 
 /// All that stands before the instructions.
 fn front_of(alloc: Global, bytes: &[u8]) -> Result<((CodeParts, Front), &[u8]), ReadError>
-    ensures front { Gives (λ x. ((shape_of x.0.0, x.0.1), x.1.now)) result (front_at bytes.now) }
+    ensures front { GivesRead (λ x. ((shape_of x.0.0, x.0.1), x.1.now)) result (front_at bytes.now) }
     ensures few_hosts { IfOk result (λ x. length x.0.0.hosts.items ≤ HOSTS) }
     ensures few_entries { IfOk result (λ x. length x.0.0.entries.items ≤ MOST_ITEMS) }
     ensures behind { IfOk result (λ x. x.0.1.behind < 2 ^ 63) }
@@ -127,7 +127,7 @@ fn part_len(code: &CodeParts, host: HostId) -> usize
 
 /// Sees that the file is of the version of its code.
 fn check_version(code: &CodeParts, front: Front) -> Result<(), ReadError>
-    ensures { (bytes : List ℕ) → Gives (λ _. (tt, bytes)) result
+    ensures { (bytes : List ℕ) → GivesRead (λ _. (tt, bytes)) result
         (version_stands (shape_of code.now) front bytes) }
 {
     if front.version != version_with(&code.parts) {
@@ -140,7 +140,7 @@ fn check_version(code: &CodeParts, front: Front) -> Result<(), ReadError>
 fn check_entries(code: &CodeParts, behind: usize) -> Result<(), ReadError>
     requires few { length code.now.entries.items ≤ MOST_ITEMS }
     requires behind { behind < 2 ^ 63 }
-    ensures { (bytes : List ℕ) → Gives (λ _. (tt, bytes)) result
+    ensures { (bytes : List ℕ) → GivesRead (λ _. (tt, bytes)) result
         (entries_stand (shape_of code.now) code.now.entries.items behind bytes) }
 {
     let mut left = code.entries.len();
@@ -156,7 +156,7 @@ fn check_entries(code: &CodeParts, behind: usize) -> Result<(), ReadError>
 
 /// The parts of a code, all of the bytes.
 fn code_of(alloc: Global, bytes: &[u8]) -> Result<(CodeParts, &[u8]), ReadError>
-    ensures { Gives (λ x. (shape_of x.0, x.1.now)) result (code_at bytes.now) }
+    ensures { GivesRead (λ x. (shape_of x.0, x.1.now)) result (code_at bytes.now) }
 {
     let ((mut code, front), rest) = front_of(alloc, bytes)?;
     let (parts, rest) = parts_of(alloc, front.version, &code, code.hosts.len() as u8, rest)?;
@@ -172,7 +172,7 @@ fn code_of(alloc: Global, bytes: &[u8]) -> Result<(CodeParts, &[u8]), ReadError>
 /// The refusal for a fault in so many bytes.
 fn refusal(total: usize, error: ReadError) -> SplitError
     requires { total ≤ MOST_ITEMS }
-    ensures { IsRefusal total error result }
+    ensures { IsSplitRefusal total error result }
 {
     match error {
         ReadError::OutOfMemory => SplitError::OutOfMemory,

@@ -5,7 +5,7 @@ ghost use Rattle.std.specs.Prelude.{◌≡◌, ◌≤◌, ◌<◌, ◌^◌, ◌=
 ghost use Rattle.std.specs.Int.{w32};
 ghost use Rattle.host_code.specs.declared.code.TheConstants.{MOST_ITEMS};
 ghost use Rattle.byte_format.specs.Reader.{items_at};
-ghost use Rattle.split_file.specs.Reader.{Gives, in_range, list_at, number_at};
+ghost use Rattle.split_file.specs.Reader.{GivesRead, in_range, list_at, number_at};
 ghost use Rattle.split_file.specs.Reading.{host_id_at, is_empty, entry_row_at, is_entry_on, root_at, main_at};
 ghost use Rattle.split_file.specs.Reading.{starts_at};
 ghost use Rattle.split_file.specs.Shapes.{starts_shape};
@@ -31,7 +31,7 @@ pub struct Starts {
 /// The place of an entry, which is 0 for the first of all.
 #[tactic(auto, unfolding(byte_format::specs::Reader::sequel, byte_format::specs::Reader::given, crate::specs::Reader::place, byte_format::specs::Reader::require, crate::specs::Reader::in_range,))]
 fn entry_place_of(is_first: bool, bytes: &[u8]) -> Result<(u32, &[u8]), ReadError>
-    ensures { Gives (λ x. (x.0, x.1.now)) result
+    ensures { GivesRead (λ x. (x.0, x.1.now)) result
         (in_range (λ at. not is_first || at == 0) (number_at w32) bytes.now) }
 {
     let (at, rest) = u32_of(bytes)?;
@@ -48,7 +48,7 @@ fn entry_row_of(
     is_first: bool,
     bytes: &[u8],
 ) -> Result<(Entry, &[u8]), ReadError>
-    ensures { Gives (λ x. (x.0, x.1.now)) result (entry_row_at hosts labels is_first bytes.now) }
+    ensures { GivesRead (λ x. (x.0, x.1.now)) result (entry_row_at hosts labels is_first bytes.now) }
 {
     let (host, rest) = host_id_of(hosts, bytes)?;
     let (at, rest) = entry_place_of(is_first, rest)?;
@@ -71,7 +71,7 @@ fn entry_rows_of(
     count: u32,
     bytes: &[u8],
 ) -> Result<(Vec<Entry>, &[u8]), ReadError>
-    ensures entries { Gives (λ x. (x.0.items, x.1.now)) result
+    ensures entries { GivesRead (λ x. (x.0.items, x.1.now)) result
         (items_at (λ before. entry_row_at hosts labels (is_empty before)) [] count bytes.now) }
     ensures count { IfOk result (λ x. length x.0.items ≡ count) }
 {
@@ -94,7 +94,7 @@ fn entries_of(
     labels: usize,
     bytes: &[u8],
 ) -> Result<(Vec<Entry>, &[u8]), ReadError>
-    ensures entries { Gives (λ x. (x.0.items, x.1.now)) result
+    ensures entries { GivesRead (λ x. (x.0.items, x.1.now)) result
         (list_at (λ before. entry_row_at hosts labels (is_empty before)) bytes.now) }
     ensures few { IfOk result (λ x. length x.0.items ≤ MOST_ITEMS) }
 {
@@ -109,7 +109,7 @@ fn site_rows_of(
     count: u32,
     bytes: &[u8],
 ) -> Result<(Vec<HostId>, &[u8]), ReadError>
-    ensures { Gives (λ x. (x.0.items, x.1.now)) result (items_at (λ _. host_id_at hosts) [] count bytes.now) }
+    ensures { GivesRead (λ x. (x.0.items, x.1.now)) result (items_at (λ _. host_id_at hosts) [] count bytes.now) }
 {
     let mut sites = Vec::new(alloc);
     let mut rest = bytes;
@@ -123,7 +123,7 @@ fn site_rows_of(
 
 /// The hosts of the sites.
 fn sites_of(alloc: Global, hosts: usize, bytes: &[u8]) -> Result<(Vec<HostId>, &[u8]), ReadError>
-    ensures { Gives (λ x. (x.0.items, x.1.now)) result (list_at (λ _. host_id_at hosts) bytes.now) }
+    ensures { GivesRead (λ x. (x.0.items, x.1.now)) result (list_at (λ _. host_id_at hosts) bytes.now) }
 {
     let (count, rest) = u32_of(bytes)?;
     site_rows_of(alloc, hosts, count, rest)
@@ -141,7 +141,7 @@ pub fn is_entry_on(entries: &[Entry], number: u32, host: u8) -> bool
 
 /// The root host, which has the first entry.
 fn root_of<'a>(entries: &[Entry], bytes: &'a [u8]) -> Result<(HostId, &'a [u8]), ReadError>
-    ensures { Gives (λ x. (x.0, x.1.now)) result (root_at entries.now bytes.now) }
+    ensures { GivesRead (λ x. (x.0, x.1.now)) result (root_at entries.now bytes.now) }
 {
     let (root, rest) = byte_of(bytes)?;
     if !is_entry_on(entries, 0, root) {
@@ -156,7 +156,7 @@ fn main_of<'a>(
     root: HostId,
     bytes: &'a [u8],
 ) -> Result<(EntryId, &'a [u8]), ReadError>
-    ensures { Gives (λ x. (x.0, x.1.now)) result (main_at entries.now root bytes.now) }
+    ensures { GivesRead (λ x. (x.0, x.1.now)) result (main_at entries.now root bytes.now) }
 {
     let (main, rest) = u32_of(bytes)?;
     if !is_entry_on(entries, main, root.0) {
@@ -172,7 +172,7 @@ pub fn starts_of(
     labels: usize,
     bytes: &[u8],
 ) -> Result<(Starts, &[u8]), ReadError>
-    ensures starts { Gives (λ x. (starts_shape x.0, x.1.now)) result (starts_at hosts labels bytes.now) }
+    ensures starts { GivesRead (λ x. (starts_shape x.0, x.1.now)) result (starts_at hosts labels bytes.now) }
     ensures few { IfOk result (λ x. length x.0.entries.items ≤ MOST_ITEMS) }
     ensures behind { IfOk result (λ x. x.0.behind < 2 ^ 63) }
 {

@@ -5,7 +5,7 @@ ghost use Rattle.std.specs.Prelude.{◌≡◌, ◌+◌, ◌≤◌, length, [], I
 ghost use Rattle.std.specs.Int.{w32, w64};
 ghost use Rattle.js_base.specs.declared.limits.TheConstants.{HOSTS, ELEMENTS};
 ghost use Rattle.byte_format.specs.Reader.{items_at};
-ghost use Rattle.split_file.specs.Reader.{Gives, in_range, list_at, number_at};
+ghost use Rattle.split_file.specs.Reader.{GivesRead, in_range, list_at, number_at};
 ghost use Rattle.split_file.specs.Reading.{host_id_at, label_at, host_row_at, hosts_at, shape_at, field_row_at};
 ghost use Rattle.split_file.specs.Reading.{variable_row_at, tables_at, elements_of, is_size};
 ghost use Rattle.split_file.specs.Shapes.{tables_shape};
@@ -30,7 +30,7 @@ pub struct Tables {
 
 /// One of so many hosts.
 pub fn host_id_of(hosts: usize, bytes: &[u8]) -> Result<(HostId, &[u8]), ReadError>
-    ensures { Gives (λ x. (x.0, x.1.now)) result (host_id_at hosts bytes.now) }
+    ensures { GivesRead (λ x. (x.0, x.1.now)) result (host_id_at hosts bytes.now) }
 {
     let (host, rest) = byte_of(bytes)?;
     if host as usize >= hosts {
@@ -41,7 +41,7 @@ pub fn host_id_of(hosts: usize, bytes: &[u8]) -> Result<(HostId, &[u8]), ReadErr
 
 /// A word for each owner of a label.
 fn rows_of(bytes: &[u8]) -> Result<([u64; PRINCIPALS], &[u8]), ReadError>
-    ensures { Gives (λ x. (x.0, x.1.now)) result (items_at (λ _. number_at w64) [] PRINCIPALS bytes.now) }
+    ensures { GivesRead (λ x. (x.0, x.1.now)) result (items_at (λ _. number_at w64) [] PRINCIPALS bytes.now) }
 {
     let mut rows = [0; PRINCIPALS];
     let mut rest = bytes;
@@ -55,7 +55,7 @@ fn rows_of(bytes: &[u8]) -> Result<([u64; PRINCIPALS], &[u8]), ReadError>
 
 /// A label.
 fn label_of(bytes: &[u8]) -> Result<(Label, &[u8]), ReadError>
-    ensures { Gives (λ x. (x.0, x.1.now)) result (label_at bytes.now) }
+    ensures { GivesRead (λ x. (x.0, x.1.now)) result (label_at bytes.now) }
 {
     let (rows, rest) = rows_of(bytes)?;
     let (trust, rest) = u64_of(rest)?;
@@ -64,7 +64,7 @@ fn label_of(bytes: &[u8]) -> Result<(Label, &[u8]), ReadError>
 
 /// A host.
 fn host_row_of(alloc: Global, bytes: &[u8]) -> Result<(CodeHost, &[u8]), ReadError>
-    ensures { Gives (λ x. (x.0, x.1.now)) result (host_row_at bytes.now) }
+    ensures { GivesRead (λ x. (x.0, x.1.now)) result (host_row_at bytes.now) }
 {
     let (name, rest) = name_of(alloc, bytes)?;
     let (label, rest) = label_of(rest)?;
@@ -77,7 +77,7 @@ fn host_rows_of(
     count: u32,
     bytes: &[u8],
 ) -> Result<(Vec<CodeHost>, &[u8]), ReadError>
-    ensures hosts { Gives (λ x. (x.0.items, x.1.now)) result (items_at (λ _. host_row_at) [] count bytes.now) }
+    ensures hosts { GivesRead (λ x. (x.0.items, x.1.now)) result (items_at (λ _. host_row_at) [] count bytes.now) }
     ensures count { IfOk result (λ x. length x.0.items ≡ count) }
 {
     let mut hosts = Vec::new(alloc);
@@ -92,7 +92,7 @@ fn host_rows_of(
 
 /// The hosts, of which there are 1 to 16.
 fn hosts_of(alloc: Global, bytes: &[u8]) -> Result<(Vec<CodeHost>, &[u8]), ReadError>
-    ensures hosts { Gives (λ x. (x.0.items, x.1.now)) result (hosts_at bytes.now) }
+    ensures hosts { GivesRead (λ x. (x.0.items, x.1.now)) result (hosts_at bytes.now) }
     ensures few { IfOk result (λ x. length x.0.items ≤ HOSTS) }
 {
     let (count, rest) = u32_of(bytes)?;
@@ -104,7 +104,7 @@ fn hosts_of(alloc: Global, bytes: &[u8]) -> Result<(Vec<CodeHost>, &[u8]), ReadE
 
 /// So many labels.
 fn label_rows_of(alloc: Global, count: u32, bytes: &[u8]) -> Result<(Vec<Label>, &[u8]), ReadError>
-    ensures { Gives (λ x. (x.0.items, x.1.now)) result (items_at (λ _. label_at) [] count bytes.now) }
+    ensures { GivesRead (λ x. (x.0.items, x.1.now)) result (items_at (λ _. label_at) [] count bytes.now) }
 {
     let mut labels = Vec::new(alloc);
     let mut rest = bytes;
@@ -118,7 +118,7 @@ fn label_rows_of(alloc: Global, count: u32, bytes: &[u8]) -> Result<(Vec<Label>,
 
 /// The labels.
 fn labels_of(alloc: Global, bytes: &[u8]) -> Result<(Vec<Label>, &[u8]), ReadError>
-    ensures { Gives (λ x. (x.0.items, x.1.now)) result (list_at (λ _. label_at) bytes.now) }
+    ensures { GivesRead (λ x. (x.0.items, x.1.now)) result (list_at (λ _. label_at) bytes.now) }
 {
     let (count, rest) = u32_of(bytes)?;
     label_rows_of(alloc, count, rest)
@@ -127,7 +127,7 @@ fn labels_of(alloc: Global, bytes: &[u8]) -> Result<(Vec<Label>, &[u8]), ReadErr
 /// A size within the limits, where there are so many elements before.
 fn size_of(before: u32, bytes: &[u8]) -> Result<(u32, &[u8]), ReadError>
     requires { before ≤ ELEMENTS }
-    ensures size { Gives (λ x. (x.0, x.1.now)) result (in_range (is_size before) (number_at w32) bytes.now) }
+    ensures size { GivesRead (λ x. (x.0, x.1.now)) result (in_range (is_size before) (number_at w32) bytes.now) }
     ensures within { IfOk result (λ x. before + x.0 ≤ ELEMENTS) }
 {
     let (size, rest) = u32_of(bytes)?;
@@ -140,7 +140,7 @@ fn size_of(before: u32, bytes: &[u8]) -> Result<(u32, &[u8]), ReadError>
 /// The size of a field, and whether it is an array.
 fn shape_of(before: u32, bytes: &[u8]) -> Result<((u32, bool), &[u8]), ReadError>
     requires { before ≤ ELEMENTS }
-    ensures shape { Gives (λ x. (x.0, x.1.now)) result (shape_at before bytes.now) }
+    ensures shape { GivesRead (λ x. (x.0, x.1.now)) result (shape_at before bytes.now) }
     ensures within { IfOk result (λ x. before + x.0.0 ≤ ELEMENTS) }
 {
     let (size, rest) = size_of(before, bytes)?;
@@ -160,7 +160,7 @@ fn field_row_of(
     bytes: &[u8],
 ) -> Result<(CodeField, &[u8]), ReadError>
     requires { before ≤ ELEMENTS }
-    ensures field { Gives (λ x. (x.0, x.1.now)) result (field_row_at hosts labels before bytes.now) }
+    ensures field { GivesRead (λ x. (x.0, x.1.now)) result (field_row_at hosts labels before bytes.now) }
     ensures within { IfOk result (λ x. before + x.0.size ≤ ELEMENTS) }
 {
     let (name, rest) = name_of(alloc, bytes)?;
@@ -179,7 +179,7 @@ fn field_rows_of(
     count: u32,
     bytes: &[u8],
 ) -> Result<(Vec<CodeField>, &[u8]), ReadError>
-    ensures { Gives (λ x. (x.0.items, x.1.now)) result
+    ensures { GivesRead (λ x. (x.0.items, x.1.now)) result
         (items_at (λ before. field_row_at hosts labels (elements_of before)) [] count bytes.now) }
 {
     let mut fields = Vec::new(alloc);
@@ -201,7 +201,7 @@ fn fields_of<'a>(
     labels: &[Label],
     bytes: &'a [u8],
 ) -> Result<(Vec<CodeField>, &'a [u8]), ReadError>
-    ensures { Gives (λ x. (x.0.items, x.1.now)) result
+    ensures { GivesRead (λ x. (x.0.items, x.1.now)) result
         (list_at (λ before. field_row_at (length hosts.now) (length labels.now) (elements_of before)) bytes.now) }
 {
     let (count, rest) = u32_of(bytes)?;
@@ -214,7 +214,7 @@ fn variable_row_of(
     labels: usize,
     bytes: &[u8],
 ) -> Result<(CodeVar, &[u8]), ReadError>
-    ensures { Gives (λ x. (x.0, x.1.now)) result (variable_row_at labels bytes.now) }
+    ensures { GivesRead (λ x. (x.0, x.1.now)) result (variable_row_at labels bytes.now) }
 {
     let (name, rest) = variable_name_of(alloc, bytes)?;
     let (label, rest) = index_of(labels, rest)?;
@@ -228,7 +228,7 @@ fn variable_rows_of(
     count: u32,
     bytes: &[u8],
 ) -> Result<(Vec<CodeVar>, &[u8]), ReadError>
-    ensures { Gives (λ x. (x.0.items, x.1.now)) result
+    ensures { GivesRead (λ x. (x.0.items, x.1.now)) result
         (items_at (λ _. variable_row_at labels) [] count bytes.now) }
 {
     let mut vars = Vec::new(alloc);
@@ -247,7 +247,7 @@ fn variables_of<'a>(
     labels: &[Label],
     bytes: &'a [u8],
 ) -> Result<(Vec<CodeVar>, &'a [u8]), ReadError>
-    ensures { Gives (λ x. (x.0.items, x.1.now)) result
+    ensures { GivesRead (λ x. (x.0.items, x.1.now)) result
         (list_at (λ _. variable_row_at (length labels.now)) bytes.now) }
 {
     let (count, rest) = u32_of(bytes)?;
@@ -256,7 +256,7 @@ fn variables_of<'a>(
 
 /// What instructions name.
 pub fn tables_of(alloc: Global, bytes: &[u8]) -> Result<(Tables, &[u8]), ReadError>
-    ensures tables { Gives (λ x. (tables_shape x.0, x.1.now)) result (tables_at bytes.now) }
+    ensures tables { GivesRead (λ x. (tables_shape x.0, x.1.now)) result (tables_at bytes.now) }
     ensures few { IfOk result (λ x. length x.0.hosts.items ≤ HOSTS) }
 {
     let (hosts, rest) = hosts_of(alloc, bytes)?;

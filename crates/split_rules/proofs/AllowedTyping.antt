@@ -38,7 +38,8 @@ use Rattle.need_labels.proofs.Ordered.{use_numbered}
 use Rattle.msg_cost.specs.Moves.{PlannedShape, is_trusted_for}
 use Rattle.msg_cost.proofs.Trusted.{test_decides}
 use Rattle.split_rules.specs.Placed.{PlacedProgram, planned_from}
-use Rattle.split_rules.specs.Positions.{statements_of, number_of, run, all_due, all_statements, IsIn, IsOf}
+use Rattle.split_rules.specs.Positions.{statements_of, number_of, run, all_due, all_statements, IsStatementOfMethod}
+use Rattle.split_rules.specs.Positions.{IsOf}
 use Rattle.split_rules.specs.Allowed.{IsTrustedHost, IsAllowed}
 use Rattle.split_rules.specs.Typable.{IsTrustedThere, IsTrustedInside, AreTrusted, IsTypableMethod, IsTypable}
 use Rattle.split_rules.specs.Typing.{AreDueOn, Covers, body_of}
@@ -300,7 +301,7 @@ of_program program number method is (x ∷ xs) all =
 
 of_method : (program : ProgramTree) (number : MethodId) (method : MethodTree) → method_at program number ≡ Some method →
     (xs : List BlockTree) → AllByRecursion (λ x. Any (λ one. one ≡ x) (all_statements method.body)) xs →
-    AllByRecursion (IsIn program number) xs
+    AllByRecursion (IsStatementOfMethod program number) xs
 of_method program number method is [] all = tt
 of_method program number method is (x ∷ xs) all =
     let P : Option MethodTree → Type 0 = λ found. IsSomeAnd found (λ tree. Any (λ one. one ≡ x) (all_statements
@@ -309,7 +310,8 @@ of_method program number method is (x ∷ xs) all =
 
 -- all that is in the body of a method is in the method
 pub body_of_method : (program : ProgramTree) (number : MethodId) (method : MethodTree) →
-    method_at program number ≡ Some method → AllByRecursion (IsIn program number) (all_statements method.body)
+    method_at program number ≡ Some method →
+    AllByRecursion (IsStatementOfMethod program number) (all_statements method.body)
 body_of_method program number method is =
     of_method program number method is (all_statements method.body) (each_in (all_statements method.body))
 

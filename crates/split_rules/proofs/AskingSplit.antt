@@ -19,16 +19,16 @@ use Rattle.entry_check.specs.Checks.{MayRide, MaySee, label_at, label_of_host}
 use Rattle.need_labels.specs.Plan.{field_host}
 use Rattle.msg_cost.specs.Moves.{PlannedShape, is_trusted_for}
 use Rattle.split_rules.specs.Placed.{PlacedProgram, planned_from}
-use Rattle.split_rules.specs.Emissions.{Emission, instruction, Named}
+use Rattle.split_rules.specs.Emissions.{Emission, instruction, NamedEntry}
 use Rattle.split_rules.specs.Allowed.{IsTrustedHost, IsAllowed}
-use Rattle.split_rules.specs.Held.{IsHeld}
-use Rattle.split_rules.specs.Asking.{IsGranted, IsSeenBy, AreGranted, TellsNoMore}
+use Rattle.split_rules.specs.Held.{IsWellHeld}
+use Rattle.split_rules.specs.Asking.{IsGranted, IsLabelSeenBy, AreGranted, TellsNoMore}
 use Rattle.split_rules.specs.Asking as asking
-use Rattle.split_rules.specs.Positions.{IsOf, number_of, Due, statement_due, Position, Entrance, Forward, calm}
+use Rattle.split_rules.specs.Positions.{IsOf, number_of, DueWork, statement_due, Position, Entrance, Forward, calm}
 use Rattle.split_rules.specs.SplitCode.{entries_in, landed, code_labels, label_place, code_of_emissions, split_code}
 use Rattle.split_rules.specs.Splittable.{IsSplittable}
 use Rattle.split_rules.specs.TypedCode.{Table, IsTypedOp, IsTypedCode}
-use Rattle.split_rules.specs.Typing.{EntryIs, AreDueOn, AreSourced, IsTrustedAt, Gives, need_due}
+use Rattle.split_rules.specs.Typing.{EntryIs, AreDueOn, AreSourced, IsTrustedAt, GivesVariable, need_due}
 use Rattle.split_rules.specs.Walk.{program_emissions}
 use Rattle.split_rules.proofs.BackedLabels.{all_second}
 use Rattle.split_rules.proofs.AllowedTyping.{allowed_typable}
@@ -67,7 +67,7 @@ both_held planned host first second one two = by (slice_get planned.hosts.hosts 
     by (Some row) trusts also = both_needed row.label first second trusts also
 
 -- a host that is trusted for all that is due is trusted for its need
-need_held : (planned : PlannedShape) (host : HostId) (label : Label) → Sees planned host label → (due : List Due) →
+need_held : (planned : PlannedShape) (host : HostId) (label : Label) → Sees planned host label → (due : List DueWork) →
     AreDueOn planned host due → IsTrustedHost planned.hosts (need_due planned due) host
 need_held planned host label sees [] trusted = nothing_held planned host label sees
 need_held planned host label sees (item ∷ due) trusted =
@@ -80,7 +80,7 @@ need_held planned host label sees (item ∷ due) trusted =
 -- an entry that is named has the need of what is due there, as the table says it
 record IsDueAt (planned : PlannedShape) (table : Table) (host : HostId) (number : ℕ) : Type 0 where
   position : Position
-  due : List Due
+  due : List DueWork
   is : EntryIs table.entries number position (need_due planned due)
   trusted : AreDueOn planned host due
 
@@ -88,7 +88,7 @@ named_need : (placed : PlacedProgram) (emissions : List Emission) (table : Table
     let planned = planned_from placed in
     IsTypedCode planned (code_of_emissions placed.labelled placed.hosts planned emissions) table →
     (host : HostId) (label : Label) →
-    Sees planned host label → (number : ℕ) → 0 < number → (named : Named) →
+    Sees planned host label → (number : ℕ) → 0 < number → (named : NamedEntry) →
     slice_get (entries_in emissions) number ≡ Some named → IsDueAt planned table host number →
     IsTrustedHost placed.hosts named.need host
 named_need placed emissions table typed host label sees zero some named is due_at =
@@ -119,12 +119,12 @@ ask_due : (planned : PlannedShape) (table : Table) (me : HostId) (place : ℕ) (
     IsDueAt planned table me there.0
 ask_due planned table me place there on trusted typed =
     let cuts = typed.0 in
-    let P : List Due → Type 0 = λ due. AreDueOn planned me due in
+    let P : List DueWork → Type 0 = λ due. AreDueOn planned me due in
     record {
       position = _;
       due = cuts.behind;
       is = cuts.pushed;
-      trusted = all_second (λ (item : Due). (is_trusted_for planned me (number_of (statement_due item)) ≡ true)
+      trusted = all_second (λ (item : DueWork). (is_trusted_for planned me (number_of (statement_due item)) ≡ true)
           × IsOf planned.program (statement_due item))
           (table.at me.0 (suc place)).due cuts.behind (subst P cuts.due trusted);
     }
@@ -143,7 +143,7 @@ source_affected : (placed : PlacedProgram) (emissions : List Emission) (table : 
     IsAsking placed emissions table → (me : HostId) (source : BlockTree) (x : VarId) →
     let planned = planned_from placed in
     IsTrustedHost planned.hosts (slice_index planned.needs.need (number_of source).0) me →
-    IsOf planned.program source → Gives planned source x → AffectsVariable placed.labelled planned me x
+    IsOf planned.program source → GivesVariable planned source x → AffectsVariable placed.labelled planned me x
 source_affected placed emissions table asks me source x trusted is_of gives =
     by (slice_get planned.hosts.hosts me.0) refl trusted
   where
@@ -248,8 +248,8 @@ field_seen : (placed : PlacedProgram) (emissions : List Emission) (me : HostId) 
     let planned = planned_from placed in
     let code = code_of_emissions placed.labelled placed.hosts planned emissions in
     IsSomeAnd (slice_get placed.labelled.program.fields field.0) Holds →
-    ((tree : FieldTree) → Holds tree → IsSeenBy code label (field_host placed.plan field)) →
-    asking.IfElsewhere code me field (IsSeenBy code label)
+    ((tree : FieldTree) → Holds tree → IsLabelSeenBy code label (field_host placed.plan field)) →
+    asking.IfElsewhere code me field (IsLabelSeenBy code label)
 field_seen placed emissions me label field Holds well seen =
     by (slice_get placed.labelled.program.fields field.0) refl well
   where
@@ -257,7 +257,7 @@ field_seen placed emissions me label field Holds well seen =
     code = code_of_emissions placed.labelled placed.hosts (planned_from placed) emissions
 
     by : (found : Option FieldTree) → slice_get placed.labelled.program.fields field.0 ≡ found → IsSomeAnd found Holds →
-        asking.IfElsewhere code me field (IsSeenBy code label)
+        asking.IfElsewhere code me field (IsLabelSeenBy code label)
     by None is never = absurd never
     by (Some tree) is holds =
         field_told placed emissions me label field tree is (seen tree holds)
@@ -275,7 +275,7 @@ op_tells placed emissions me label pc is what well = by what well
     code : CodeShape
     code = code_of_emissions placed.labelled placed.hosts (planned_from placed) emissions
 
-    seen : (host : HostId) → Sees (planned_from placed) host pc → IsSeenBy code label host
+    seen : (host : HostId) → Sees (planned_from placed) host pc → IsLabelSeenBy code label host
     seen host sees =
         let P : Option Label → Type 0 = λ found. MaySee found (label_of_host code host) in
         subst P (sym is) (sees_in_code placed emissions host pc sees)
@@ -304,7 +304,7 @@ op_tells placed emissions me label pc is what well = by what well
 
 -- ---- the laws
 
-told : (placed : PlacedProgram) → IsSplittable placed → IsAllowed placed → IsHeld placed →
+told : (placed : PlacedProgram) → IsSplittable placed → IsAllowed placed → IsWellHeld placed →
     let planned = planned_from placed in
     AreTold placed.labelled planned [] (program_emissions placed)
 told placed splittable allowed held =
@@ -312,7 +312,7 @@ told placed splittable allowed held =
     (program_tells_well placed splittable allowed held)
 
 -- Each request between hosts is granted.
-pub split_is_granted : (placed : PlacedProgram) → IsSplittable placed → IsAllowed placed → IsHeld placed →
+pub split_is_granted : (placed : PlacedProgram) → IsSplittable placed → IsAllowed placed → IsWellHeld placed →
     AreGranted (split_code placed)
 split_is_granted placed splittable allowed held me place there is =
     let planned = planned_from placed in
@@ -335,7 +335,7 @@ split_is_granted placed splittable allowed held me place there is =
     (subst P (sym what_is) own.1))
 
 -- No instruction tells another host what it may not see.
-pub split_tells_no_more : (placed : PlacedProgram) → IsSplittable placed → IsAllowed placed → IsHeld placed →
+pub split_tells_no_more : (placed : PlacedProgram) → IsSplittable placed → IsAllowed placed → IsWellHeld placed →
     TellsNoMore (split_code placed)
 split_tells_no_more placed splittable allowed held me place there is =
     let planned = planned_from placed in

@@ -31,9 +31,9 @@ use Rattle.msg_cost.specs.declared.spot.Spot.{Spot}
 use Rattle.msg_cost.specs.Moves.{PlannedShape, is_same, end_of, next_spot, own_statements, home_of, called_home}
 use Rattle.msg_cost.specs.Terms.{is_told}
 use Rattle.msg_cost.proofs.Bounds.{all_left, all_right}
-use Rattle.split_rules.specs.Emissions.{Emission, instruction, entry, stands, lands, Emitted, Named, Counts}
+use Rattle.split_rules.specs.Emissions.{Emission, instruction, entry, stands, lands, Emitted, NamedEntry, Counts}
 use Rattle.split_rules.specs.Emissions.{counts_after}
-use Rattle.split_rules.specs.Expressions.{Reading, reads_in, nodes_of, readings_of, released_by}
+use Rattle.split_rules.specs.Expressions.{ElementReading, reads_in, nodes_of, readings_of, released_by}
 use Rattle.split_rules.specs.Walk.{Walked, Around, Lane, lane_on, entry_id, emitted}
 use Rattle.split_rules.specs.Walk.{expr_emissions, read_emissions, told_readers, send_emissions, go_with, call_with}
 use Rattle.split_rules.specs.Walk.{leave_emissions, enter_emissions, move_emissions, end_emissions}
@@ -80,7 +80,7 @@ pub record Budget : Type 1 where
   pub step : (one : Emitted) (k : ℕ) → IsStep one.op → Leads (k + 1) 20 (instruction one ∷ []) k 530
   pub push : (one : Emitted) (k p : ℕ) → IsPush one.op → Leads k (p + 3) (instruction one ∷ []) k p
   pub back : (one : Emitted) (k : ℕ) → one.op ≡ op.Back → Leads (k + 1) 512 (instruction one ∷ []) k 513
-  pub named : (one : Named) (k p : ℕ) → Leads k (p + 1) (entry one ∷ []) k p
+  pub named : (one : NamedEntry) (k p : ℕ) → Leads k (p + 1) (entry one ∷ []) k p
   pub stood : (host : HostId) (number k p : ℕ) → p ≤ 512 → Leads k (p + 1) (stands host number ∷ []) k p
   pub landed : (host : HostId) (number k p : ℕ) → p ≤ 512 → Leads k (p + 1) (lands host number ∷ []) k p
   -- a thread is handed to an entry, which stands next; an entry is pushed before a call, which makes the step; whatever
@@ -103,7 +103,7 @@ widened b large small one up down = b.less one (omega arith) up (omega arith) do
 
 -- ---- expressions
 
-reads_lead : (b : Budget) (host : HostId) (pc : Label) (statement : StmtId) (readings : List Reading) (k p : ℕ) →
+reads_lead : (b : Budget) (host : HostId) (pc : Label) (statement : StmtId) (readings : List ElementReading) (k p : ℕ) →
     b.Leads k (p + length readings) (read_emissions host pc statement readings) k p
 reads_lead b host pc statement [] k p = widened b _ p (b.still k p) (omega arith) (omega arith)
 reads_lead b host pc statement (reading ∷ readings) k p =

@@ -15,7 +15,7 @@ use Rattle.host_code.specs.declared.code.Entry.{Entry}
 use Rattle.host_code.specs.Code.{CodeFieldShape}
 use Rattle.host_code.specs.Sound.{IsVariableName}
 use Rattle.need_labels.specs.Plan.{PlanShape, first_host, statement_host, field_host}
-use Rattle.split_rules.specs.Emissions.{Emission, Named}
+use Rattle.split_rules.specs.Emissions.{Emission, NamedEntry}
 use Rattle.split_rules.specs.SplitCode.{placed_entries, placed_code_fields, site_hosts, method_name}
 use Rattle.split_rules.specs.SplitCode.{label_place, emitted_on, before_entry}
 use Rattle.split_rules.specs.Splittable.{StandsAmong}
@@ -83,7 +83,7 @@ fields_numbered labels plan number [] = refl
 fields_numbered labels plan number (field ∷ fields) =
     ap (λ others. code_field labels plan number field ∷ others) (fields_numbered labels plan (suc number) fields)
 
-abbrev pub code_entry : List Label → List Emission → ℕ → Named → Entry
+abbrev pub code_entry : List Label → List Emission → ℕ → NamedEntry → Entry
 code_entry labels emissions number named = record {
   host = named.host;
   at = length (emitted_on named.host (before_entry number emissions));
@@ -91,7 +91,7 @@ code_entry labels emissions number named = record {
   need = named.need;
 }
 
-pub entries_numbered : (labels : List Label) (emissions : List Emission) (number : ℕ) (entries : List Named) →
+pub entries_numbered : (labels : List Label) (emissions : List Emission) (number : ℕ) (entries : List NamedEntry) →
     placed_entries labels emissions number entries ≡ numbered (code_entry labels emissions) number entries
 entries_numbered labels emissions number [] = refl
 entries_numbered labels emissions number (named ∷ entries) =

@@ -16,12 +16,12 @@ use Rattle.host_code.specs.Sound.{IsSoundCode, OperationFits, temporaries_at}
 use Rattle.msg_cost.specs.Moves.{PlannedShape}
 use Rattle.split_rules.specs.Placed.{PlacedProgram, planned_from}
 use Rattle.split_rules.specs.Allowed.{IsAllowed}
-use Rattle.split_rules.specs.Opening.{MayRunAll, IsOpenTo, HasNeed, OpensOp, IsOpenCode, HasAllOf, NamesWithin}
+use Rattle.split_rules.specs.Opening.{MayRunAll, IsOpenTo, HasNeed, OpensOp, IsOpenCode, HasAllOf, NamesEntryWithin}
 use Rattle.split_rules.specs.Opening.{CoversRuns}
-use Rattle.split_rules.specs.Positions.{Due}
+use Rattle.split_rules.specs.Positions.{DueWork}
 use Rattle.split_rules.specs.SplitCode.{split_code}
 use Rattle.split_rules.specs.Splittable.{IsSplittable}
-use Rattle.split_rules.specs.ThreadRun.{Thread, IsAtEntry, GoesBack, RunsOp, Runs}
+use Rattle.split_rules.specs.ThreadRun.{Thread, IsAtEntry, TokenGoesBack, RunsOp, RunsInstructions}
 use Rattle.split_rules.specs.TypedCode.{Table, IsTypedCode}
 use Rattle.split_rules.specs.Typing.{Covers}
 use Rattle.split_rules.proofs.OpenCode.{operation_fits, split_is_open}
@@ -54,7 +54,7 @@ module _ (planned : PlannedShape) (code : CodeShape) (table : Table) (sound : Is
       subst IsOpen (sym at.2) (record { here = here; chain = others })
 
   goes_back : (chain : List EntryId) (next : Thread) → AllByRecursion (HasNeed code label) chain →
-      GoesBack code chain next → IsOpen next
+      TokenGoesBack code chain next → IsOpen next
   goes_back [] next others back = absurd back
   goes_back (there ∷ chain) next others back = at_entry there chain next back.0 others.0 others.1 back.1
 
@@ -95,7 +95,8 @@ module _ (planned : PlannedShape) (code : CodeShape) (table : Table) (sound : Is
   op_stays thread count (op.Frame site) steps next fits law chain runs =
       subst IsOpen (sym runs.1) (record { here = law; chain = chain })
 
-  run_stays : (count steps : ℕ) (first last : Thread) → IsOpen first → Runs code count steps first last → IsOpen last
+  run_stays : (count steps : ℕ) (first last : Thread) → IsOpen first → RunsInstructions code count steps first last →
+      IsOpen last
   run_stays zero steps first last begins runs = subst IsOpen runs.1 begins
   run_stays (suc count) steps first last begins runs =
       let one = runs.4 in
@@ -108,7 +109,7 @@ module _ (planned : PlannedShape) (code : CodeShape) (table : Table) (sound : Is
 -- ---- needs
 
 module _ (planned : PlannedShape) (code : CodeShape) (table : Table) (need : ℕ) where
-  due_covered : (due : List Due) → MayRunAll planned (of_need need) due → Covers planned need due
+  due_covered : (due : List DueWork) → MayRunAll planned (of_need need) due → Covers planned need due
   due_covered [] may = tt
   due_covered (item ∷ due) may = (
     λ p p_in. bits_in_order _ (bit_at need p) (is_bit _ p) (may.0.0 p p_in),
@@ -122,7 +123,7 @@ module _ (planned : PlannedShape) (code : CodeShape) (table : Table) (need : ℕ
       bits_in_order (bit_at entry.need p) (bit_at need p) (is_bit entry.need p) (trusted p p_in)
 
   names_within : (thread : Thread) (what : Op) →
-      OpensOp planned code table (of_need need) thread.host thread.place what → NamesWithin code need what
+      OpensOp planned code table (of_need need) thread.host thread.place what → NamesEntryWithin code need what
   names_within thread (op.Push there) law = within there law.0
   names_within thread (op.Ask there on) law = within there law.0
   names_within thread (op.Go there on) law = within there law

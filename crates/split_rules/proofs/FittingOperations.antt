@@ -14,8 +14,9 @@ use Rattle.host_code.specs.Code.{CodeShape, host_of_site, part_of}
 use Rattle.host_code.specs.Sound as sound
 use Rattle.split_rules.specs.Emissions.{Emission}
 use Rattle.split_rules.specs.SplitCode.{emitted_on, before_landing, landed}
-use Rattle.split_rules.specs.Flow.{Scope, State, NodeFits, ExpressionFits, IsVariable, IsOther, IsEntryOn}
-use Rattle.split_rules.specs.Flow.{OperationFits}
+use Rattle.split_rules.specs.Flow.{Scope, State, NodeFitsScope, ExpressionFitsScope, IsVariableInScope, IsOtherInScope}
+use Rattle.split_rules.specs.Flow.{IsNamedEntryOn}
+use Rattle.split_rules.specs.Flow.{OperationFitsScope}
 
 -- the code has what the scope says
 pub record HasScope (scope : Scope) (code : CodeShape) : Type 0 where
@@ -25,7 +26,7 @@ pub record HasScope (scope : Scope) (code : CodeShape) : Type 0 where
   pub sites : code.sites ≡ scope.sites
 
 node_fits : (scope : Scope) (code : CodeShape) (count larger : ℕ) → HasScope scope code → count ≤ larger →
-    (one : Node) → NodeFits scope count one → sound.NodeFits code larger one
+    (one : Node) → NodeFitsScope scope count one → sound.NodeFits code larger one
 node_fits scope code count larger has more (node.Var variable) fits =
     let many = has.variables in
     omega arith
@@ -33,20 +34,22 @@ node_fits scope code count larger has more (node.Temp temporary) fits = omega ar
 node_fits scope code count larger has more other fits = tt
 
 expression_fits : (scope : Scope) (code : CodeShape) (count larger : ℕ) (nodes : List Node) → HasScope scope code →
-    count ≤ larger → ExpressionFits scope count nodes → sound.ExpressionFits code larger nodes
+    count ≤ larger → ExpressionFitsScope scope count nodes → sound.ExpressionFits code larger nodes
 expression_fits scope code count larger nodes has more fits =
-    All-weaker (NodeFits scope count) (sound.NodeFits code larger) (node_fits scope code count larger has more) nodes
+    All-weaker (NodeFitsScope scope count) (sound.NodeFits code larger) (node_fits scope code count larger has more)
+    nodes
     fits
 
 below : (few many number : ℕ) → few ≡ many → number < many → number < few
 below few many number same less = omega arith
 
-other_fits : (scope : Scope) (code : CodeShape) (me host : HostId) → HasScope scope code → IsOther scope me host →
+other_fits : (scope : Scope) (code : CodeShape) (me host : HostId) → HasScope scope code →
+    IsOtherInScope scope me host →
     sound.IsOther code me host
 other_fits scope code me host has other = (below (length code.hosts) scope.hosts host.0 has.hosts other.0, other.1)
 
 variables_fit : (scope : Scope) (code : CodeShape) (variables : List VarId) → HasScope scope code →
-    AllByRecursion (IsVariable scope) variables → AllByRecursion (sound.IsVariable code) variables
+    AllByRecursion (IsVariableInScope scope) variables → AllByRecursion (sound.IsVariable code) variables
 variables_fit scope code [] has fit = tt
 variables_fit scope code (variable ∷ variables) has fit = (
   below (length code.variables) scope.variables variable.0 has.variables fit.0,
@@ -62,9 +65,9 @@ Leads code emissions me state other = ⊤
 
 pub operation_fits : (scope : Scope) (code : CodeShape) (emissions : List Emission) (state : State) (me : HostId)
     (count larger : ℕ) (what : Op) → HasScope scope code → count ≤ larger →
-    ((on : HostId) (there : EntryId) → IsEntryOn state.named on there → sound.IsEntryOn code on there) →
+    ((on : HostId) (there : EntryId) → IsNamedEntryOn state.named on there → sound.IsEntryOn code on there) →
     Leads code emissions me state what →
-    OperationFits scope state me count what → sound.OperationFits code me larger (landed me emissions what)
+    OperationFitsScope scope state me count what → sound.OperationFits code me larger (landed me emissions what)
 operation_fits scope code emissions state me count larger (op.Read field index) has more entries leads fits = (
   below (length code.fields) scope.fields field.0 has.fields fits.0,
   expression_fits scope code count larger index has more fits.1,

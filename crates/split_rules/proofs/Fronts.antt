@@ -9,10 +9,10 @@ use Rattle.jif_tree.specs.LabelRules.{method_at}
 use Rattle.need_labels.specs.Labelled.{Labelled}
 use Rattle.msg_cost.specs.Moves.{PlannedShape, home_of, called_home}
 use Rattle.split_rules.specs.Placed.{PlacedProgram, planned_from}
-use Rattle.split_rules.specs.Emissions.{Emission, instruction, entry, stands, lands, Named}
+use Rattle.split_rules.specs.Emissions.{Emission, instruction, entry, stands, lands, NamedEntry}
 use Rattle.split_rules.specs.Walk.{method_entry, halt_entries, need_of}
 use Rattle.split_rules.specs.SplitCode.{emitted_on, entries_in}
-use Rattle.split_rules.specs.Flow.{Scope, State, stopped, after, Goes}
+use Rattle.split_rules.specs.Flow.{Scope, State, stopped, after, FlowGoes}
 use Rattle.split_rules.specs.Splittable.{StandsAmong, IsSplittable}
 use Rattle.split_rules.specs.WalkStart.{scope_of, front_emissions, walk_start, method_entries, IsEnd}
 use Rattle.split_rules.proofs.Places.{entries_append, found_entry}
@@ -92,18 +92,18 @@ pub front_hosts : (planned : PlannedShape) (methods : List MethodTree) →
 front_hosts planned [] = refl
 front_hosts planned (method ∷ methods) = ap (◌∷◌ (home_of planned method)) (front_hosts planned methods)
 
-method_there : (planned : PlannedShape) (methods : List MethodTree) (place : ℕ) (named : Named) →
+method_there : (planned : PlannedShape) (methods : List MethodTree) (place : ℕ) (named : NamedEntry) →
     slice_get (entries_in (map (method_entry planned) methods)) place ≡ Some named →
     (method : MethodTree) × (slice_get methods place ≡ Some method) × (named.host ≡ home_of planned method)
 method_there planned [] place named there = absurd (cc)
 method_there planned (method ∷ methods) zero named there =
-    let first : Named = record {
+    let first : NamedEntry = record {
       host = home_of planned method;
       label = method.begin;
       need = need_of planned (method.head ∷ []);
     } in
     let same : first ≡ named = cc in
-    (method, refl, ap {A = Named} (λ one. one.host) (sym same))
+    (method, refl, ap {A = NamedEntry} (λ one. one.host) (sym same))
 method_there planned (method ∷ methods) (suc place) named there = method_there planned methods place named there
 
 methods_long : (planned : PlannedShape) (methods : List MethodTree) →
@@ -150,7 +150,8 @@ pub record IsWalk (labelled : Labelled) (hosts : HostsShape) (planned : PlannedS
   pub main_is : method_at labelled.program labelled.program.main ≡ Some main
   pub among : StandsAmong (length hosts.hosts) planned.plan
   pub some : 0 < length hosts.hosts
-  pub goes : Goes (scope_of labelled hosts planned.plan) (start_of planned main labelled.program.methods) emissions last
+  pub goes : FlowGoes (scope_of labelled hosts planned.plan) (start_of planned main labelled.program.methods) emissions
+      last
   pub end : IsEnd last
 
 pub front_is : (labelled : Labelled) (planned : PlannedShape) (main : MethodTree) →
@@ -163,7 +164,7 @@ front_is labelled planned main main_is =
 pub walk_there : (placed : PlacedProgram) (emissions : List Emission) (last : State) →
     (splittable : IsSplittable placed) →
     let planned = planned_from placed in
-    Goes (scope_of placed.labelled placed.hosts placed.plan) (walk_start placed.labelled planned) emissions last →
+    FlowGoes (scope_of placed.labelled placed.hosts placed.plan) (walk_start placed.labelled planned) emissions last →
     IsEnd last → IsWalk placed.labelled placed.hosts planned splittable.numbered.main.0 emissions last
 walk_there placed emissions last splittable goes end =
     let labelled = placed.labelled in
@@ -182,12 +183,12 @@ walk_there placed emissions last splittable goes end =
       main_is = main_is;
       among = splittable.stands;
       some = omega arith;
-      goes = subst (λ (first : State). Goes (scope_of labelled hosts planned.plan) first emissions last) start goes;
+      goes = subst (λ (first : State). FlowGoes (scope_of labelled hosts planned.plan) first emissions last) start goes;
       end = end;
     }
 
 pub names_after : (scope : Scope) (state : State) (emissions : List Emission) (last : State) →
-    Goes scope state emissions last → last.named ≡ state.named ++ map (λ named. named.host) (entries_in emissions)
+    FlowGoes scope state emissions last → last.named ≡ state.named ++ map (λ named. named.host) (entries_in emissions)
 names_after scope state [] last goes = sym (append-nil state.named ∙ ap (λ one. one.named) goes)
 names_after scope state (instruction one ∷ others) last goes =
     names_after scope (after state (instruction one)) others last goes.1
@@ -210,7 +211,7 @@ get_append (first ∷ xs) ys (suc place) x there = elim (get_append xs ys place 
 ]
 
 -- an entry is on a host of the program, and stands where an instruction of the host follows
-pub record Standing (hosts : HostsShape) (emissions : List Emission) (number : ℕ) (named : Named) : Type 0 where
+pub record Standing (hosts : HostsShape) (emissions : List Emission) (number : ℕ) (named : NamedEntry) : Type 0 where
   pub host : named.host.0 < length hosts.hosts
   pub placed : Placed of_entries named.host number emissions
 
@@ -229,7 +230,7 @@ of_method labelled hosts planned main emissions last walk place method there =
 
 of_later : (labelled : Labelled) (hosts : HostsShape) (planned : PlannedShape) (main : MethodTree)
     (emissions : List Emission) (last : State) → IsWalk labelled hosts planned main emissions last →
-    (more : ℕ) (named : Named) → slice_get (entries_in emissions) more ≡ Some named →
+    (more : ℕ) (named : NamedEntry) → slice_get (entries_in emissions) more ≡ Some named →
     (named.host.0 < length hosts.hosts)
     × Placed of_entries named.host (suc (length labelled.program.methods + more)) emissions
 of_later labelled hosts planned main emissions last walk more named there =
@@ -239,13 +240,13 @@ of_later labelled hosts planned main emissions last walk more named there =
     let number = suc (length methods + more) in
     let so = found_entry emissions more named there in
     let split = halves scope start so.before (entry named ∷ so.behind) last
-    (subst (λ (list : List Emission). Goes scope start list last) so.is walk.goes) in
+    (subst (λ (list : List Emission). FlowGoes scope start list last) so.is walk.goes) in
     let long_named = length-map methods (home_of planned) in
     let place = so.place in
-    let length_is = λ (middle : State) (to : Goes scope start so.before middle).
+    let length_is = λ (middle : State) (to : FlowGoes scope start so.before middle).
     let names = ap length (names_after scope start so.before middle to)
     ∙ length-append start.named (map (λ one. one.host) (entries_in so.before)) in
-    let long = length-map (entries_in so.before) (λ (one : Named). one.host) in
+    let long = length-map (entries_in so.before) (λ (one : NamedEntry). one.host) in
     let is : length middle.named ≡ number = omega arith in
     is in (
       split.from.0,
@@ -261,7 +262,7 @@ of_later labelled hosts planned main emissions last walk more named there =
 -- every entry but the one that ends the program stands in the bodies
 pub others_stand : (labelled : Labelled) (hosts : HostsShape) (planned : PlannedShape) (main : MethodTree)
     (emissions : List Emission) (last : State) → IsWalk labelled hosts planned main emissions last →
-    (number : ℕ) (named : Named) →
+    (number : ℕ) (named : NamedEntry) →
     slice_get (entries_in (front_of planned main labelled.program.methods ++ emissions)) (suc number) ≡ Some named →
     (named.host.0 < length hosts.hosts) × Placed of_entries named.host (suc number) emissions
 others_stand labelled hosts planned main emissions last walk number named there =
@@ -289,18 +290,18 @@ others_stand labelled hosts planned main emissions last walk number named there 
 
 pub all_stand : (labelled : Labelled) (hosts : HostsShape) (planned : PlannedShape) (main : MethodTree)
     (emissions : List Emission) (last : State) → IsWalk labelled hosts planned main emissions last →
-    (number : ℕ) (named : Named) →
+    (number : ℕ) (named : NamedEntry) →
     slice_get (entries_in (front_of planned main labelled.program.methods ++ emissions)) number ≡ Some named →
     Standing hosts (front_of planned main labelled.program.methods ++ emissions) number named
 all_stand labelled hosts planned main emissions last walk zero named there =
     let methods = labelled.program.methods in
     let home = home_of planned main in
     let rest = map (method_entry planned) methods ++ emissions in
-    let first : Named = record { host = home; label = main.begin; need = need_of planned (main.head ∷ []) } in
+    let first : NamedEntry = record { host = home; label = main.begin; need = need_of planned (main.head ∷ []) } in
     let same : first ≡ named = cc in
     let so = of_method labelled hosts planned main emissions last walk labelled.program.main.0 main walk.main_is in
     let behind = placed_behind_methods of_entries planned home (suc labelled.program.main.0) methods emissions so in
-    let P : Named → Type 0 = λ one. Standing hosts (front_of planned main methods ++ emissions) 0 one in
+    let P : NamedEntry → Type 0 = λ one. Standing hosts (front_of planned main methods ++ emissions) 0 one in
     subst P same (record {
       host = statement_known (length hosts.hosts) planned.plan walk.among walk.some main.head;
       placed = record {

@@ -10,7 +10,7 @@ use Rattle.host_code.specs.declared.code_expr.Node.{Node}
 use Rattle.host_code.specs.declared.instruction.Op.{Op}
 use Rattle.host_code.specs.declared.instruction.Op.TheVariants as op
 use Rattle.msg_cost.specs.Moves.{PlannedShape}
-use Rattle.split_rules.specs.Positions.{Due, run, statement_due, FieldRead, Argument, reads_due, Calling, no_call}
+use Rattle.split_rules.specs.Positions.{DueWork, run, statement_due, FieldRead, Argument, reads_due, Calling, no_call}
 use Rattle.split_rules.specs.Positions.{arguing, Entrance, Position, calm, under, with_reads, with_forwards}
 use Rattle.split_rules.specs.Positions.{forwards_of}
 use Rattle.split_rules.specs.Typing.{EntryIs, need_due, Frames, Cuts, Pushes, Reads, Argues, Sends, Follows, Branches}
@@ -45,7 +45,7 @@ one_read planned me from field nodes next other first second =
     let read_is = (same_first (one ∷ first.behind) one two first.behind second.behind refl rest).0 in
     first.goes ∙ ap (λ it. with_reads from (from.reads ++ it ∷ [])) read_is ∙ sym second.goes
 
-one_frame : (planned : PlannedShape) (from : Position) (due : Due) (site : SiteId) (next other : Position) →
+one_frame : (planned : PlannedShape) (from : Position) (due : DueWork) (site : SiteId) (next other : Position) →
     Frames planned from due site next → Frames planned from due site other → next ≡ other
 one_frame planned from (run (call heading own method arguments into rest)) site next other first second =
     first.1 ∙ sym second.1
@@ -101,7 +101,7 @@ one_next planned entries me from (op.Read field index) next other first second =
     one_read planned me from field index next other first second
 one_next planned entries me from (op.Let x value) next other first second =
     let same = same_first from.due first.0 second.0 first.1 second.1 first.2.due second.2.due in
-    let behind : Due → List Due → Position = λ item others. record {
+    let behind : DueWork → List DueWork → Position = λ item others. record {
       level = from.level;
       due = others;
       reads = [];
@@ -116,7 +116,7 @@ one_next planned entries me from (op.Send x to) next other first second =
     one_sent from x to next other first.1 second.1
 one_next planned entries me from (op.Frame site) next other first second =
     let same = (same_first from.due first.0 second.0 first.1 second.1 first.2.due second.2.due).0 in
-    let P : Due → Type 0 = λ due. Frames planned from due site next in
+    let P : DueWork → Type 0 = λ due. Frames planned from due site next in
     one_frame planned from second.0 site next other (subst P same first.4) second.4
 one_next planned entries me from (op.Arg x value) next other first second =
     one_argument planned me from from.calling x value next other first second
@@ -131,7 +131,7 @@ one_next planned entries me from what next other first second = absurd first
 
 -- ---- branches
 
-one_branch : (from : Position) (due : Due) (others : List Due) (nodes : List Node)
+one_branch : (from : Position) (due : DueWork) (others : List DueWork) (nodes : List Node)
     (next target other other_target : Position) → Branches from due others nodes next target →
     Branches from due others nodes other other_target → (next ≡ other) × (target ≡ other_target)
 one_branch from (run (branch heading guard first second rest)) others nodes next target other other_target one two =
@@ -145,6 +145,6 @@ pub one_division : (planned : PlannedShape) (me : HostId) (from : Position) (nod
     Divides planned me from nodes other other_target → (next ≡ other) × (target ≡ other_target)
 one_division planned me from nodes next target other other_target one two =
     let same = same_first from.due one.0 two.0 one.1 two.1 one.2.due two.2.due in
-    let P : Due → Type 0 = λ due. Branches from due one.1 nodes next target in
-    let Q : List Due → Type 0 = λ others. Branches from two.0 others nodes next target in
+    let P : DueWork → Type 0 = λ due. Branches from due one.1 nodes next target in
+    let Q : List DueWork → Type 0 = λ others. Branches from two.0 others nodes next target in
     one_branch from two.0 two.1 nodes next target other other_target (subst Q same.1 (subst P same.0 one.4)) two.4

@@ -21,7 +21,8 @@ use Rattle.split_rules.specs.Placed.{PlacedProgram, planned_from}
 use Rattle.split_rules.specs.Allowed.{IsAllowed}
 use Rattle.split_rules.specs.Opening.{MayRunAll, AreSentFrom, IsOpenTo, MayChange, HasNeed, OpensOp, IsOpenCode}
 use Rattle.split_rules.specs.Opening.{HasOwnLabels}
-use Rattle.split_rules.specs.Positions.{number_of, statement_due, Due, Calling, no_call, arguing, entering, Entrance}
+use Rattle.split_rules.specs.Positions.{number_of, statement_due, DueWork, Calling, no_call, arguing, entering}
+use Rattle.split_rules.specs.Positions.{Entrance}
 use Rattle.split_rules.specs.Positions.{Forward, calm}
 use Rattle.split_rules.specs.SplitCode.{split_code}
 use Rattle.split_rules.specs.Splittable.{IsSplittable}
@@ -58,7 +59,7 @@ operation_fits code sound me place there is =
 -- ---- entries
 
 -- a host that is trusted for a need is trusted for all that it covers
-covered : (planned : PlannedShape) (label : Label) (need : ℕ) (host : HostId) (due : List Due) →
+covered : (planned : PlannedShape) (label : Label) (need : ℕ) (host : HostId) (due : List DueWork) →
     IsTrustedBy label need → Covers planned need due → AreDueOn planned host due → MayRunAll planned label due
 covered planned label need host [] trusted covers are = tt
 covered planned label need host (item ∷ due) trusted covers are = (
@@ -95,7 +96,7 @@ module _ (placed : PlacedProgram) (table : Table)
       (covered planned label entry.need entry.host there.position.due trusted there.covers there.trusted)
 
   -- the host of an entry is one of those
-  all_run : (host : HostId) → label_of_host code host ≡ Some label → (due : List Due) → AreDueOn planned host due →
+  all_run : (host : HostId) → label_of_host code host ≡ Some label → (due : List DueWork) → AreDueOn planned host due →
       MayRunAll planned label due
   all_run host label_is [] are = tt
   all_run host label_is (item ∷ due) are = (

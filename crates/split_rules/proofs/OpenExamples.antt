@@ -18,8 +18,8 @@ use Rattle.msg_cost.specs.Moves.{is_trusted_by}
 use Rattle.split_rules.specs.OpenExamples.{FirstOpens, code_of, untrusted, trusted_by_first, thread_on_first, increase}
 use Rattle.split_rules.specs.OpenExamples.{reading, sent_table, lent_table, branched_table, looped_table, loop_start}
 use Rattle.split_rules.specs.OpenExamples.{repetition}
-use Rattle.split_rules.specs.Opening.{MayRun, IsOpenTo, HasNeed, MayChange, HasAllOf, NamesWithin, IsCoveredBy}
-use Rattle.split_rules.specs.Positions.{IsIn, IsOf}
+use Rattle.split_rules.specs.Opening.{MayRun, IsOpenTo, HasNeed, MayChange, HasAllOf, NamesEntryWithin, IsCoveredBy}
+use Rattle.split_rules.specs.Positions.{IsStatementOfMethod, IsOf}
 use Rattle.split_rules.specs.Walk.{entry_id}
 use Rattle.split_rules.specs.Worked.{lent_back, lent_past, branched, looped, called, calling, returning, loop_end}
 use Rattle.split_rules.specs.Worked.{host_id, var_id, trusted_by, sent_local}
@@ -138,7 +138,7 @@ of_method = (none_needed untrusted, (record { 0 = 1 }, (0, returning, omega arit
 pub calling_denied : ¬ MayRun called untrusted calling
 calling_denied may = not_trusted may.0
 
-none_returns : (number : ℕ) → ¬ IsIn looped.program (record { 0 = number }) returning
+none_returns : (number : ℕ) → ¬ IsStatementOfMethod looped.program (record { 0 = number }) returning
 none_returns zero some =
     let Same : BlockTree → Type 0 = λ one. one ≡ returning in
     elim (any_first Same repetition (loop_start ∷ loop_end ∷ []) some) [
@@ -170,7 +170,7 @@ pushed_need entry is =
     let P : Option Entry → Type 0 = λ found. IsSomeAnd found (λ it. it.need ≡ 1) in
     subst P is needs_first
 
-pub pushed_within : NamesWithin lent_code 1 (op.Push (entry_id 2))
+pub pushed_within : NamesEntryWithin lent_code 1 (op.Push (entry_id 2))
 pushed_within entry is p p_in = let same = ap (λ need. bit_at need p) (pushed_need entry is) in omega (arith, same)
 
 one_lacks : (bit : ℕ) → bit ≡ 1 → ¬ (bit ≤ 0)
@@ -186,22 +186,22 @@ not_all all = by (entry_at lent_code (entry_id 2)) refl needs_first
     by (Some entry) is one =
         one_lacks (bit_at entry.need 0) (ap (λ need. bit_at need 0) one) (all entry is 0 (lit< tt))
 
-pub pushed_without : ¬ NamesWithin lent_code 0 (op.Push (entry_id 2))
+pub pushed_without : ¬ NamesEntryWithin lent_code 0 (op.Push (entry_id 2))
 pushed_without = not_all
 
-pub asked_without : ¬ NamesWithin lent_code 0 (op.Ask (entry_id 2) (host_id 0))
+pub asked_without : ¬ NamesEntryWithin lent_code 0 (op.Ask (entry_id 2) (host_id 0))
 asked_without = not_all
 
-pub gone_without : ¬ NamesWithin lent_code 0 (op.Go (entry_id 2) (host_id 0))
+pub gone_without : ¬ NamesEntryWithin lent_code 0 (op.Go (entry_id 2) (host_id 0))
 gone_without = not_all
 
-pub called_without : ¬ NamesWithin lent_code 0 (op.Call (entry_id 2) (host_id 0))
+pub called_without : ¬ NamesEntryWithin lent_code 0 (op.Call (entry_id 2) (host_id 0))
 called_without = not_all
 
-pub gone_riding : (riders : List VarId) → ¬ NamesWithin lent_code 0 (op.GoWith (entry_id 2) (host_id 0) riders)
+pub gone_riding : (riders : List VarId) → ¬ NamesEntryWithin lent_code 0 (op.GoWith (entry_id 2) (host_id 0) riders)
 gone_riding riders = not_all
 
-pub called_riding : (riders : List VarId) → ¬ NamesWithin lent_code 0 (op.CallWith (entry_id 2) (host_id 0) riders)
+pub called_riding : (riders : List VarId) → ¬ NamesEntryWithin lent_code 0 (op.CallWith (entry_id 2) (host_id 0) riders)
 called_riding riders = not_all
 
 pub due_without : ¬ IsCoveredBy lent_back lent_code lent_table 0 (thread_on_first 0)

@@ -16,12 +16,13 @@ use Rattle.host_code.specs.declared.code_expr.Node.{Node}
 use Rattle.host_code.specs.declared.instruction.Op.TheVariants as op
 use Rattle.msg_cost.specs.Moves.{PlannedShape}
 use Rattle.split_rules.specs.Placed.{PlacedProgram, planned_from}
-use Rattle.split_rules.specs.Opening.{MayRun, MayRunAll, StoresTo, GivesIn, call_made, AreParams}
+use Rattle.split_rules.specs.Opening.{MayRun, MayRunAll, StoresTo, GivesIn, call_made, AreParamsOfCall}
 use Rattle.split_rules.specs.Opening.{PassesParams, AreSentFrom, IsOpenTo}
-use Rattle.split_rules.specs.Positions.{number_of, Due, Level, run, keep, statement_due, all_due, Argument}
+use Rattle.split_rules.specs.Positions.{number_of, DueWork, Level, run, keep, statement_due, all_due, Argument}
 use Rattle.split_rules.specs.Positions.{arguments_of, Calling, no_call, arguing, entering, Position, Entrance, calm}
 use Rattle.split_rules.specs.Positions.{Forward, with_forwards, IsOut}
-use Rattle.split_rules.specs.Typing.{EntryIs, need_due, IsParam, Gives, Sets, Stores, GivesBack, Follows, Branches}
+use Rattle.split_rules.specs.Typing.{EntryIs, need_due, IsParam, GivesVariable, Sets, Stores, GivesBackDue, Follows}
+use Rattle.split_rules.specs.Typing.{Branches}
 use Rattle.split_rules.specs.Typing.{Cuts, Pushes, Frames, Argues, Sends, Enters, EntersWith}
 use Rattle.split_rules.specs.Walk.{other_readers}
 use Rattle.split_rules.proofs.BackedLabels.{all_first, all_second, all_both}
@@ -47,12 +48,13 @@ module _ (placed : PlacedProgram) (label : Label)
       Brings placed.labelled planned label (result_of (method_at placed.labelled.program may.1.0)) statement
   brought statement may = statement_brings placed label known may.1.0 statement may.1.1 may.0
 
-  given_in : (method : MethodId) (statement : BlockTree) (x : VarId) → Gives planned statement x →
+  given_in : (method : MethodId) (statement : BlockTree) (x : VarId) → GivesVariable planned statement x →
       GivesIn planned method statement x
   given_in method (give_back heading value rest) x never = absurd never
   given_in method _ x is = is
 
-  pub affected : (statement : BlockTree) (x : VarId) → MayRun planned label statement → Gives planned statement x →
+  pub affected : (statement : BlockTree) (x : VarId) → MayRun planned label statement →
+      GivesVariable planned statement x →
       AffectsVariable placed.labelled label x
   affected statement x may is =
       given_affected placed.labelled planned label may.1.0 statement x (brought statement may)
@@ -60,19 +62,19 @@ module _ (placed : PlacedProgram) (label : Label)
 
   -- ---- positions
 
-  pub calm_open : (level : Level) (due : List Due) → MayRunAll planned label due →
+  pub calm_open : (level : Level) (due : List DueWork) → MayRunAll planned label due →
       IsOpenTo planned label (calm level due)
   calm_open level due may = record { due = may; sent = tt; calls = tt; params = tt }
 
-  sent_to : (source : BlockTree) (x : VarId) → MayRun planned label source → Gives planned source x →
+  sent_to : (source : BlockTree) (x : VarId) → MayRun planned label source → GivesVariable planned source x →
       (to : List HostId) →
       AreSentFrom planned label (map (λ host. record { variable = x; host = host; source = source }) to)
   sent_to source x may gives [] = tt
   sent_to source x may gives (host ∷ to) = ((may, gives), sent_to source x may gives to)
 
   -- what an assignment sets it gives
-  set_gives : (here : Position) (first : Due) (x : VarId) (nodes : List Node) → Sets planned here first x nodes →
-      Gives planned (statement_due first) x
+  set_gives : (here : Position) (first : DueWork) (x : VarId) (nodes : List Node) → Sets planned here first x nodes →
+      GivesVariable planned (statement_due first) x
   set_gives here (run (set_local heading variable value rest)) x nodes sets = sets.0
   set_gives here (keep (call heading site method arguments into rest)) x nodes sets = inl sets.2
   set_gives here _ x nodes sets = absurd sets
@@ -93,7 +95,7 @@ module _ (placed : PlacedProgram) (label : Label)
       )
 
   -- what an assignment to a field stores to
-  put_stores : (here : Position) (first : Due) (field : FieldId) (index nodes : List Node) →
+  put_stores : (here : Position) (first : DueWork) (field : FieldId) (index nodes : List Node) →
       Stores here first field index nodes → StoresTo (statement_due first) field
   put_stores here (run (set_field heading to value rest)) field index nodes stores = stores.0
   put_stores here (run (set_element heading to at value rest)) field index nodes stores = stores.0
@@ -135,7 +137,7 @@ module _ (placed : PlacedProgram) (label : Label)
     subst (IsOpenTo planned label) (sym law.2) (record {
       due = open_here.due;
       sent = all_without (λ (forward : Forward). MayRun planned label forward.source
-          × Gives planned forward.source forward.variable) x to here.forwards open_here.sent;
+          × GivesVariable planned forward.source forward.variable) x to here.forwards open_here.sent;
       calls = open_here.calls;
       params = open_here.params;
     }),
@@ -154,7 +156,7 @@ module _ (placed : PlacedProgram) (label : Label)
     all_params params others values (λ x is. within x (inr is)),
   )
 
-  pub frame_open : (here next : Position) (site : SiteId) (first : Due) (others : List Due) →
+  pub frame_open : (here next : Position) (site : SiteId) (first : DueWork) (others : List DueWork) →
       here.due ≡ first ∷ others → IsOpenTo planned label here → Frames planned here first site next →
       IsOpenTo planned label next
   frame_open here next site (run (call heading own method arguments into rest)) others due_is open_here law =
@@ -169,12 +171,12 @@ module _ (placed : PlacedProgram) (label : Label)
   frame_open here next site _ others due_is open_here law = absurd law
 
   param_gives : (statement : BlockTree) (x : VarId) (value : ExprTree) (left : List Argument) →
-      AreParams planned statement (record { param = x; value = value } ∷ left) → Gives planned statement x
+      AreParamsOfCall planned statement (record { param = x; value = value } ∷ left) → GivesVariable planned statement x
   param_gives (call heading site method arguments into rest) x value left params = inr params.0
   param_gives _ x value left params = absurd params
 
   params_left : (statement : BlockTree) (one : Argument) (left : List Argument) →
-      AreParams planned statement (one ∷ left) → AreParams planned statement left
+      AreParamsOfCall planned statement (one ∷ left) → AreParamsOfCall planned statement left
   params_left (call heading site method arguments into rest) one left params = params.1
   params_left _ one left params = absurd params
 
@@ -183,13 +185,14 @@ module _ (placed : PlacedProgram) (label : Label)
       AffectsVariable placed.labelled label x × IsOpenTo planned label next
   arg_open here next x nodes (arguing statement set left) is open_here law =
       let calls = subst (λ it. AllByRecursion (MayRun planned label) (call_made it)) is open_here.calls in
-      let params = subst (AreParams planned statement) law.is_next (subst (PassesParams planned) is open_here.params) in
+      let params = subst (AreParamsOfCall planned statement) law.is_next
+      (subst (PassesParams planned) is open_here.params) in
       let gives = param_gives statement x law.value law.others params in (
         affected statement x calls.0 gives,
         subst (IsOpenTo planned label) (sym law.goes) (record {
           due = open_here.due;
           sent = all_both (λ (forward : Forward). MayRun planned label forward.source
-              × Gives planned forward.source forward.variable) here.forwards _ open_here.sent
+              × GivesVariable planned forward.source forward.variable) here.forwards _ open_here.sent
               (sent_to statement x calls.0 gives (other_readers planned me x));
           calls = calls;
           params = params_left statement _ law.others params;
@@ -204,7 +207,7 @@ module _ (placed : PlacedProgram) (label : Label)
       Cuts planned entries here number next → IsOpenTo planned label next
   cut_open here next number open_here law =
       let due = subst (MayRunAll planned label) law.due open_here.due in
-      let P : Due → Type 0 = λ item. MayRun planned label (statement_due item) in
+      let P : DueWork → Type 0 = λ item. MayRun planned label (statement_due item) in
       subst (IsOpenTo planned label) (sym law.goes) (record {
         due = all_first P next.due law.behind due;
         sent = open_here.sent;
@@ -229,7 +232,7 @@ module _ (placed : PlacedProgram) (label : Label)
 
   -- ---- entries that are named
 
-  needed_all : (due : List Due) → MayRunAll planned label due → IsTrustedBy label (need_due planned due)
+  needed_all : (due : List DueWork) → MayRunAll planned label due → IsTrustedBy label (need_due planned due)
   needed_all [] may = none_needed label
   needed_all (item ∷ due) may =
       both_needed label (slice_index placed.needs.need (number_of (statement_due item)).0) (need_due planned due)
@@ -240,7 +243,7 @@ module _ (placed : PlacedProgram) (label : Label)
       Cuts planned entries here number next → IsHeldEntry label entries number
   cut_held here next number open_here law =
       let due = subst (MayRunAll planned label) law.due open_here.due in
-      let P : Due → Type 0 = λ item. MayRun planned label (statement_due item) in
+      let P : DueWork → Type 0 = λ item. MayRun planned label (statement_due item) in
       record {
         position = _;
         need = _;
@@ -280,7 +283,7 @@ module _ (placed : PlacedProgram) (label : Label)
 
   -- ---- branches and what is given back
 
-  pub branch_open : (here next target : Position) (nodes : List Node) (first : Due) (others : List Due) →
+  pub branch_open : (here next target : Position) (nodes : List Node) (first : DueWork) (others : List DueWork) →
       here.due ≡ first ∷ others → IsOpenTo planned label here → Branches here first others nodes next target →
       IsOpenTo planned label next × IsOpenTo planned label target
   branch_open here next target nodes (run (branch heading guard one other rest)) others due_is open_here law =
@@ -293,15 +296,15 @@ module _ (placed : PlacedProgram) (label : Label)
   branch_open here next target nodes (run (loop heading guard inner rest)) others due_is open_here law =
       let due = subst (MayRunAll planned label) due_is open_here.due in
       let own : MayRunAll planned label (all_due inner) = brought (loop heading guard inner rest) due.0 in
-      let P : Due → Type 0 = λ item. MayRun planned label (statement_due item) in (
+      let P : DueWork → Type 0 = λ item. MayRun planned label (statement_due item) in (
         subst (IsOpenTo planned label) (sym law.1) (calm_open here.level _
             (all_both P (all_due inner) (run (loop heading guard inner rest) ∷ others) own due)),
         subst (IsOpenTo planned label) (sym law.2) (calm_open here.level others due.1),
       )
   branch_open here next target nodes _ others due_is open_here law = absurd law
 
-  result_given : (here : Position) (first : Due) (nodes : List Node) (method : MethodId) (x : VarId) →
-      GivesBack here first nodes → result_of (method_at placed.labelled.program method) ≡ Some x →
+  result_given : (here : Position) (first : DueWork) (nodes : List Node) (method : MethodId) (x : VarId) →
+      GivesBackDue here first nodes → result_of (method_at placed.labelled.program method) ≡ Some x →
       GivesIn planned method (statement_due first) x
   result_given here (run (give_back heading value rest)) nodes method x gives is = is
   result_given here _ nodes method x gives is = absurd gives

@@ -25,7 +25,8 @@ use Rattle.need_labels.specs.Needs.{method_uses, all_backing, for_releases, labe
 use Rattle.need_labels.proofs.Somewhere.{any_first, any_none, any_left, any_right}
 use Rattle.msg_cost.specs.Moves.{PlannedShape}
 use Rattle.split_rules.specs.Placed.{PlacedProgram, planned_from}
-use Rattle.split_rules.specs.Positions.{statements_of, all_statements, IsIn, IsOf, number_of, statement_due, run}
+use Rattle.split_rules.specs.Positions.{statements_of, all_statements, IsStatementOfMethod, IsOf, number_of}
+use Rattle.split_rules.specs.Positions.{statement_due, run}
 use Rattle.split_rules.specs.Positions.{all_due}
 use Rattle.split_rules.specs.Allowed.{IsAllowed}
 use Rattle.split_rules.specs.Opening.{MayRun, MayRunAll, StoresTo, started, GivesIn}
@@ -371,7 +372,7 @@ module _ (placed : PlacedProgram) (label : Label) where
 
   -- a host that is trusted for a statement of a method
   pub statement_brings : IsKnown placed.labelled planned principals → (method : MethodId) (statement : BlockTree) →
-      IsIn placed.labelled.program method statement → IsTrustedBy label (need_at (number_of statement)) →
+      IsStatementOfMethod placed.labelled.program method statement → IsTrustedBy label (need_at (number_of statement)) →
       Brings placed.labelled planned label (result_of (method_at placed.labelled.program method)) statement
   statement_brings known method statement is_in trusted = by (method_at placed.labelled.program method) refl is_in
     where

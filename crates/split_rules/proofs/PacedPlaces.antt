@@ -12,8 +12,8 @@ use Rattle.host_code.specs.declared.instruction.Op.TheVariants as op
 use Rattle.host_code.specs.Code.{halt}
 use Rattle.host_code.specs.Sound.{IsLeaving}
 use Rattle.split_rules.specs.Emissions.{Emission, instruction, entry, stands, lands, Emitted}
-use Rattle.split_rules.specs.Flow.{Scope, Flow, stopped, at, awaited, Pending, State, after, OperationFits}
-use Rattle.split_rules.specs.Flow.{InstructionFits, IsFirst, Goes}
+use Rattle.split_rules.specs.Flow.{Scope, Flow, stopped, at, awaited, Pending, State, after, OperationFitsScope}
+use Rattle.split_rules.specs.Flow.{InstructionFitsFlow, IsOwedFirst, FlowGoes}
 use Rattle.split_rules.specs.Pace.{Allowance}
 use Rattle.split_rules.specs.Walk.{entry_id}
 use Rattle.split_rules.specs.SplitCode.{emitted_on, before_entry}
@@ -54,7 +54,7 @@ numbers_behind host (lands on place ∷ xs) ys number = numbers_behind host xs y
 
 -- where a host goes on, its next number is what may come
 first_number : (host : HostId) (scope : Scope) (state : State) (xs : List Emission) (last : State) →
-    Goes scope state xs last → last.flow ≡ stopped → GoesOn host state.flow →
+    FlowGoes scope state xs last → last.flow ≡ stopped → GoesOn host state.flow →
     slice_get (numbers_on host xs) 0 ≡ Some (ahead xs)
 first_number host scope state [] last goes ended on =
     absurd (subst (GoesOn host) (ap (λ one. one.flow) goes ∙ ended) on)
@@ -98,14 +98,14 @@ NamesNoHalt (op.CallWith there on riders) = there ≢ halt
 NamesNoHalt other = ⊤
 
 fits_no_halt : (scope : Scope) (state : State) (me : HostId) (read : ℕ) (what : Op) →
-    OperationFits scope state me read what → NamesNoHalt what
+    OperationFitsScope scope state me read what → NamesNoHalt what
 fits_no_halt scope state me read (op.Go there on) fits = fits.0.0
 fits_no_halt scope state me read (op.Call there on) fits = fits.0.0
 fits_no_halt scope state me read (op.GoWith there on riders) fits = fits.0.0
 fits_no_halt scope state me read (op.CallWith there on riders) fits = fits.0.0
 fits_no_halt scope state me read other fits = tt
 
-no_halt : (scope : Scope) (state : State) (one : Emitted) (flow : Flow) → InstructionFits scope state one flow →
+no_halt : (scope : Scope) (state : State) (one : Emitted) (flow : Flow) → InstructionFitsFlow scope state one flow →
     NamesNoHalt one.op
 no_halt scope state one stopped fits = absurd fits
 no_halt scope state one (at host read) fits = fits_no_halt scope state host read one.op fits.1
@@ -120,18 +120,18 @@ pub record Spot (scope : Scope) (emissions : List Emission) (me : HostId) (place
   pub names : NamesNoHalt what
   -- the state behind it, where the same host goes on unless the instruction leaves it
   pub state : State
-  pub goes : Goes scope state behind last
+  pub goes : FlowGoes scope state behind last
   pub flow : IsLeaving what ⊎ GoesOn me state.flow
 
 pub spot_there : (scope : Scope) (first : State) (emissions before : List Emission) (one : Emitted)
     (behind : List Emission) (last : State) → emissions ≡ before ++ instruction one ∷ behind →
-    Goes scope first emissions last → last.flow ≡ stopped → Paces emissions → (me : HostId) → one.host ≡ me →
+    FlowGoes scope first emissions last → last.flow ≡ stopped → Paces emissions → (me : HostId) → one.host ≡ me →
     Spot scope emissions me (length (emitted_on me before)) one.op behind last
 spot_there scope first emissions before one behind last is goes ended paces me own =
     subst P (sym is) split goes paces
   where
     P : List Emission → Type 0
-    P list = Goes scope first list last → Paces list →
+    P list = FlowGoes scope first list last → Paces list →
         Spot scope list me (length (emitted_on me before)) one.op behind last
 
     split : P (before ++ instruction one ∷ behind)
@@ -190,13 +190,13 @@ pub record MarkedAt (emissions : List Emission) (host : HostId) (place : ℕ) (b
 
 pub marked_there : (kind : Numbered) (scope : Scope) (first : State) (emissions front : List Emission) (host : HostId)
     (number : ℕ) (behind : List Emission) (last : State) → emissions ≡ front ++ mark kind host number ∷ behind →
-    Goes scope first emissions last → last.flow ≡ stopped → Paces emissions →
+    FlowGoes scope first emissions last → last.flow ≡ stopped → Paces emissions →
     MarkedAt emissions host (length (emitted_on host front)) behind
 marked_there kind scope first emissions front host number behind last is goes ended paces =
     subst P (sym is) split goes paces
   where
     P : List Emission → Type 0
-    P list = Goes scope first list last → Paces list → MarkedAt list host (length (emitted_on host front)) behind
+    P list = FlowGoes scope first list last → Paces list → MarkedAt list host (length (emitted_on host front)) behind
 
     split : P (front ++ mark kind host number ∷ behind)
     split all paced =
@@ -218,7 +218,7 @@ marked_there kind scope first emissions front host number behind last is goes en
 
 -- what stood once is owed no more
 absent_still : (kind : Numbered) (number : ℕ) (scope : Scope) (state : State) (xs : List Emission) (last : State) →
-    Goes scope state xs last → number < count kind state → IsAbsent number (due kind state) →
+    FlowGoes scope state xs last → number < count kind state → IsAbsent number (due kind state) →
     IsAbsent number (due kind last)
 absent_still kind number scope state [] last goes below absent =
     subst (λ (it : State). IsAbsent number (due kind it)) goes absent
@@ -233,7 +233,7 @@ absent_still kind number scope state (x ∷ xs) last goes below absent =
 
 -- nothing of this number stood before, where it is still owed
 owed_passes : (kind : Numbered) (host : HostId) (number : ℕ) (scope : Scope) (state : State)
-    (front more : List Emission) (last : State) → Goes scope state front last → AreOrdered kind state →
+    (front more : List Emission) (last : State) → FlowGoes scope state front last → AreOrdered kind state →
     IsAmong host number (due kind last) → before kind number (front ++ more) ≡ front ++ before kind number more
 owed_passes kind host number scope state [] more last goes ordered among = refl
 owed_passes kind host number scope state (x ∷ front) more last goes ordered among =
@@ -252,7 +252,7 @@ owed_passes kind host number scope state (x ∷ front) more last goes ordered am
           (front ++ more) ∙ so
     ]
 
-first_among : (host : HostId) (number : ℕ) (pendings : List Pending) → IsFirst host number pendings →
+first_among : (host : HostId) (number : ℕ) (pendings : List Pending) → IsOwedFirst host number pendings →
     IsAmong host number pendings
 first_among host number [] first = absurd first
 first_among host number (pending ∷ others) first = inl first
@@ -264,11 +264,11 @@ same_behind host other number one two same = cc
 -- behind an entry of this number there is one list
 pub stands_once : (scope : Scope) (first : State) (emissions front : List Emission) (host : HostId) (number : ℕ)
     (behind : List Emission) (last : State) → emissions ≡ front ++ stands host number ∷ behind →
-    Goes scope first emissions last → AreOrdered of_entries first → (other : HostId) →
+    FlowGoes scope first emissions last → AreOrdered of_entries first → (other : HostId) →
     (placed : Placed of_entries other number emissions) → behind ≡ placed.behind
 stands_once scope first emissions front host number behind last is goes ordered other placed =
     let parts = halves scope first front (stands host number ∷ behind) last
-    (subst (λ (list : List Emission). Goes scope first list last) is goes) in
+    (subst (λ (list : List Emission). FlowGoes scope first list last) is goes) in
     let passes = owed_passes of_entries host number scope first front (stands host number ∷ behind) parts.middle
     parts.to ordered (first_among host number parts.middle.owed parts.from.0.0) in
     let none = ap (λ list. front ++ list) (before_mark of_entries host number behind) in

@@ -7,8 +7,8 @@ use Rattle.host_code.specs.declared.code.Entry.{Entry}
 use Rattle.host_code.specs.declared.instruction.Op.{Op}
 use Rattle.host_code.specs.declared.instruction.Op.TheVariants as op
 use Rattle.host_code.specs.Code.{CodeShape, halt}
-use Rattle.split_rules.specs.Pace.{PACE, Allowance, calls_at, Pushes, EntersLower, IsPacedOp, IsPaced}
-use Rattle.split_rules.specs.ThreadRun.{Thread, thread_at, IsAtEntry, GoesBack, RunsOp, Runs}
+use Rattle.split_rules.specs.Pace.{PACE, Allowance, calls_at, PacedPush, EntersLower, IsPacedOp, IsPaced}
+use Rattle.split_rules.specs.ThreadRun.{Thread, thread_at, IsAtEntry, TokenGoesBack, RunsOp, RunsInstructions}
 use Rattle.split_rules.proofs.PacedPlaces.{numbered_from}
 
 -- what is left at a place, and the entries on the chain
@@ -25,7 +25,7 @@ enters_less code left here there next lower at_entry =
     rw at_entry.2 (omega arith)
 
 back_less : (code : CodeShape) (left : Allowance) → IsPaced code left → (number : ℕ) (chain : List EntryId)
-    (next : Thread) → PACE ≤ number → GoesBack code chain next → left_of left next < number + length chain
+    (next : Thread) → PACE ≤ number → TokenGoesBack code chain next → left_of left next < number + length chain
 back_less code left paced number [] next large back = absurd back
 back_less code left paced number (there ∷ chain) next large back =
     numbered_from there (λ place. (entry : Entry) → slice_get code.entries place ≡ Some entry →
@@ -35,7 +35,7 @@ back_less code left paced number (there ∷ chain) next large back =
     back.1.0 back.1.1 back.1.2
 
 push_less : (left : Allowance) (here next : Thread) (there : EntryId) (called : Bool) (steps : ℕ) →
-    Pushes left here.host here.place called → steps ≡ cond called 1 0 →
+    PacedPush left here.host here.place called → steps ≡ cond called 1 0 →
     next ≡ thread_at here (suc here.place) (there ∷ here.chain) →
     left_of left next < left_of left here + PACE * steps
 push_less left here next there true steps pushes steps_are next_is = rw (next_is, steps_are) (omega arith)
@@ -70,7 +70,7 @@ op_less code left paced here other steps next small runs = rw (runs.1, runs.0) (
 -- ---- runs
 
 runs_few : (code : CodeShape) (left : Allowance) → IsPaced code left → (count steps : ℕ) (first last : Thread) →
-    Runs code count steps first last → count + left_of left last ≤ left_of left first + PACE * steps
+    RunsInstructions code count steps first last → count + left_of left last ≤ left_of left first + PACE * steps
 runs_few code left paced zero steps first last runs =
     let same = ap (left_of left) runs.1 in omega arith
 runs_few code left paced (suc count) steps first last runs =
@@ -82,7 +82,8 @@ runs_few code left paced (suc count) steps first last runs =
     omega arith
 
 pub begun_few : (code : CodeShape) (left : Allowance) → IsPaced code left → code.main ≢ halt →
-    (count steps : ℕ) (first last : Thread) → IsAtEntry code code.main [] first → Runs code count steps first last →
+    (count steps : ℕ) (first last : Thread) → IsAtEntry code code.main [] first →
+    RunsInstructions code count steps first last →
     count ≤ PACE * (steps + 1)
 begun_few code left paced not_halt count steps first last begun runs =
     let so = runs_few code left paced count steps first last runs in

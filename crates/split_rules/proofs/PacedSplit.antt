@@ -21,13 +21,13 @@ use Rattle.need_labels.specs.Labelled.{Labelled}
 use Rattle.msg_cost.specs.Moves.{PlannedShape}
 use Rattle.split_rules.specs.Placed.{PlacedProgram, planned_from}
 use Rattle.split_rules.specs.Emissions.{Emission, instruction, entry, stands, lands, Emitted, Counts, counts_after}
-use Rattle.split_rules.specs.Flow.{Scope, State, Goes}
-use Rattle.split_rules.specs.Pace.{PACE, Allowance, is_call, is_call_there, calls_at, Pushes, EntersLower, IsPacedOp}
+use Rattle.split_rules.specs.Flow.{Scope, State, FlowGoes}
+use Rattle.split_rules.specs.Pace.{PACE, Allowance, is_call, is_call_there, calls_at, PacedPush, EntersLower, IsPacedOp}
 use Rattle.split_rules.specs.Pace.{IsPaced}
 use Rattle.split_rules.specs.SplitCode.{emitted_on, before_entry, before_landing, landed, code_labels}
 use Rattle.split_rules.specs.SplitCode.{placed_instruction, code_of_emissions, split_code}
 use Rattle.split_rules.specs.Splittable.{IsSplittable}
-use Rattle.split_rules.specs.ThreadRun.{Thread, Runs, IsAtMain}
+use Rattle.split_rules.specs.ThreadRun.{Thread, RunsInstructions, IsAtMain}
 use Rattle.split_rules.specs.Walk.{methods_emissions}
 use Rattle.split_rules.specs.WalkStart.{scope_of, front_emissions}
 use Rattle.split_rules.proofs.NumberedLists.{at_all}
@@ -146,7 +146,7 @@ call_ahead (lands host number ∷ xs) calls = absurd (cc)
 
 pushes_paced : (left : Allowance) (me : HostId) (place behind : ℕ) (called there : Bool) →
     (called ≡ true → there ≡ true) → (called ≡ true → behind ≡ 513) →
-    left me.0 place ≡ cond called 3 (behind + 2) → left me.0 (suc place) ≡ behind → Pushes left me place there
+    left me.0 place ≡ cond called 3 (behind + 2) → left me.0 (suc place) ≡ behind → PacedPush left me place there
 pushes_paced left me place behind true true agrees few here next =
     let is = few refl in rw (here, next) (omega arith)
 pushes_paced left me place behind true false agrees few here next = let never = agrees refl in absurd (cc)
@@ -193,7 +193,7 @@ next_there labelled hosts planned main emissions before one next others is me wi
 call_follows : (labelled : Labelled) (hosts : HostsShape) (planned : PlannedShape) (main : MethodTree)
     (emissions before : List Emission) (one : Emitted) (behind : List Emission) →
     emissions ≡ before ++ instruction one ∷ behind → (me : HostId) → me.0 < length hosts.hosts → one.host ≡ me →
-    (scope : Scope) (state last : State) → Goes scope state behind last → GoesOn me state.flow →
+    (scope : Scope) (state last : State) → FlowGoes scope state behind last → GoesOn me state.flow →
     calls_first behind ≡ true →
     calls_at (code_given labelled hosts planned main emissions) me (suc (length (emitted_on me before))) ≡ true
 call_follows labelled hosts planned main emissions before one [] is me within own scope state last goes on calls =
@@ -373,7 +373,7 @@ split_is_paced placed splittable =
 -- So its threads run few instructions.
 pub split_runs_few : (placed : PlacedProgram) → IsSplittable placed → (count steps : ℕ) (first last : Thread) →
     IsAtMain (split_code placed) first →
-    Runs (split_code placed) count steps first last → count ≤ PACE * (steps + 1)
+    RunsInstructions (split_code placed) count steps first last → count ≤ PACE * (steps + 1)
 split_runs_few placed splittable count steps first last begun runs =
     let paced = split_is_paced placed splittable in
     let number_of : EntryId → ℕ = λ there. there.0 in

@@ -8,8 +8,8 @@ use Rattle.host_code.specs.declared.instruction.Op.{Op}
 use Rattle.host_code.specs.declared.instruction.Op.TheVariants as op
 use Rattle.split_rules.specs.Emissions.{Emission, instruction, entry, stands, lands, Emitted}
 use Rattle.split_rules.specs.SplitCode.{before_entry, before_landing}
-use Rattle.split_rules.specs.Flow.{Scope, Flow, stopped, at, awaited, Pending, State, branched, after, IsFirst}
-use Rattle.split_rules.specs.Flow.{MayStand, Fits, Goes}
+use Rattle.split_rules.specs.Flow.{Scope, Flow, stopped, at, awaited, Pending, State, branched, after, IsOwedFirst}
+use Rattle.split_rules.specs.Flow.{MayEntryStand, EmissionFits, FlowGoes}
 
 -- ---- lists of what is pending
 
@@ -101,7 +101,7 @@ pub data Step (kind : Numbered) (state : State) (emission : Emission) : Type 0 w
       count kind (after state emission) ≡ count kind state → (after state emission).flow ≡ at host 0 →
       Step kind state emission
 
-pub first_off : (host : HostId) (number : ℕ) (pendings : List Pending) → IsFirst host number pendings →
+pub first_off : (host : HostId) (number : ℕ) (pendings : List Pending) → IsOwedFirst host number pendings →
     pendings ≡ record { host = host; number = number } ∷ drop 1 pendings
 first_off host number [] first = absurd first
 first_off host number (pending ∷ others) first = ap (λ one. one ∷ others) first
@@ -121,7 +121,8 @@ branch_step : (state : State) (one : Emitted) (what : Op) →
 branch_step state one (op.Branch guard number) = inr (refl, refl)
 branch_step state one other = inl (refl, refl)
 
-pub step_of : (kind : Numbered) (scope : Scope) (state : State) (emission : Emission) → Fits scope state emission →
+pub step_of : (kind : Numbered) (scope : Scope) (state : State) (emission : Emission) →
+    EmissionFits scope state emission →
     Step kind state emission
 step_of of_entries scope state (instruction one) fits =
     keeps (owed_branched state one.host one.op) (ap length (named_branched state one.host one.op))
@@ -181,7 +182,7 @@ count_after kind state emission (adds host more one_more passes) = omega (arith,
 count_after kind state emission (places host number is first as_many flow) = omega (arith, as_many)
 
 pub count_kept : (kind : Numbered) (scope : Scope) (state : State) (emissions : List Emission) (last : State) →
-    Goes scope state emissions last → count kind state ≤ count kind last
+    FlowGoes scope state emissions last → count kind state ≤ count kind last
 count_kept kind scope state [] last goes = omega (arith, ap (count kind) goes)
 count_kept kind scope state (emission ∷ others) last goes =
     let so = count_kept kind scope (after state emission) others last goes.1 in
@@ -192,18 +193,18 @@ count_kept kind scope state (emission ∷ others) last goes =
 
 pub record Halves (scope : Scope) (state : State) (front more : List Emission) (last : State) : Type 0 where
   pub middle : State
-  pub to : Goes scope state front middle
-  pub from : Goes scope middle more last
+  pub to : FlowGoes scope state front middle
+  pub from : FlowGoes scope middle more last
 
 pub halves : (scope : Scope) (state : State) (front more : List Emission) (last : State) →
-    Goes scope state (front ++ more) last → Halves scope state front more last
+    FlowGoes scope state (front ++ more) last → Halves scope state front more last
 halves scope state [] more last goes = record { middle = state; to = refl; from = goes }
 halves scope state (emission ∷ front) more last goes =
     let so = halves scope (after state emission) front more last goes.1 in
     record { middle = so.middle; to = (goes.0, so.to); from = so.from }
 
 pub ordered_at : (kind : Numbered) (scope : Scope) (state : State) (front : List Emission) (last : State) →
-    Goes scope state front last → AreOrdered kind state → AreOrdered kind last
+    FlowGoes scope state front last → AreOrdered kind state → AreOrdered kind last
 ordered_at kind scope state [] last goes ordered = subst (AreOrdered kind) goes ordered
 ordered_at kind scope state (emission ∷ front) last goes ordered =
     ordered_at kind scope (after state emission) front last goes.1
@@ -218,7 +219,7 @@ GoesOn host (at other count) = other ≡ host
 GoesOn host (awaited other) = other ≡ host
 
 pub goes_on_stand : (host other : HostId) (flow : Flow) → GoesOn host flow →
-    MayStand other flow → other ≡ host
+    MayEntryStand other flow → other ≡ host
 goes_on_stand host other stopped on may = absurd on
 goes_on_stand host other (at here count) on may = sym may ∙ on
 goes_on_stand host other (awaited here) on may = sym may ∙ on

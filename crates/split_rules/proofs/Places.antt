@@ -3,7 +3,7 @@ use Rattle.std.proofs.Common.{◌≡◌, ◌∙◌, ℕ, zero, suc, ◌≤◌, �
 use Rattle.std.proofs.Common.{◌++◌, length, Some, slice_get, refl, ap, sym, arith}
 use Rattle.std.proofs.lemmas.Bool.Decides.{eqb_tells}
 use Rattle.js_base.specs.declared.ids.HostId.{HostId}
-use Rattle.split_rules.specs.Emissions.{Emission, instruction, entry, stands, lands, Emitted, Named}
+use Rattle.split_rules.specs.Emissions.{Emission, instruction, entry, stands, lands, Emitted, NamedEntry}
 use Rattle.split_rules.specs.SplitCode.{emitted_on, entries_in}
 
 host_of : ℕ → HostId
@@ -126,13 +126,13 @@ found host (emission ∷ others) at one there = elim (shown host emission) [
 ]
 
 -- the entry of a number, with the emissions before it
-pub record FoundEntry (emissions : List Emission) (number : ℕ) (named : Named) : Type 0 where
+pub record FoundEntry (emissions : List Emission) (number : ℕ) (named : NamedEntry) : Type 0 where
   pub before : List Emission
   pub behind : List Emission
   pub is : emissions ≡ before ++ entry named ∷ behind
   pub place : length (entries_in before) ≡ number
 
-entry_later : (emission : Emission) (others : List Emission) (number : ℕ) (named : Named) →
+entry_later : (emission : Emission) (others : List Emission) (number : ℕ) (named : NamedEntry) →
     ((list : List Emission) → entries_in (emission ∷ list) ≡ entries_in list) → FoundEntry others number named →
     FoundEntry (emission ∷ others) number named
 entry_later emission others number named none so = record {
@@ -142,7 +142,7 @@ entry_later emission others number named none so = record {
   place = ap length (none so.before) ∙ so.place;
 }
 
-pub found_entry : (emissions : List Emission) (number : ℕ) (named : Named) →
+pub found_entry : (emissions : List Emission) (number : ℕ) (named : NamedEntry) →
     slice_get (entries_in emissions) number ≡ Some named → FoundEntry emissions number named
 found_entry [] number named there = absurd (cc)
 found_entry (instruction one ∷ others) number named there =

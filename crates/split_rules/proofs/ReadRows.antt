@@ -9,7 +9,7 @@ use Rattle.std.proofs.lemmas.List.{map-append}
 use Rattle.jif_tree.specs.Trees.{ExprTree, expr_tree}
 use Rattle.jif_tree.specs.Sizes.{expr_nodes}
 use Rattle.host_code.specs.declared.code_expr.Node.{Node}
-use Rattle.split_rules.specs.Expressions.{Reading, reads_in}
+use Rattle.split_rules.specs.Expressions.{ElementReading, reads_in}
 use Rattle.split_rules.specs.ReleaseRows.{read_rows, value_rows}
 use Rattle.split_rules.proofs.ExpressionNodes.{reads_few}
 
@@ -24,12 +24,12 @@ pub rows_then : {X : Type 0} (before between after one two : List X) → between
 rows_then before between after one two first second =
     second ∙ ap (λ list. list ++ two) first ∙ append_assoc before one two
 
-pub reads_then : (before between after : List (List (List Node))) (one two : List Reading) →
+pub reads_then : (before between after : List (List (List Node))) (one two : List ElementReading) →
     between ≡ before ++ read_rows one → after ≡ between ++ read_rows two →
     after ≡ before ++ read_rows (one ++ two)
 reads_then before between after one two first second =
     rows_then before between after (read_rows one) (read_rows two) first second
-    ∙ ap (λ list. before ++ list) (sym (map-append (λ (reading : Reading). reading.released) one two))
+    ∙ ap (λ list. before ++ list) (sym (map-append (λ (reading : ElementReading). reading.released) one two))
 
 -- there is room for the temporaries of a value behind an index
 pub value_behind : (middle most : ℕ) (index value : ExprTree) → middle ≡ 0 + reads_in index →

@@ -25,8 +25,8 @@ use Rattle.need_labels.specs.Labelled.{Labelled}
 use Rattle.msg_cost.specs.declared.spot.Spot.{Spot}
 use Rattle.msg_cost.specs.Moves.{PlannedShape, is_same, end_of, next_spot, own_statements, home_of, called_home}
 use Rattle.msg_cost.specs.Moves.{carried_to}
-use Rattle.split_rules.specs.Emissions.{Emission, entry, stands, lands, Counts, counts_after, Named}
-use Rattle.split_rules.specs.Expressions.{Reading, reads_in, nodes_of, readings_of, first_element, released_by}
+use Rattle.split_rules.specs.Emissions.{Emission, entry, stands, lands, Counts, counts_after, NamedEntry}
+use Rattle.split_rules.specs.Expressions.{ElementReading, reads_in, nodes_of, readings_of, first_element, released_by}
 use Rattle.split_rules.specs.Placed.{PlacedProgram, planned_from}
 use Rattle.split_rules.specs.Positions.{all_statements, number_of}
 use Rattle.split_rules.specs.ReleaseRows.{read_rows, value_rows, statement_at, statement_rows, evaluates, is_assignment}
@@ -50,7 +50,8 @@ IsThere pass statement = statement_at pass.statements (number_of statement) ≡ 
 
 -- ---- what evaluates nothing
 
-named_tells : (pass : Pass) (left : List (List (List Node))) (named : Named) → Tells pass left (entry named ∷ []) left
+named_tells : (pass : Pass) (left : List (List (List Node))) (named : NamedEntry) →
+    Tells pass left (entry named ∷ []) left
 named_tells pass left named = record { rows = λ more. refl }
 
 stands_tells : (pass : Pass) (left : List (List (List Node))) (host : HostId) (number : ℕ) →
@@ -240,7 +241,8 @@ element_tells pass host label heading field index value there =
     let released = released_by 0 index ++ released_by (reads_in index) value in
     let P : List Emission → Type 0 = λ xs.
     Tells pass [] (xs ++ releasing host label heading.id what released ∷ []) [] in
-    subst P (map-append (λ (reading : Reading). releasing host label heading.id (op.Read reading.field reading.index)
+    subst P (map-append (λ (reading : ElementReading). releasing host label heading.id
+    (op.Read reading.field reading.index)
     reading.released) one two)
     (tells_all pass host label heading.id (one ++ two) what released [] refl (ap statement_rows there)
     (tells_none pass []))

@@ -11,7 +11,7 @@ use Rattle.host_code.specs.declared.instruction.Instr.{Instr}
 use Rattle.host_code.specs.declared.instruction.Op.{Op}
 use Rattle.host_code.specs.declared.instruction.Op.TheVariants as op
 use Rattle.split_rules.specs.Emissions.{Emission, instruction, Emitted}
-use Rattle.split_rules.specs.Expressions.{Reading}
+use Rattle.split_rules.specs.Expressions.{ElementReading}
 use Rattle.split_rules.specs.ReleaseRows.{read_rows, statement_at, statement_rows, evaluates, rows_for, first_row}
 use Rattle.split_rules.specs.ReleaseRows.{other_rows, row_of, left_behind, rows_told}
 use Rattle.split_rules.specs.SplitCode.{emitted_on, placed_instruction, landed}
@@ -151,7 +151,7 @@ tells_first pass one {xs} {last} does told = record {
 -- ---- expressions
 
 -- reads take their rows
-pub tells_reads : (pass : Pass) (on : HostId) (label : Label) (id : StmtId) (readings : List Reading)
+pub tells_reads : (pass : Pass) (on : HostId) (label : Label) (id : StmtId) (readings : List ElementReading)
     (rows : List (List (List Node))) →
     Tells pass (rows_on pass on (read_rows readings ++ rows)) (read_emissions on label id readings)
     (rows_on pass on rows)
@@ -168,7 +168,7 @@ tells_reads pass on label id (reading ∷ readings) rows =
     (tells_reads pass on label id readings rows)
 
 -- Reads and the instruction that uses what they left take their rows, where these are the next.
-pub tells_group : (pass : Pass) (on : HostId) (label : Label) (id : StmtId) (readings : List Reading) (what : Op)
+pub tells_group : (pass : Pass) (on : HostId) (label : Label) (id : StmtId) (readings : List ElementReading) (what : Op)
     (released : List (List Node)) (rows : List (List (List Node))) (more : List Emission)
     {last : List (List (List Node))} →
     Evaluates pass (record { host = on; label = label; statement = id; op = what; released = released }) true →
@@ -181,7 +181,7 @@ tells_group pass on label id readings what released rows more does others =
     (tells_then pass (tells_one pass one rows does) others)
 
 -- and so they do where they are the first of their statement
-pub tells_begun : (pass : Pass) (on : HostId) (label : Label) (id : StmtId) (readings : List Reading) (what : Op)
+pub tells_begun : (pass : Pass) (on : HostId) (label : Label) (id : StmtId) (readings : List ElementReading) (what : Op)
     (released : List (List Node)) (more : List Emission) {last : List (List (List Node))} →
     Evaluates pass (record { host = on; label = label; statement = id; op = what; released = released }) true →
     Tells pass (rows_on pass on (statement_rows (statement_at pass.statements id)))
@@ -199,7 +199,7 @@ tells_begun pass on label id (reading ∷ readings) what released more does told
     }) refl told
 
 -- all of a statement that evaluates one value, or several by one instruction
-pub tells_all : (pass : Pass) (on : HostId) (label : Label) (id : StmtId) (readings : List Reading) (what : Op)
+pub tells_all : (pass : Pass) (on : HostId) (label : Label) (id : StmtId) (readings : List ElementReading) (what : Op)
     (released : List (List Node)) (more : List Emission) {last : List (List (List Node))} →
     Evaluates pass (record { host = on; label = label; statement = id; op = what; released = released }) true →
     statement_rows (statement_at pass.statements id) ≡ read_rows readings ++ released ∷ [] →

@@ -38,7 +38,7 @@ use Rattle.jif_tree.specs.ValueLabels.{AreAllValuesLabelled}
 use Rattle.jif_tree.proofs.LabelsKept.{block_stays, Stay}
 use Rattle.split_rules.specs.Placed.{PlacedProgram, planned_from}
 use Rattle.split_rules.specs.Allowed.{IsAllowed, IsTrustedHost}
-use Rattle.split_rules.specs.Held.{HoldsField, HoldsStatement, IsHeld}
+use Rattle.split_rules.specs.Held.{HoldsField, HoldsStatement, IsWellHeld}
 use Rattle.split_rules.specs.Splittable.{IsSplittable}
 use Rattle.split_rules.specs.Walk.{need_of}
 use Rattle.split_rules.proofs.Places.{same_host}
@@ -322,7 +322,7 @@ told_flow field to (telling ∷ tellings) flow =
 pub record Premises (placed : PlacedProgram) : Type 0 where
   pub splittable : IsSplittable placed
   pub allowed : IsAllowed placed
-  pub held : IsHeld placed
+  pub held : IsWellHeld placed
 
 -- the host of a field may see it, and what its reads tell
 pub field_held : (placed : PlacedProgram) →
@@ -522,7 +522,7 @@ methods_well principals labelled planned program final are place (method ∷ met
           (all_second (IsUseWell labelled planned principals) own_uses _ uses.1),
     )
 
-pub program_tells_well : (placed : PlacedProgram) → IsSplittable placed → IsAllowed placed → IsHeld placed →
+pub program_tells_well : (placed : PlacedProgram) → IsSplittable placed → IsAllowed placed → IsWellHeld placed →
     AllByRecursion (MethodTellsWell placed.hosts.principals placed.labelled (planned_from placed))
     placed.labelled.program.methods
 program_tells_well placed splittable allowed held =

@@ -17,10 +17,10 @@ use Rattle.split_rules.specs.Emissions.{Emission, instruction, entry, stands, la
 use Rattle.split_rules.specs.SplitCode.{emitted_on}
 use Rattle.split_rules.specs.Walk.{method_entry, methods_emissions, program_emissions}
 use Rattle.split_rules.specs.Flow.{Scope, Flow, stopped, at, awaited, Pending, State, counts_of, branched, after}
-use Rattle.split_rules.specs.Flow.{flow_behind, flow_after, InstructionFits, IsFirst, Fits, Goes}
+use Rattle.split_rules.specs.Flow.{flow_behind, flow_after, InstructionFitsFlow, IsOwedFirst, EmissionFits, FlowGoes}
 use Rattle.split_rules.specs.WalkStart.{scope_of, front_emissions, walk_start, method_entries}
 use Rattle.split_rules.specs.Splittable.{IsSplittable}
-use Rattle.split_rules.specs.Settled.{host_standing, host_landing, IsWithin, IsOn, BranchIsOn, AreSettled}
+use Rattle.split_rules.specs.Settled.{host_standing, host_landing, IsOnSomeHost, IsOn, BranchIsOn, AreSettled}
 use Rattle.split_rules.proofs.Places.{found}
 use Rattle.split_rules.proofs.Pendings.{Numbered, of_entries, of_branches, before, mark, before_mark, passes_mark}
 use Rattle.split_rules.proofs.Pendings.{count_kept, halves}
@@ -109,7 +109,7 @@ record IsKnown (hosts : ℕ) (state : State) : Type 0 where
   pub opened : AreWithin hosts state.opened
 
 one_within : (hosts : ℕ) (scope : Scope) (state : State) (one : Emitted) (flow : Flow) →
-    InstructionFits scope state one flow → FlowIsWithin hosts flow → one.host.0 < hosts
+    InstructionFitsFlow scope state one flow → FlowIsWithin hosts flow → one.host.0 < hosts
 one_within hosts scope state one stopped fits within = absurd fits
 one_within hosts scope state one (at host count) fits within =
     subst (λ (here : HostId). here.0 < hosts) fits.0 within
@@ -134,7 +134,7 @@ branched_known hosts state me (op.Branch guard number) within known =
     record { flow = known.flow; owed = known.owed; opened = (within, known.opened) }
 branched_known hosts state me other within known = known
 
-first_within : (hosts : ℕ) (host : HostId) (number : ℕ) (pendings : List Pending) → IsFirst host number pendings →
+first_within : (hosts : ℕ) (host : HostId) (number : ℕ) (pendings : List Pending) → IsOwedFirst host number pendings →
     AreWithin hosts pendings → host.0 < hosts
 first_within hosts host number [] first within = absurd first
 first_within hosts host number (pending ∷ others) first within =
@@ -144,8 +144,8 @@ others_within : (hosts : ℕ) (pendings : List Pending) → AreWithin hosts pend
 others_within hosts [] within = tt
 others_within hosts (pending ∷ others) within = within.1
 
-known_after : (scope : Scope) (state : State) (emission : Emission) → Fits scope state emission →
-    IsKnown scope.hosts state → IsWithin scope.hosts emission × IsKnown scope.hosts (after state emission)
+known_after : (scope : Scope) (state : State) (emission : Emission) → EmissionFits scope state emission →
+    IsKnown scope.hosts state → IsOnSomeHost scope.hosts emission × IsKnown scope.hosts (after state emission)
 known_after scope state (instruction one) fits known =
     let own = one_within scope.hosts scope state one state.flow fits known.flow in
     let so = branched_known scope.hosts state one.host one.op own known in (
@@ -166,7 +166,8 @@ known_after scope state (lands host number) fits known =
     (own, record { flow = own; owed = known.owed; opened = others_within scope.hosts state.opened known.opened })
 
 all_within : (scope : Scope) (state : State) (emissions : List Emission) (last : State) →
-    Goes scope state emissions last → IsKnown scope.hosts state → AllByRecursion (IsWithin scope.hosts) emissions
+    FlowGoes scope state emissions last → IsKnown scope.hosts state →
+    AllByRecursion (IsOnSomeHost scope.hosts) emissions
 all_within scope state [] last goes known = tt
 all_within scope state (emission ∷ others) last goes known =
     let so = known_after scope state emission goes.0 known in
@@ -182,15 +183,15 @@ methods_known hosts planned number (method ∷ methods) homes =
     (homes method, methods_known hosts planned (suc number) methods homes)
 
 methods_within : (hosts : ℕ) (planned : PlannedShape) (methods : List MethodTree) (emissions : List Emission) →
-    ((method : MethodTree) → (home_of planned method).0 < hosts) → AllByRecursion (IsWithin hosts) emissions →
-    AllByRecursion (IsWithin hosts) (map (method_entry planned) methods ++ emissions)
+    ((method : MethodTree) → (home_of planned method).0 < hosts) → AllByRecursion (IsOnSomeHost hosts) emissions →
+    AllByRecursion (IsOnSomeHost hosts) (map (method_entry planned) methods ++ emissions)
 methods_within hosts planned [] emissions homes within = within
 methods_within hosts planned (method ∷ methods) emissions homes within =
     (homes method, methods_within hosts planned methods emissions homes within)
 
 given_within : (labelled : Labelled) (hosts : HostsShape) (planned : PlannedShape) (main : MethodTree)
     (emissions : List Emission) (last : State) → IsWalk labelled hosts planned main emissions last →
-    AllByRecursion (IsWithin (length hosts.hosts)) (given labelled planned main emissions)
+    AllByRecursion (IsOnSomeHost (length hosts.hosts)) (given labelled planned main emissions)
 given_within labelled hosts planned main emissions last walk =
     let many = length hosts.hosts in
     let methods = labelled.program.methods in
@@ -208,12 +209,12 @@ given_within labelled hosts planned main emissions last walk =
 -- ---- branches
 
 branch_below : (scope : Scope) (first : State) (emissions front : List Emission) (one : Emitted)
-    (behind : List Emission) (last : State) → Goes scope first emissions last →
+    (behind : List Emission) (last : State) → FlowGoes scope first emissions last →
     emissions ≡ front ++ instruction one ∷ behind → (guard : _) (number : ℕ) → one.op ≡ op.Branch guard number →
     number < last.branches
 branch_below scope first emissions front one behind last goes is guard number what_is =
     let split = halves scope first front (instruction one ∷ behind) last
-    (subst (λ (list : List Emission). Goes scope first list last) is goes) in
+    (subst (λ (list : List Emission). FlowGoes scope first list last) is goes) in
     let middle = split.middle in
     let number_is = branch_number scope middle one middle.flow guard number what_is split.from.0 in
     let one_more : (after middle (instruction one)).branches ≡ suc middle.branches =

@@ -18,12 +18,12 @@ use Rattle.host_code.specs.Sound.{IsSoundCode, FieldFits, VariableFits, EntryFit
 use Rattle.need_labels.specs.Labelled.{Labelled}
 use Rattle.msg_cost.specs.Moves.{PlannedShape, home_of, called_home}
 use Rattle.split_rules.specs.Placed.{PlacedProgram, planned_from}
-use Rattle.split_rules.specs.Emissions.{Emission, entry, Named}
+use Rattle.split_rules.specs.Emissions.{Emission, entry, NamedEntry}
 use Rattle.split_rules.specs.Walk.{method_entry, need_of}
 use Rattle.split_rules.specs.SplitCode.{entries_in, code_labels}
 use Rattle.split_rules.specs.SplitCode.{label_of_emission, placed_entries, code_variable}
 use Rattle.split_rules.specs.SplitCode.{code_of_emissions, part_on}
-use Rattle.split_rules.specs.Flow.{State, Goes}
+use Rattle.split_rules.specs.Flow.{State, FlowGoes}
 use Rattle.split_rules.specs.Splittable.{IsSplittable}
 use Rattle.jif_tree.specs.Limits.{IsSizedField}
 use Rattle.jif_tree.specs.Named.{IsNameInText, IsNamedVariable}
@@ -212,7 +212,7 @@ main_on_root labelled hosts planned main emissions main_is =
     let labels = code_labels labelled all in
     let methods = labelled.program.methods in
     let place = labelled.program.main.0 in
-    let named : Named = record {
+    let named : NamedEntry = record {
       host = home_of planned main;
       label = main.begin;
       need = need_of planned (main.head ∷ []);
@@ -285,7 +285,7 @@ pub sound_code : (placed : PlacedProgram) (emissions : List Emission) (last : St
     let all = front_emissions placed.labelled planned ++ emissions in
     let code = code_of_emissions placed.labelled placed.hosts planned all in
     HasFew code all →
-    Goes (scope_of placed.labelled placed.hosts placed.plan) (walk_start placed.labelled planned) emissions last →
+    FlowGoes (scope_of placed.labelled placed.hosts placed.plan) (walk_start placed.labelled planned) emissions last →
     IsEnd last → IsSoundCode code
 sound_code placed emissions last splittable few goes end =
     let labelled = placed.labelled in

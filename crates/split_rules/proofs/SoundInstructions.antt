@@ -21,11 +21,12 @@ use Rattle.host_code.specs.Sound as sound
 use Rattle.host_code.specs.Sound.{IsLeaving, temporaries_at, PartFits}
 use Rattle.need_labels.specs.Labelled.{Labelled}
 use Rattle.msg_cost.specs.Moves.{PlannedShape, home_of}
-use Rattle.split_rules.specs.Emissions.{Emission, instruction, Emitted, Named}
+use Rattle.split_rules.specs.Emissions.{Emission, instruction, Emitted, NamedEntry}
 use Rattle.split_rules.specs.SplitCode.{emitted_on, entries_in, landed, placed_instruction, part_on}
 use Rattle.split_rules.specs.SplitCode.{label_place, code_labels, label_of_emission, code_of_emissions}
-use Rattle.split_rules.specs.Flow.{Scope, State, Flow, stopped, at, awaited, branched, after, InstructionFits, Goes}
-use Rattle.split_rules.specs.Flow.{OperationFits, IsEntryOn}
+use Rattle.split_rules.specs.Flow.{Scope, State, Flow, stopped, at, awaited, branched, after, InstructionFitsFlow}
+use Rattle.split_rules.specs.Flow.{FlowGoes}
+use Rattle.split_rules.specs.Flow.{OperationFitsScope, IsNamedEntryOn}
 use Rattle.split_rules.specs.WalkStart.{scope_of}
 use Rattle.split_rules.proofs.Places.{found, entries_append, emitted_few}
 use Rattle.split_rules.proofs.Pendings.{of_branches, count, due, IsAmong, halves}
@@ -89,12 +90,12 @@ get_left (first ∷ xs) ys (suc place) x there = get_left xs ys place x there
 
 names_given : (labelled : Labelled) (hosts : HostsShape) (planned : PlannedShape) (main : MethodTree)
     (emissions before more : List Emission) (middle : State) → emissions ≡ before ++ more →
-    Goes (scope_of labelled hosts planned.plan) (start_of planned main labelled.program.methods) before middle →
+    FlowGoes (scope_of labelled hosts planned.plan) (start_of planned main labelled.program.methods) before middle →
     map (λ named. named.host) (entries_in (given labelled planned main emissions))
     ≡ middle.named ++ map (λ named. named.host) (entries_in more)
 names_given labelled hosts planned main emissions before more middle is to =
     let methods = labelled.program.methods in
-    let own : Named → HostId = λ named. named.host in
+    let own : NamedEntry → HostId = λ named. named.host in
     let start = start_of planned main methods in
     let front = front_of planned main methods in
     let hosts_in : List Emission → List HostId = λ list. map own (entries_in list) in
@@ -111,13 +112,13 @@ names_given labelled hosts planned main emissions before more middle is to =
 
 named_there : (labelled : Labelled) (hosts : HostsShape) (planned : PlannedShape) (main : MethodTree)
     (emissions before more : List Emission) (middle : State) → emissions ≡ before ++ more →
-    Goes (scope_of labelled hosts planned.plan) (start_of planned main labelled.program.methods) before middle →
-    (on : HostId) (there : EntryId) → IsEntryOn middle.named on there →
+    FlowGoes (scope_of labelled hosts planned.plan) (start_of planned main labelled.program.methods) before middle →
+    (on : HostId) (there : EntryId) → IsNamedEntryOn middle.named on there →
     sound.IsEntryOn (code_given labelled hosts planned main emissions) on there
 named_there labelled hosts planned main emissions before more middle is to on there fits =
     let all = given labelled planned main emissions in
     let labels = code_labels labelled all in
-    let own : Named → HostId = λ named. named.host in
+    let own : NamedEntry → HostId = λ named. named.host in
     let so = mapped own (entries_in all) there.0 on
     (ap (λ list. slice_get list there.0)
     (names_given labelled hosts planned main emissions before more middle is to)
@@ -130,10 +131,10 @@ named_there labelled hosts planned main emissions before more middle is to on th
 -- ---- branches
 
 pub branch_number : (scope : Scope) (state : State) (one : Emitted) (flow : Flow) (guard : _) (number : ℕ) →
-    one.op ≡ op.Branch guard number → InstructionFits scope state one flow → number ≡ state.branches
+    one.op ≡ op.Branch guard number → InstructionFitsFlow scope state one flow → number ≡ state.branches
 branch_number scope state one stopped guard number is fits = absurd fits
 branch_number scope state one (at here count) guard number is fits =
-    (subst (OperationFits scope state here count) is fits.1).1
+    (subst (OperationFitsScope scope state here count) is fits.1).1
 branch_number scope state one (awaited here) guard number is fits = absurd fits
 
 opened_by : (state : State) (one : Emitted) (guard : _) (number : ℕ) (me : HostId) →
@@ -189,11 +190,11 @@ leads_there labelled hosts planned main emissions last walk before one behind is
 fits_where : (labelled : Labelled) (hosts : HostsShape) (planned : PlannedShape) (main : MethodTree)
     (emissions : List Emission) (state : State) (one : Emitted) (me : HostId) (read larger : ℕ) (flow : Flow) →
     HasScope (scope_of labelled hosts planned.plan) (code_given labelled hosts planned main emissions) →
-    ((on : HostId) (there : EntryId) → IsEntryOn state.named on there →
+    ((on : HostId) (there : EntryId) → IsNamedEntryOn state.named on there →
     sound.IsEntryOn (code_given labelled hosts planned main emissions) on there) →
     Leads (code_given labelled hosts planned main emissions) (given labelled planned main emissions) me state one.op →
     one.host ≡ me → read ≤ larger → Under me read flow →
-    InstructionFits (scope_of labelled hosts planned.plan) state one flow →
+    InstructionFitsFlow (scope_of labelled hosts planned.plan) state one flow →
     sound.OperationFits (code_given labelled hosts planned main emissions) me larger
     (landed me (given labelled planned main emissions) one.op)
 fits_where labelled hosts planned main emissions state one me read larger stopped has named leads own more so fits =
@@ -206,7 +207,7 @@ fits_where labelled hosts planned main emissions state one me read larger (at he
     let few_enough : count ≤ larger = omega arith in
     operation_fits scope (code_given labelled hosts planned main emissions) (given labelled planned main emissions)
     state me count larger one.op has few_enough named leads
-    (subst (λ (host : HostId). OperationFits scope state host count one.op) on_me fits.1)
+    (subst (λ (host : HostId). OperationFitsScope scope state host count one.op) on_me fits.1)
 fits_where labelled hosts planned main emissions state one me read larger (awaited here) has named leads own more so
     fits = absurd fits
 
@@ -248,7 +249,7 @@ instruction_fits labelled hosts planned main emissions last walk has me within s
     let so = found me emissions spot one.0
     (ap (λ list. slice_get list spot) (sym (given_emitted me labelled planned main emissions)) ∙ one.1) in
     let split = halves scope start so.before (instruction one.0 ∷ so.behind) last
-    (subst (λ (list : List Emission). Goes scope start list last) so.is walk.goes) in
+    (subst (λ (list : List Emission). FlowGoes scope start list last) so.is walk.goes) in
     let all_is : all ≡ (front ++ so.before) ++ instruction one.0 ∷ so.behind =
     ap (λ list. front ++ list) so.is ∙ sym (append_assoc front so.before (instruction one.0 ∷ so.behind)) in
     let place : length (emitted_on me (front ++ so.before)) ≡ spot =

@@ -21,7 +21,7 @@ use Rattle.host_code.specs.Code.{CodeShape, part_of}
 use Rattle.host_code.specs.Sound.{IsLeaving}
 use Rattle.need_labels.specs.Labelled.{Labelled}
 use Rattle.msg_cost.specs.Moves.{PlannedShape}
-use Rattle.split_rules.specs.Emissions.{Emission, Emitted, Named}
+use Rattle.split_rules.specs.Emissions.{Emission, Emitted, NamedEntry}
 use Rattle.split_rules.specs.SplitCode.{emitted_on, entries_in, before_entry, landed, placed_instruction}
 use Rattle.split_rules.specs.SplitCode.{part_on, placed_entries, code_labels}
 use Rattle.split_rules.specs.SplitCode.{code_of_emissions}
@@ -101,14 +101,14 @@ long_part labelled hosts planned emissions host within =
 -- an entry of the code, by what it is made of
 pub entry_made : (labels : List Label) (emissions : List Emission) (place : ℕ) (there : Entry) →
     slice_get (placed_entries labels emissions 0 (entries_in emissions)) place ≡ Some there →
-    (named : Named) × (slice_get (entries_in emissions) place ≡ Some named)
+    (named : NamedEntry) × (slice_get (entries_in emissions) place ≡ Some named)
     × (there ≡ code_entry labels emissions place named)
 entry_made labels emissions place there is =
     let so = made (code_entry labels emissions) (entries_in emissions) place there
     (ap (λ list. slice_get list place) (sym (entries_numbered labels emissions 0 (entries_in emissions))) ∙ is) in
     (so.of, so.there, so.is)
 
-pub entry_there : (labels : List Label) (emissions : List Emission) (place : ℕ) (named : Named) →
+pub entry_there : (labels : List Label) (emissions : List Emission) (place : ℕ) (named : NamedEntry) →
     slice_get (entries_in emissions) place ≡ Some named →
     slice_get (placed_entries labels emissions 0 (entries_in emissions)) place
     ≡ Some (code_entry labels emissions place named)

@@ -11,7 +11,7 @@ use Rattle.host_code.specs.Sound.{IsLeaving}
 use Rattle.split_rules.specs.Emissions.{Emission, instruction, entry, stands, lands, Emitted}
 use Rattle.split_rules.specs.SplitCode.{emitted_on}
 use Rattle.split_rules.specs.Flow.{Scope, Flow, stopped, at, awaited, State, after, flow_behind, flow_after}
-use Rattle.split_rules.specs.Flow.{InstructionFits, Fits, Goes}
+use Rattle.split_rules.specs.Flow.{InstructionFitsFlow, EmissionFits, FlowGoes}
 use Rattle.split_rules.proofs.Places.{shown, emitted_append}
 use Rattle.split_rules.proofs.Pendings.{Numbered, of_entries, of_branches, due, count, before, mark, Passes}
 use Rattle.split_rules.proofs.Pendings.{before_mark, passes_mark, IsAmong}
@@ -25,13 +25,13 @@ pub emitted_own : (host : HostId) (one : Emitted) (others : List Emission) → o
 emitted_own host one others own = rw (eq-eqb one.host.0 host.0 (ap (λ id. id.0) own)) refl
 
 pub own_instruction : (host : HostId) (scope : Scope) (state : State) (one : Emitted) (flow : Flow) →
-    InstructionFits scope state one flow → GoesOn host flow → one.host ≡ host
+    InstructionFitsFlow scope state one flow → GoesOn host flow → one.host ≡ host
 own_instruction host scope state one stopped fits on = absurd on
 own_instruction host scope state one (at here count) fits on = sym fits.0 ∙ on
 own_instruction host scope state one (awaited here) fits on = absurd fits
 
 pub has_more : (host : HostId) (scope : Scope) (state : State) (emissions : List Emission) (last : State) →
-    Goes scope state emissions last → last.flow ≡ stopped → GoesOn host state.flow →
+    FlowGoes scope state emissions last → last.flow ≡ stopped → GoesOn host state.flow →
     0 < length (emitted_on host emissions)
 has_more host scope state [] last goes ended on =
     absurd (subst (GoesOn host) (ap (λ one. one.flow) goes ∙ ended) on)
@@ -66,13 +66,13 @@ leaves_or_goes me count (op.GoWith there on riders) = inl tt
 leaves_or_goes me count other = inr refl
 
 pub behind_instruction : (scope : Scope) (state : State) (one : Emitted) (flow : Flow) →
-    InstructionFits scope state one flow → IsLeaving one.op ⊎ GoesOn one.host (flow_after flow one)
+    InstructionFitsFlow scope state one flow → IsLeaving one.op ⊎ GoesOn one.host (flow_after flow one)
 behind_instruction scope state one stopped fits = absurd fits
 behind_instruction scope state one (at here count) fits = leaves_or_goes one.host count one.op
 behind_instruction scope state one (awaited here) fits = absurd fits
 
 pub leaves_last : (host : HostId) (scope : Scope) (state : State) (emissions : List Emission) (last : State) →
-    Goes scope state emissions last → last.flow ≡ stopped → LeavesLast (emitted_on host emissions)
+    FlowGoes scope state emissions last → last.flow ≡ stopped → LeavesLast (emitted_on host emissions)
 leaves_last host scope state [] last goes ended = tt
 leaves_last host scope state (instruction one ∷ others) last goes ended =
     let so = leaves_last host scope (after state (instruction one)) others last goes.1 ended in
@@ -146,7 +146,7 @@ placed_here kind host number emission others is more = record {
 }
 
 pub placed : (kind : Numbered) (host : HostId) (number : ℕ) (scope : Scope) (state : State)
-    (emissions : List Emission) (last : State) → Goes scope state emissions last → AreOrdered kind state →
+    (emissions : List Emission) (last : State) → FlowGoes scope state emissions last → AreOrdered kind state →
     due kind last ≡ [] → last.flow ≡ stopped → IsAmong host number (due kind state) →
     Placed kind host number emissions
 placed kind host number scope state [] last goes ordered none ended among =
@@ -177,7 +177,7 @@ placed kind host number scope state (emission ∷ others) last goes ordered none
 
 -- what is placed later passes all that comes before
 pub passed_front : (kind : Numbered) (number : ℕ) (scope : Scope) (state : State) (front more : List Emission)
-    (last : State) → Goes scope state front last → AreOrdered kind state → count kind last ≤ number →
+    (last : State) → FlowGoes scope state front last → AreOrdered kind state → count kind last ≤ number →
     before kind number (front ++ more) ≡ front ++ before kind number more
 passed_front kind number scope state [] more last goes ordered large = refl
 passed_front kind number scope state (emission ∷ front) more last goes ordered large =
@@ -199,13 +199,13 @@ passed_front kind number scope state (emission ∷ front) more last goes ordered
 pub placed_from : (kind : Numbered) (host : HostId) (number : ℕ) (scope : Scope) (state : State)
     (front : List Emission) (emission : Emission) (more : List Emission) (last : State) (emissions : List Emission) →
     emissions ≡ front ++ emission ∷ more →
-    Goes scope state emissions last → AreOrdered kind state → due kind last ≡ [] → last.flow ≡ stopped →
-    ((middle : State) → Goes scope state front middle → Fits scope middle emission →
+    FlowGoes scope state emissions last → AreOrdered kind state → due kind last ≡ [] → last.flow ≡ stopped →
+    ((middle : State) → FlowGoes scope state front middle → EmissionFits scope middle emission →
     (count kind middle ≤ number) × IsAmong host number (due kind (after middle emission))) →
     Passes kind number emission → Placed kind host number emissions
 placed_from kind host number scope state front emission more last emissions is goes ordered none ended added passes =
     let split = halves scope state front (emission ∷ more) last
-    (subst (λ (list : List Emission). Goes scope state list last) is goes) in
+    (subst (λ (list : List Emission). FlowGoes scope state list last) is goes) in
     let what = added split.middle split.to split.from.0 in
     let then_ordered = ordered_after kind split.middle emission
     (step_of kind scope split.middle emission split.from.0)

@@ -15,7 +15,7 @@ use Rattle.host_code.specs.Sound.{temporaries_after, temporaries_past, temporari
 use Rattle.split_rules.specs.Emissions.{Emission, instruction, entry, stands, lands, Emitted}
 use Rattle.split_rules.specs.SplitCode.{emitted_on, before_entry, landed, placed_instruction, part_on}
 use Rattle.split_rules.specs.Flow.{Scope, Flow, stopped, at, awaited, State, after, flow_behind, flow_after}
-use Rattle.split_rules.specs.Flow.{InstructionFits, Fits, Goes}
+use Rattle.split_rules.specs.Flow.{InstructionFitsFlow, EmissionFits, FlowGoes}
 use Rattle.split_rules.proofs.Places.{shown, same_host, emitted_append, found}
 use Rattle.split_rules.proofs.Pendings.{of_entries}
 use Rattle.split_rules.proofs.Standing.{emitted_own, Placed}
@@ -86,7 +86,7 @@ under_behind host me count fewer (op.CallWith there on riders) so = tt
 under_behind host me count fewer other so = so
 
 under_instruction : (host : HostId) (scope : Scope) (state : State) (one : Emitted) (count : ℕ) (flow : Flow) →
-    InstructionFits scope state one flow → Under host count flow →
+    InstructionFitsFlow scope state one flow → Under host count flow →
     Under host (reads_with host count (instruction one)) (flow_after flow one)
 under_instruction host scope state one count stopped fits under = tt
 under_instruction host scope state one count (at here fewer) fits under =
@@ -96,7 +96,7 @@ under_instruction host scope state one count (at here fewer) fits under =
 under_instruction host scope state one count (awaited here) fits under = tt
 
 under_after : (host : HostId) (scope : Scope) (state : State) (emission : Emission) (count : ℕ) →
-    Fits scope state emission → Under host count state.flow →
+    EmissionFits scope state emission → Under host count state.flow →
     Under host (reads_with host count emission) (after state emission).flow
 under_after host scope state (instruction one) count fits under =
     under_instruction host scope state one count state.flow fits under
@@ -105,7 +105,8 @@ under_after host scope state (stands on number) count fits under = λ same. omeg
 under_after host scope state (lands on number) count fits under = λ same. omega arith
 
 pub under : (host : HostId) (scope : Scope) (state : State) (emissions : List Emission) (last : State) (count : ℕ) →
-    Goes scope state emissions last → Under host count state.flow → Under host (reads host count emissions) last.flow
+    FlowGoes scope state emissions last → Under host count state.flow →
+    Under host (reads host count emissions) last.flow
 under host scope state [] last count goes so = subst (λ (one : State). Under host count one.flow) goes so
 under host scope state (emission ∷ others) last count goes so =
     under host scope (after state emission) others last (reads_with host count emission) goes.1

@@ -26,10 +26,10 @@ use Rattle.need_labels.specs.Labelled.{Labelled}
 use Rattle.need_labels.specs.Plan.{field_host}
 use Rattle.msg_cost.specs.Moves.{PlannedShape}
 use Rattle.split_rules.specs.Placed.{PlacedProgram, planned_from}
-use Rattle.split_rules.specs.Emissions.{Emission, instruction, entry, stands, lands, Emitted, Named, Counts}
+use Rattle.split_rules.specs.Emissions.{Emission, instruction, entry, stands, lands, Emitted, NamedEntry, Counts}
 use Rattle.split_rules.specs.Emissions.{counts_after}
 use Rattle.split_rules.specs.Allowed.{IsTrustedHost}
-use Rattle.split_rules.specs.Asking.{IfElsewhere, IsSeenBy}
+use Rattle.split_rules.specs.Asking.{IfElsewhere, IsLabelSeenBy}
 use Rattle.split_rules.specs.SplitCode.{entries_in, landed, placed_instruction, code_labels}
 use Rattle.split_rules.specs.SplitCode.{code_variable, label_place, label_of_emission, code_of_emissions}
 use Rattle.split_rules.specs.Walk.{method_entry, program_emissions, methods_emissions}
@@ -50,7 +50,7 @@ use Rattle.split_rules.proofs.SeenPrograms.{zip_at}
 
 -- ---- a program
 
-entries_told : (labelled : Labelled) (planned : PlannedShape) (named : List Named) (methods : List MethodTree) →
+entries_told : (labelled : Labelled) (planned : PlannedShape) (named : List NamedEntry) (methods : List MethodTree) →
     AreTold labelled planned named (map (method_entry planned) methods)
 entries_told labelled planned named [] = tt
 entries_told labelled planned named (method ∷ methods) =
@@ -98,16 +98,16 @@ program_told placed main main_is well = subst P (sym (front_is placed.labelled p
 
 -- ---- an instruction of a walk
 
-told_behind : (labelled : Labelled) (planned : PlannedShape) (named : List Named) (before : List Emission)
+told_behind : (labelled : Labelled) (planned : PlannedShape) (named : List NamedEntry) (before : List Emission)
     (one : Emitted) (behind : List Emission) → AreTold labelled planned named (before ++ instruction one ∷ behind) →
     TellsWell labelled planned (named ++ entries_in before) one.host one.label one.op
 told_behind labelled planned named [] one behind told =
-    let P : List Named → Type 0 = λ list. TellsWell labelled planned list one.host one.label one.op in
+    let P : List NamedEntry → Type 0 = λ list. TellsWell labelled planned list one.host one.label one.op in
     subst P (sym (append-nil named)) told.0
 told_behind labelled planned named (instruction other ∷ before) one behind told =
     told_behind labelled planned named before one behind told.1
 told_behind labelled planned named (entry other ∷ before) one behind told =
-    let P : List Named → Type 0 = λ list. TellsWell labelled planned list one.host one.label one.op in
+    let P : List NamedEntry → Type 0 = λ list. TellsWell labelled planned list one.host one.label one.op in
     subst P (append_assoc named (other ∷ []) (entries_in before))
     (told_behind labelled planned (named ++ other ∷ []) before one behind told)
 told_behind labelled planned named (stands host number ∷ before) one behind told =
@@ -115,7 +115,7 @@ told_behind labelled planned named (stands host number ∷ before) one behind to
 told_behind labelled planned named (lands host number ∷ before) one behind told =
     told_behind labelled planned named before one behind told
 
-hands_more : (planned : PlannedShape) (named more : List Named) (host : HostId) (pc : Label) (there : EntryId)
+hands_more : (planned : PlannedShape) (named more : List NamedEntry) (host : HostId) (pc : Label) (there : EntryId)
     (on : HostId) → HandsWell planned named host pc there on → HandsWell planned (named ++ more) host pc there on
 hands_more planned named more host pc there on well = record {
   no_halt = well.no_halt;
@@ -127,7 +127,7 @@ hands_more planned named more host pc there on well = record {
   receiver = well.receiver;
 }
 
-calls_more : (planned : PlannedShape) (named more : List Named) (host : HostId) (pc : Label) (there : EntryId)
+calls_more : (planned : PlannedShape) (named more : List NamedEntry) (host : HostId) (pc : Label) (there : EntryId)
     (on : HostId) → CallsWell planned named host pc there on → CallsWell planned (named ++ more) host pc there on
 calls_more planned named more host pc there on well = record {
   no_halt = well.no_halt;
@@ -140,7 +140,7 @@ calls_more planned named more host pc there on well = record {
 }
 
 -- with more entries behind those that are named
-tells_more : (labelled : Labelled) (planned : PlannedShape) (named more : List Named) (host : HostId) (pc : Label)
+tells_more : (labelled : Labelled) (planned : PlannedShape) (named more : List NamedEntry) (host : HostId) (pc : Label)
     (what : Op) → TellsWell labelled planned named host pc what →
     TellsWell labelled planned (named ++ more) host pc what
 tells_more labelled planned named more host pc (op.Ask there on) well =
@@ -197,7 +197,7 @@ made_of labelled hosts planned emissions told me place there is =
     let Q : List Emission → Type 0 = λ list. AreTold labelled planned [] list in
     let R : HostId → Type 0 = λ host.
     TellsWell labelled planned (entries_in emissions) host one.0.label one.0.op in
-    let S : List Named → Type 0 = λ list. TellsWell labelled planned list one.0.host one.0.label one.0.op in
+    let S : List NamedEntry → Type 0 = λ list. TellsWell labelled planned list one.0.host one.0.label one.0.op in
     let all_named : entries_in emissions ≡ entries_in so.before ++ entries_in (instruction one.0 ∷ so.behind) =
     ap entries_in so.is ∙ entries_append so.before (instruction one.0 ∷ so.behind) in
     record {
@@ -443,18 +443,19 @@ pub field_told : (placed : PlacedProgram) (emissions : List Emission) (me : Host
     (tree : FieldTree) →
     let planned = planned_from placed in
     let code = code_of_emissions placed.labelled placed.hosts planned emissions in
-    slice_get placed.labelled.program.fields field.0 ≡ Some tree → IsSeenBy code label (field_host placed.plan field) →
-    IfElsewhere code me field (IsSeenBy code label)
+    slice_get placed.labelled.program.fields field.0 ≡ Some tree →
+    IsLabelSeenBy code label (field_host placed.plan field) →
+    IfElsewhere code me field (IsLabelSeenBy code label)
 field_told placed emissions me label field tree is seen =
     let planned = planned_from placed in
     let code = code_of_emissions placed.labelled placed.hosts planned emissions in
     let P : Option CodeFieldShape → Type 0 = λ found.
-    IsSomeAnd found (λ there. there.host ≢ me → IsSeenBy code label there.host) in
+    IsSomeAnd found (λ there. there.host ≢ me → IsLabelSeenBy code label there.host) in
     subst P (sym (field_in_code placed.labelled placed.hosts planned emissions field tree is)) (λ apart. seen)
 
 -- an entry is entered by a host that has its need and may see its label
 pub enters_granted : (placed : PlacedProgram) (emissions : List Emission) (me on : HostId) (there : EntryId)
-    (named : Named) → 0 < there.0 →
+    (named : NamedEntry) → 0 < there.0 →
     slice_get (entries_in emissions) there.0 ≡ Some named → named.host ≡ on → IsTrustedHost placed.hosts named.need me →
     let planned = planned_from placed in
     let code = code_of_emissions placed.labelled placed.hosts planned emissions in

@@ -15,7 +15,7 @@ use Rattle.need_labels.specs.Plan.{statement_host}
 use Rattle.msg_cost.specs.declared.spot.Spot.{Spot}
 use Rattle.msg_cost.specs.Moves.{PlannedShape, is_same, host_behind, return_host, on, end_of}
 use Rattle.msg_cost.specs.Moves.{entered, next_spot}
-use Rattle.split_rules.specs.Emissions.{Emission, Named, Counts}
+use Rattle.split_rules.specs.Emissions.{Emission, NamedEntry, Counts}
 use Rattle.split_rules.specs.Walk.{Walked, Around, Lane, entry_id, leave_emissions, enter_emissions, move_emissions}
 use Rattle.split_rules.specs.Walk.{lane_at, end_emissions, need_of, row_on, behind_row}
 use Rattle.split_rules.proofs.Places.{same_host}
@@ -123,7 +123,7 @@ lane_sees planned pc counts lane next sees next_sees =
 -- ---- moves
 
 -- the entry that is named last
-hands_last : (planned : PlannedShape) (named more : List Named) (host : HostId) (one : Named) (number : ℕ) →
+hands_last : (planned : PlannedShape) (named more : List NamedEntry) (host : HostId) (one : NamedEntry) (number : ℕ) →
     number ≡ length named → 0 < length named → Sees planned host one.label → Sees planned one.host one.label →
     HandsWell planned (named ++ one ∷ more) host one.label (entry_id number) one.host
 hands_last planned named more host one number is some sender receiver =
@@ -138,7 +138,8 @@ hands_last planned named more host one number is some sender receiver =
       receiver = receiver;
     }
 
-pub leaves_then : (labelled : Labelled) (around : Around) (planned : PlannedShape) (named : List Named) (lane : Lane)
+pub leaves_then : (labelled : Labelled) (around : Around) (planned : PlannedShape) (named : List NamedEntry)
+    (lane : Lane)
     (more : List Emission) → AreTold labelled planned named more →
     AreTold labelled planned named (leave_emissions around lane ++ more)
 leaves_then labelled around planned named lane more told = by lane.spot.host lane.spot.back lane.return_entry
@@ -154,13 +155,14 @@ leaves_then labelled around planned named lane more told = by lane.spot.host lan
     by host (Some back) number = (tt, told)
 
 entering_told : (walked : Walked) (around : Around) (counts : Counts) (from host : HostId) (back : Option HostId)
-    (riders : List VarId) (statements : List StmtId) (named : List Named) → IsCounted counts named → 0 < length named →
+    (riders : List VarId) (statements : List StmtId) (named : List NamedEntry) → IsCounted counts named → 0
+    < length named →
     Sees walked.planned from around.pc → Sees walked.planned host around.pc → BackSees walked.planned around.pc back →
     AreTold walked.labelled walked.planned named
     (enter_emissions walked around counts from riders (record { host = host; back = back }) statements)
 entering_told walked around counts from host None riders statements named counted some from_sees sees behind =
     let planned = walked.planned in
-    let one : Named = record { host = host; label = around.pc; need = need_of planned statements } in
+    let one : NamedEntry = record { host = host; label = around.pc; need = need_of planned statements } in
     one_of_two (AreTold walked.labelled planned named) (is_same from host) [] _ tt (
       goes_well walked.labelled planned (named ++ one ∷ []) from around.pc (entry_id counts.entries) host riders
           (hands_last planned named [] from one counts.entries counted some from_sees sees),
@@ -168,19 +170,19 @@ entering_told walked around counts from host None riders statements named counte
     )
 entering_told walked around counts from host (Some back) riders statements named counted some from_sees sees behind =
     let planned = walked.planned in
-    let first : Named = record {
+    let first : NamedEntry = record {
       host = back;
       label = around.pc;
       need = need_of planned (behind_row planned host statements);
     } in
-    let second : Named = record {
+    let second : NamedEntry = record {
       host = host;
       label = around.pc;
       need = need_of planned (row_on planned host statements);
     } in
     let both = (named ++ first ∷ []) ++ second ∷ [] in
     let longer : counts.entries + 1 ≡ length (named ++ first ∷ []) = rw length-append (omega (arith, counted)) in
-    let P : List Named → Type 0 = λ list. HandsWell planned list from around.pc (entry_id counts.entries) back in
+    let P : List NamedEntry → Type 0 = λ list. HandsWell planned list from around.pc (entry_id counts.entries) back in
     let asks : HandsWell planned both from around.pc (entry_id counts.entries) back =
     subst P (sym (append_assoc named (first ∷ []) (second ∷ [])))
     (hands_last planned named (second ∷ []) from first counts.entries counted some from_sees behind) in
@@ -197,7 +199,7 @@ entering_told walked around counts from host (Some back) riders statements named
     )
 
 pub move_told : (walked : Walked) (around : Around) (counts : Counts) (lane : Lane) (next : Spot)
-    (statements : List StmtId) (named : List Named) → IsCounted counts named →
+    (statements : List StmtId) (named : List NamedEntry) → IsCounted counts named →
     IsBegun walked.labelled walked.planned named → SpotSees walked.planned around.pc lane.spot →
     SpotSees walked.planned around.pc next →
     AreTold walked.labelled walked.planned named (move_emissions walked around counts lane next statements)
@@ -209,6 +211,7 @@ move_told walked around counts lane next statements named counted begun sees nex
     begun.some
     (spot_ends walked.planned around.pc lane.spot sees) next_sees.0 next_sees.1))
 
-pub end_told : (labelled : Labelled) (planned : PlannedShape) (around : Around) (lane : Lane) (named : List Named) →
+pub end_told : (labelled : Labelled) (planned : PlannedShape) (around : Around) (lane : Lane)
+    (named : List NamedEntry) →
     AreTold labelled planned named (end_emissions around lane)
 end_told labelled planned around lane named = leaves_then labelled around planned named lane _ (tt, tt)

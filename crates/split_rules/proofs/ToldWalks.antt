@@ -21,8 +21,8 @@ use Rattle.need_labels.specs.Plan.{statement_host}
 use Rattle.msg_cost.specs.declared.spot.Spot.{Spot}
 use Rattle.msg_cost.specs.Moves.{PlannedShape, on, next_spot, carried_to, is_to, own_statements, home_of, called_home}
 use Rattle.msg_cost.specs.Terms.{reads_on, is_other_reader, is_told}
-use Rattle.split_rules.specs.Emissions.{Emission, stands, lands, Named, Counts, counts_after}
-use Rattle.split_rules.specs.Expressions.{Reading, reads_in, nodes_of, readings_of, first_element, released_by}
+use Rattle.split_rules.specs.Emissions.{Emission, stands, lands, NamedEntry, Counts, counts_after}
+use Rattle.split_rules.specs.Expressions.{ElementReading, reads_in, nodes_of, readings_of, first_element, released_by}
 use Rattle.split_rules.specs.SplitCode.{entries_in}
 use Rattle.split_rules.specs.Walk.{Walked, Around, Lane, lane_on, lane_at, entry_id, need_of, under_token, emitted}
 use Rattle.split_rules.specs.Walk.{expr_emissions, read_emissions, told_readers, send_emissions, pass_emissions}
@@ -42,7 +42,7 @@ use Rattle.split_rules.proofs.ToldMoves.{SpotSees, AllSee, next_well, lane_sees,
 
 -- ---- reads
 
-abbrev AreReadWell : Labelled → PlannedShape → HostId → Label → List Reading → Type 0
+abbrev AreReadWell : Labelled → PlannedShape → HostId → Label → List ElementReading → Type 0
 AreReadWell labelled planned host pc readings =
     AllByRecursion (λ reading. ReadsWell labelled planned host pc reading.field) readings
 
@@ -53,14 +53,15 @@ readings_well labelled planned host pc first (number value) well = tt
 readings_well labelled planned host pc first (local x) well = tt
 readings_well labelled planned host pc first (scalar field) well = (well, tt)
 readings_well labelled planned host pc first (element field index) well =
-    all_both (λ (reading : Reading). ReadsWell labelled planned host pc reading.field) (readings_of first index) _
+    all_both (λ (reading : ElementReading). ReadsWell labelled planned host pc reading.field) (readings_of first index)
+    _
     (readings_well labelled planned host pc first index well.0) (well.1, tt)
 readings_well labelled planned host pc first (inverted operand) well =
     readings_well labelled planned host pc first operand well
 readings_well labelled planned host pc first (negated operand) well =
     readings_well labelled planned host pc first operand well
 readings_well labelled planned host pc first (binary operator left right) well =
-    all_both (λ (reading : Reading). ReadsWell labelled planned host pc reading.field) (readings_of first left) _
+    all_both (λ (reading : ElementReading). ReadsWell labelled planned host pc reading.field) (readings_of first left) _
     (readings_well labelled planned host pc first left well.0)
     (readings_well labelled planned host pc (first + reads_in left) right well.1)
 readings_well labelled planned host pc first (declassified operand label) well =
@@ -68,15 +69,15 @@ readings_well labelled planned host pc first (declassified operand label) well =
 readings_well labelled planned host pc first (endorsed operand label) well =
     readings_well labelled planned host pc first operand well
 
-reads_quiet : (labelled : Labelled) (planned : PlannedShape) (named : List Named) (host : HostId) (pc : Label)
-    (statement : StmtId) (readings : List Reading) → AreReadWell labelled planned host pc readings →
+reads_quiet : (labelled : Labelled) (planned : PlannedShape) (named : List NamedEntry) (host : HostId) (pc : Label)
+    (statement : StmtId) (readings : List ElementReading) → AreReadWell labelled planned host pc readings →
     IsQuiet labelled planned named (read_emissions host pc statement readings)
 reads_quiet labelled planned named host pc statement [] well = record { told = tt; none = refl }
 reads_quiet labelled planned named host pc statement (reading ∷ readings) well =
     let others = reads_quiet labelled planned named host pc statement readings well.1 in
     record { told = (well.0, others.told); none = others.none }
 
-expr_quiet : (labelled : Labelled) (planned : PlannedShape) (named : List Named) (host : HostId) (pc : Label)
+expr_quiet : (labelled : Labelled) (planned : PlannedShape) (named : List NamedEntry) (host : HostId) (pc : Label)
     (statement : StmtId) (first : ℕ) (expr : ExprTree) → ExprReadsWell labelled planned host pc expr →
     IsQuiet labelled planned named (expr_emissions host pc statement first expr)
 expr_quiet labelled planned named host pc statement first expr well =
@@ -118,7 +119,7 @@ told_see planned pc host x carried see =
     (λ to passes. see (record { 0 = to }) (and_second (not (nat_eq to host.0)) (reads_on planned x to)
     (and_first (is_other_reader planned host x to) (not (is_to carried to)) passes)))
 
-sends_quiet : (labelled : Labelled) (planned : PlannedShape) (named : List Named) (host : HostId) (pc : Label)
+sends_quiet : (labelled : Labelled) (planned : PlannedShape) (named : List NamedEntry) (host : HostId) (pc : Label)
     (statement : StmtId) (x : VarId) → AffectsVariable labelled planned host x → (others : List HostId) →
     AreReaders planned pc others →
     IsQuiet labelled planned named (map (λ other. emitted host pc statement (op.Send x other)) others)
@@ -127,7 +128,7 @@ sends_quiet labelled planned named host pc statement x affects (other ∷ others
     let rest = sends_quiet labelled planned named host pc statement x affects others see.1 in
     record { told = ((affects, see.0), rest.told); none = rest.none }
 
-passes_quiet : (labelled : Labelled) (planned : PlannedShape) (named : List Named) (host : HostId) (pc : Label)
+passes_quiet : (labelled : Labelled) (planned : PlannedShape) (named : List NamedEntry) (host : HostId) (pc : Label)
     (statement : StmtId) (x : VarId) → AffectsVariable labelled planned host x → (others : List HostId) →
     AreReaders planned pc others →
     IsQuiet labelled planned named (map (λ other. emitted host pc statement (op.Pass x other)) others)
@@ -136,14 +137,14 @@ passes_quiet labelled planned named host pc statement x affects (other ∷ other
     let rest = passes_quiet labelled planned named host pc statement x affects others see.1 in
     record { told = ((affects, see.0), rest.told); none = rest.none }
 
-given_quiet : (labelled : Labelled) (planned : PlannedShape) (named : List Named) (host : HostId) (pc : Label)
+given_quiet : (labelled : Labelled) (planned : PlannedShape) (named : List NamedEntry) (host : HostId) (pc : Label)
     (statement : StmtId) (x : VarId) (carried : Option HostId) → GivesWell labelled planned host pc x →
     IsQuiet labelled planned named (send_emissions planned host pc statement x carried)
 given_quiet labelled planned named host pc statement x carried well =
     sends_quiet labelled planned named host pc statement x well.0 (told_readers planned host x carried)
     (told_see planned pc host x carried well.1)
 
-passed_quiet : (labelled : Labelled) (planned : PlannedShape) (named : List Named) (host : HostId) (pc : Label)
+passed_quiet : (labelled : Labelled) (planned : PlannedShape) (named : List NamedEntry) (host : HostId) (pc : Label)
     (statement : StmtId) (x : VarId) (carried : Option HostId) → GivesWell labelled planned host pc x →
     IsQuiet labelled planned named (pass_emissions planned host pc statement x carried)
 passed_quiet labelled planned named host pc statement x carried well =
@@ -151,7 +152,7 @@ passed_quiet labelled planned named host pc statement x carried well =
     (told_see planned pc host x carried well.1)
 
 -- an instruction that asks nothing, before others
-silent_first : (labelled : Labelled) (planned : PlannedShape) (named : List Named) (host : HostId) (pc : Label)
+silent_first : (labelled : Labelled) (planned : PlannedShape) (named : List NamedEntry) (host : HostId) (pc : Label)
     (statement : StmtId) (x : VarId) (value : List Node) (released : List (List Node)) (more : List Emission) →
     IsQuiet labelled planned named more →
     IsQuiet labelled planned named (releasing host pc statement (op.Let x value) released ∷ more)
@@ -160,7 +161,7 @@ silent_first labelled planned named host pc statement x value released more quie
 
 -- ---- calls
 
-arguments_quiet : (walked : Walked) (named : List Named) (host home : HostId) (pc : Label) (statement : StmtId)
+arguments_quiet : (walked : Walked) (named : List NamedEntry) (host home : HostId) (pc : Label) (statement : StmtId)
     (params : List VarId) (arguments : List ExprTree) →
     ArgumentsWell walked.labelled walked.planned host pc params arguments →
     IsQuiet walked.labelled walked.planned named (argument_emissions walked host home pc statement params arguments)
@@ -176,7 +177,7 @@ arguments_quiet walked named host home pc statement (param ∷ params) (argument
     (record { told = (tt, passes.told); none = passes.none }))
     (arguments_quiet walked named host home pc statement params others well.2)
 
-kept_quiet : (walked : Walked) (named : List Named) (host : HostId) (pc : Label) (statement : StmtId)
+kept_quiet : (walked : Walked) (named : List NamedEntry) (host : HostId) (pc : Label) (statement : StmtId)
     (result into : Option VarId) (carried : Option HostId) → KeepsWell walked.labelled walked.planned host pc result
     into →
     IsQuiet walked.labelled walked.planned named (kept_emissions walked host pc statement result into carried)
@@ -187,7 +188,7 @@ kept_quiet walked named host pc statement (Some result) None carried well = reco
 kept_quiet walked named host pc statement None (Some into) carried well = record { told = tt; none = refl }
 kept_quiet walked named host pc statement None None carried well = record { told = tt; none = refl }
 
-called : (walked : Walked) (named : List Named) (host : HostId) (pc : Label) (method : MethodId) →
+called : (walked : Walked) (named : List NamedEntry) (host : HostId) (pc : Label) (method : MethodId) →
     IsBegun walked.labelled walked.planned named → EntersWell walked.labelled walked.planned host pc method →
     CallsWell walked.planned named host pc (entry_id (suc method.0))
     (called_home walked.planned (method_at walked.labelled.program method))
@@ -204,7 +205,7 @@ called walked named host pc method begun well =
       receiver = well.receiver;
     })
 
-call_told : (walked : Walked) (named : List Named) (counts : Counts) (host : HostId) (pc : Label)
+call_told : (walked : Walked) (named : List NamedEntry) (counts : Counts) (host : HostId) (pc : Label)
     (statement : StmtId) (site : SiteId) (method : MethodId) (arguments : List ExprTree) (into : Option VarId)
     (carried : Option HostId) (left : List StmtId) → IsBegun walked.labelled walked.planned named →
     ArgumentsWell walked.labelled walked.planned host pc
@@ -218,7 +219,7 @@ call_told walked named counts host pc statement site method arguments into carri
     let planned = walked.planned in
     let there = method_at labelled.program method in
     let home = called_home planned there in
-    let more : Named = record { host = host; label = pc; need = need_of planned (statement ∷ left) } in
+    let more : NamedEntry = record { host = host; label = pc; need = need_of planned (statement ∷ left) } in
     let later = named ++ more ∷ [] in (
       tt,
       quiet_then labelled planned later (argument_emissions walked host home pc statement (params_of there) arguments) _
@@ -233,7 +234,7 @@ call_told walked named counts host pc statement site method arguments into carri
           ),
     )
 
-answers_quiet : (walked : Walked) (named : List Named) (host : HostId) (pc : Label) (statement : StmtId)
+answers_quiet : (walked : Walked) (named : List NamedEntry) (host : HostId) (pc : Label) (statement : StmtId)
     (value : ExprTree) → AnswersWell walked.labelled walked.planned host walked.setting.result →
     IsQuiet walked.labelled walked.planned named (result_emissions walked host pc statement value)
 answers_quiet walked named host pc statement value well = by walked.setting.result refl well
@@ -265,14 +266,14 @@ statements_see labelled planned setting pc (call heading site method arguments i
 statements_see labelled planned setting pc (give_back heading value rest) well =
     (well.0, statements_see labelled planned setting pc rest well.3)
 
-grouped : (named : List Named) (one two : List Emission) →
+grouped : (named : List NamedEntry) (one two : List Emission) →
     (named ++ entries_in one) ++ entries_in two ≡ named ++ entries_in (one ++ two)
 grouped named one two =
     append_assoc named (entries_in one) (entries_in two) ∙ ap (λ list. named ++ list) (sym (entries_append one two))
 
 -- A statement that is moved to, and what follows it.
 statement_then : (walked : Walked) (around : Around) (counts : Counts) (lane : Lane) (statement : StmtId)
-    (others : List StmtId) (named : List Named) → IsCounted counts named →
+    (others : List StmtId) (named : List NamedEntry) → IsCounted counts named →
     IsBegun walked.labelled walked.planned named → SpotSees walked.planned around.pc lane.spot →
     AllSee walked.planned around.pc (statement ∷ others) → (own rest : List Emission) →
     let next = next_spot walked.planned lane.spot statement others in
@@ -297,7 +298,7 @@ statement_then walked around counts lane statement others named counted begun se
     let moves = next_well planned around.pc lane.spot statement others sees see in
     let begun_there = begun_more labelled planned named (entries_in moved) begun in
     let counted_there = counted_after counts named moved counted in
-    let P : List Named → Type 0 = λ list. AreTold labelled planned list rest in
+    let P : List NamedEntry → Type 0 = λ list. AreTold labelled planned list rest in
     let first = told_on labelled planned named moved own
     (move_told walked around counts lane next (statement ∷ others) named counted begun sees moves.sees)
     (owns moves.host_is counted_there begun_there) in
@@ -311,11 +312,11 @@ statement_then walked around counts lane statement others named counted begun se
 
 -- the blocks in a branch or a loop
 abbrev BeginsTold : Labelled → PlannedShape → (Counts → List Emission) → Type 0
-BeginsTold labelled planned block = (named : List Named) (counts : Counts) → IsCounted counts named →
+BeginsTold labelled planned block = (named : List NamedEntry) (counts : Counts) → IsCounted counts named →
     IsBegun labelled planned named → AreTold labelled planned named (block counts)
 
 branch_told : (walked : Walked) (around : Around) (heading : Heading) (guard : ExprTree) (next : Spot)
-    (others : List StmtId) (first second : Counts → List Emission) (named : List Named) (here : Counts) →
+    (others : List StmtId) (first second : Counts → List Emission) (named : List NamedEntry) (here : Counts) →
     IsCounted here named → IsBegun walked.labelled walked.planned named →
     ExprReadsWell walked.labelled walked.planned next.host around.pc guard →
     BeginsTold walked.labelled walked.planned first → BeginsTold walked.labelled walked.planned second →
@@ -333,12 +334,12 @@ branch_told walked around heading guard next others first second named here coun
     let at_one = named ++ entries_in front in
     let at_between = at_one ++ entries_in one in
     let at_two = at_between ++ entries_in between in
-    let entry_there : Named = record {
+    let entry_there : NamedEntry = record {
       host = host;
       label = (inside_of walked around heading guard).pc;
       need = need_of planned (under_token planned next others);
     } in
-    let P : List Emission → List Named → Type 0 = λ xs list. AreTold labelled planned list xs in
+    let P : List Emission → List NamedEntry → Type 0 = λ xs list. AreTold labelled planned list xs in
     let begins : AreTold labelled planned named front = (
       tt,
       quiet_then labelled planned (named ++ entry_there ∷ []) (expr_emissions host around.pc heading.id 0 guard) _
@@ -366,7 +367,7 @@ branch_told walked around heading guard next others first second named here coun
     told_on labelled planned named (front ++ one ++ between ++ two) last so_two tt
 
 loop_told : (walked : Walked) (around : Around) (heading : Heading) (guard : ExprTree) (next : Spot)
-    (others : List StmtId) (body : Counts → List Emission) (named : List Named) (here : Counts) →
+    (others : List StmtId) (body : Counts → List Emission) (named : List NamedEntry) (here : Counts) →
     IsCounted here named → IsBegun walked.labelled walked.planned named →
     ExprReadsWell walked.labelled walked.planned next.host (inside_of walked around heading guard).pc guard →
     BeginsTold walked.labelled walked.planned body →
@@ -380,7 +381,7 @@ loop_told walked around heading guard next others body named here counted begun 
     let front = loop_front walked around here heading guard next others in
     let inner = body (counts_after here front) in
     let last = lands host here.branches ∷ [] in
-    let entry_there : Named = record {
+    let entry_there : NamedEntry = record {
       host = host;
       label = pc;
       need = need_of planned (heading.id ∷ under_token planned next others);
@@ -397,7 +398,7 @@ loop_told walked around heading guard next others body named here counted begun 
 
 block_told : (walked : Walked) (around : Around) (block : BlockTree) →
     BlockTellsWell walked.labelled walked.planned walked.setting around.pc block → (counts : Counts) (lane : Lane)
-    (named : List Named) → IsCounted counts named → IsBegun walked.labelled walked.planned named →
+    (named : List NamedEntry) → IsCounted counts named → IsBegun walked.labelled walked.planned named →
     SpotSees walked.planned around.pc lane.spot →
     AreTold walked.labelled walked.planned named (block_emissions walked around counts lane block)
 block_told walked around done well counts lane named counted begun sees =
@@ -571,7 +572,7 @@ pub record MethodTellsWell (principals : Declared) (labelled : Labelled) (planne
 
 pub methods_told : (principals : Declared) (labelled : Labelled) (planned : PlannedShape) (place : ℕ)
     (methods : List MethodTree) → AllByRecursion (MethodTellsWell principals labelled planned) methods →
-    (counts : Counts) (named : List Named) → IsCounted counts named → IsBegun labelled planned named →
+    (counts : Counts) (named : List NamedEntry) → IsCounted counts named → IsBegun labelled planned named →
     AreTold labelled planned named (methods_emissions principals labelled planned counts place methods)
 methods_told principals labelled planned place [] well counts named counted begun = tt
 methods_told principals labelled planned place (method ∷ methods) well counts named counted begun =

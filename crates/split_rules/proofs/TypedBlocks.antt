@@ -23,12 +23,12 @@ use Rattle.split_rules.specs.Walk.{Walked, Around, Lane, lane_on, lane_at, lane_
 use Rattle.split_rules.specs.Walk.{expr_emissions, rides_behind}
 use Rattle.split_rules.specs.Walk.{move_emissions, end_emissions, result_emissions, call_emissions, block_emissions}
 use Rattle.std.specs.List.{AllByRecursion}
-use Rattle.split_rules.specs.Positions.{IsIn, IsOf, all_statements, Forward, with_forwards}
+use Rattle.split_rules.specs.Positions.{IsStatementOfMethod, IsOf, all_statements, Forward, with_forwards}
 use Rattle.split_rules.specs.Positions.{statements_of, number_of, is_on, run, Level, body, under, Position, calm}
 use Rattle.split_rules.proofs.BackedLabels.{all_first, all_second}
 use Rattle.split_rules.specs.Positions.{all_due, due_numbers, row_of, Entrance}
 use Rattle.split_rules.specs.Typable.{IsTrustedInside, AreTrusted}
-use Rattle.split_rules.specs.Typing.{body_of, nowhere, here, Known, AreTyped, AreDueOn, AreSourced, Gives}
+use Rattle.split_rules.specs.Typing.{body_of, nowhere, here, WalkKnown, AreTyped, AreDueOn, AreSourced, GivesVariable}
 use Rattle.split_rules.specs.TypedCode.{AreMethodEntries}
 use Rattle.split_rules.proofs.Places.{same_host}
 use Rattle.split_rules.proofs.TypedRows.{run_numbers, row_numbers, AreRunWhereTrusted}
@@ -146,7 +146,7 @@ carried_within planned there spot (statement ∷ others) =
 -- a statement gives this variable its value, if one is given
 abbrev GivesOne : PlannedShape → BlockTree → Option VarId → Type 0
 GivesOne planned tree None = ⊤
-GivesOne planned tree (Some x) = Gives planned tree x
+GivesOne planned tree (Some x) = GivesVariable planned tree x
 
 -- what is left to be sent behind a statement rides to where the token goes straight from there
 given_out : (planned : PlannedShape) →
@@ -266,7 +266,7 @@ statement_then walked around level lane out tree trees entries branches methods 
     due : Position
     due = calm (lane_level level lane_there) (run tree ∷ map run (ahead_at walked.planned lane_there.spot trees))
 
-    middle : Known
+    middle : WalkKnown
     middle = known_at (here next.host due) (entries ++ moves.more) branches
 
     methods_there : AreMethodEntries walked.planned (entries ++ moves.more)
@@ -325,7 +325,7 @@ site_at around next id = record { me = next.host; label = around.pc; id = id }
 -- a result is given back last, from a lane that is not lent
 gives_back : (walked : Walked) (method : MethodId) (gives : Bool) → IsWalkedIn walked method gives →
     (around : Around) (heading : Heading) (value : ExprTree) (next : Spot) →
-    IsIn walked.planned.program method (give_back heading value done) →
+    IsStatementOfMethod walked.planned.program method (give_back heading value done) →
     is_on walked.planned next.host (give_back heading value done) ≡ true → (level : Level) → level ≡ body method →
     (lane : Lane) (trees : List BlockTree) → trees ≡ [] → (entries : List Entrance) (branches : List Position) →
     IsLaneKnown walked.planned entries level lane trees → gives ≡ true →
@@ -399,7 +399,8 @@ into_gives planned heading site called arguments (Some x) = inl refl
 
 pub block_typed : (walked : Walked) (method : MethodId) (gives : Bool) → IsWalkedIn walked method gives →
     (may : Bool) (block : BlockTree) → IsBlockIn walked.planned.program method gives block → ReturnsLast may block →
-    AreTrusted walked.planned block → AllByRecursion (IsIn walked.planned.program method) (all_statements block) →
+    AreTrusted walked.planned block →
+    AllByRecursion (IsStatementOfMethod walked.planned.program method) (all_statements block) →
     (around : Around) (level : Level) → (may ≡ true → level ≡ body method) →
     (lane : Lane) (out : List Forward) (entries : List Entrance) (branches : List Position) →
     AreMethodEntries walked.planned entries → IsLaneKnown walked.planned entries level lane (statements_of block) →
@@ -495,23 +496,26 @@ block_typed walked method gives within may (branch heading guard first second re
     entries_there
     branches methods_there
     (λ entries_in branches_in methods_in. block_typed walked method gives within false first there.1 returns.0 trusted.3
-    (all_first (IsIn walked.planned.program method) (all_statements first) (all_statements second ++ all_statements
+    (all_first (IsStatementOfMethod walked.planned.program method) (all_statements first)
+    (all_statements second ++ all_statements
     rest) in_it.1)
     inside inner (λ no. absurd (true≢false (sym no))) (lane_on next.host) [] entries_in branches_in methods_in tt
     (inside_due planned next.host (branch heading guard first second done) first is_own trusted.1)
     (nothing_out planned next.host (statements_of first)))
     (λ entries_in branches_in methods_in. block_typed walked method gives within false second there.2 returns.1
     trusted.4
-    (all_first (IsIn walked.planned.program method) (all_statements second) (all_statements rest)
-    (all_second (IsIn walked.planned.program method) (all_statements first) (all_statements second ++ all_statements
+    (all_first (IsStatementOfMethod walked.planned.program method) (all_statements second) (all_statements rest)
+    (all_second (IsStatementOfMethod walked.planned.program method) (all_statements first)
+    (all_statements second ++ all_statements
     rest) in_it.1))
     inside inner (λ no. absurd (true≢false (sym no))) (lane_on next.host) [] entries_in branches_in methods_in tt
     (inside_due planned next.host (branch heading guard first second done) second is_own trusted.2)
     (nothing_out planned next.host (statements_of second)))))
     (λ lane_there out_there entries_there branches_there methods_there known_there holds_there out_is.
     block_typed walked method gives within may rest there.3 returns.2 trusted.5
-    (all_second (IsIn walked.planned.program method) (all_statements second) (all_statements rest)
-    (all_second (IsIn walked.planned.program method) (all_statements first) (all_statements second ++ all_statements
+    (all_second (IsStatementOfMethod walked.planned.program method) (all_statements second) (all_statements rest)
+    (all_second (IsStatementOfMethod walked.planned.program method) (all_statements first)
+    (all_statements second ++ all_statements
     rest) in_it.1)) around level at lane_there out_there entries_there branches_there methods_there known_there
     holds_there out_is)
 block_typed walked method gives within may (loop heading guard inner rest) there returns trusted in_it around level at
@@ -543,14 +547,15 @@ block_typed walked method gives within may (loop heading guard inner rest) there
     (left_numbers planned lane_there next trees others spot_is (own_numbers rest)) one entries_there branches
     methods_there
     (λ entries_in branches_in methods_in. block_typed walked method gives within false inner there.1 returns.0 trusted.2
-    (all_first (IsIn walked.planned.program method) (all_statements inner) (all_statements rest) in_it.1)
+    (all_first (IsStatementOfMethod walked.planned.program method) (all_statements inner) (all_statements rest) in_it.1)
     inside (under (length entries_there)) (λ no. absurd (true≢false (sym no))) (lane_on next.host) [] entries_in
     branches_in methods_in tt
     (inside_due planned next.host (loop heading guard inner done) inner is_own trusted.1)
     (nothing_out planned next.host (statements_of inner)))))
     (λ lane_there out_there entries_there branches_there methods_there known_there holds_there out_is.
     block_typed walked method gives within may rest there.2 returns.1 trusted.3
-    (all_second (IsIn walked.planned.program method) (all_statements inner) (all_statements rest) in_it.1) around
+    (all_second (IsStatementOfMethod walked.planned.program method) (all_statements inner) (all_statements rest)
+    in_it.1) around
     level at lane_there out_there entries_there branches_there methods_there known_there holds_there out_is)
 block_typed walked method gives within may (call heading site called arguments into rest) there returns trusted in_it
     around level at lane out entries branches methods known holds is_out =

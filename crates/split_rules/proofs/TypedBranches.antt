@@ -10,10 +10,12 @@ use Rattle.msg_cost.specs.Moves.{PlannedShape}
 use Rattle.split_rules.specs.Emissions.{Emission, stands, lands, Counts, counts_after}
 use Rattle.split_rules.specs.Expressions.{nodes_of, released_by}
 use Rattle.split_rules.specs.Walk.{Walked, Around, entry_id, emitted, need_of, under_token, releasing}
-use Rattle.split_rules.specs.Positions.{is_on, Due, run, all_due, Level, under, field_reads, Position, calm, with_reads}
+use Rattle.split_rules.specs.Positions.{is_on, DueWork, run, all_due, Level, under, field_reads, Position, calm}
+use Rattle.split_rules.specs.Positions.{with_reads}
 use Rattle.split_rules.specs.Positions.{due_numbers, Entrance}
-use Rattle.split_rules.specs.Typing.{EntryIs, Cuts, Place, nowhere, here, Known, AreTyped, AreDueOn, Covers, need_due}
-use Rattle.split_rules.specs.Typing.{LeadsTo}
+use Rattle.split_rules.specs.Typing.{EntryIs, Cuts, WalkPlace, nowhere, here, WalkKnown, AreTyped, AreDueOn, Covers}
+use Rattle.split_rules.specs.Typing.{need_due}
+use Rattle.split_rules.specs.Typing.{BranchLeadsTo}
 use Rattle.split_rules.specs.TypedCode.{AreMethodEntries}
 use Rattle.split_rules.proofs.WalkedStates.{counts_more}
 use Rattle.split_rules.proofs.WalkedBlocks.{inside_of, branch_front, branch_own, loop_front, loop_own}
@@ -28,7 +30,8 @@ use Rattle.split_rules.proofs.TypedCalls.{methods_still}
 -- ---- parts
 
 -- what is given first, which names an entry and opens a branch, and what follows it
-front_then : (planned : PlannedShape) (entries : List Entrance) (branches : List Position) (place middle behind : Place)
+front_then : (planned : PlannedShape) (entries : List Entrance) (branches : List Position)
+    (place middle behind : WalkPlace)
     (one : Entrance) (two : Position) (front others : List Emission) →
     AreTyped planned (known_at place entries branches) front (known_at middle (entries ++ one ∷ [])
     (branches ++ two ∷ [])) →
@@ -50,14 +53,14 @@ front_then planned entries branches place middle behind one two front others beg
     }
 
 -- a host is trusted for what is due together
-due_both : (planned : PlannedShape) (host : HostId) (one other : List Due) → AreDueOn planned host one →
+due_both : (planned : PlannedShape) (host : HostId) (one other : List DueWork) → AreDueOn planned host one →
     AreDueOn planned host other → AreDueOn planned host (one ++ other)
 due_both planned host [] other first second = second
 due_both planned host (item ∷ one) other first second = (first.0, due_both planned host one other first.1 second)
 
 -- a branch leads on, or an entry stands, where nothing goes on
 one_lands : (planned : PlannedShape) (host : HostId) (position : Position) (number : ℕ)
-    (entries : List Entrance) (branches : List Position) → LeadsTo branches number position →
+    (entries : List Entrance) (branches : List Position) → BranchLeadsTo branches number position →
     Leads planned (known_at nowhere entries branches) (lands host number ∷ []) (here host position)
 one_lands planned host position number entries branches there = leads_still planned nowhere (here host position) entries
     branches (lands host number ∷ [])
@@ -82,7 +85,7 @@ BeginsTyped planned host level block emissions =
 pub branch_typed : (walked : Walked) (around : Around) (level : Level) (heading : Heading) (guard : ExprTree)
     (first second : BlockTree) (next : Spot) → is_on walked.planned next.host (branch heading guard first second done)
     ≡ true →
-    (others : List Due) →
+    (others : List DueWork) →
     AreDueOn walked.planned next.host (run (branch heading guard first second done) ∷ others) → (left : List StmtId) →
     under_token walked.planned next left ≡ due_numbers others → (one two : Counts → List Emission)
     (entries : List Entrance) (branches : List Position) → AreMethodEntries walked.planned entries →
@@ -125,7 +128,7 @@ branch_typed walked around level heading guard first second next own others trus
     statement : BlockTree
     statement = branch heading guard first second done
 
-    due : List Due
+    due : List DueWork
     due = run (branch heading guard first second done) ∷ others
 
     counts : Counts
@@ -155,10 +158,10 @@ branch_typed walked around level heading guard first second next own others trus
     opened : List Position
     opened = branches ++ target ∷ []
 
-    middle : Place
+    middle : WalkPlace
     middle = here next.host (calm (under (length entries)) (all_due first))
 
-    start : Known
+    start : WalkKnown
     start = known_at middle joined opened
 
     behind : Counts
@@ -257,7 +260,7 @@ branch_typed walked around level heading guard first second next own others trus
 
 pub loop_typed : (walked : Walked) (around : Around) (level : Level) (heading : Heading) (guard : ExprTree)
     (inner : BlockTree) (next : Spot) → is_on walked.planned next.host (loop heading guard inner done) ≡ true →
-    (others : List Due) → AreDueOn walked.planned next.host (run (loop heading guard inner done) ∷ others) →
+    (others : List DueWork) → AreDueOn walked.planned next.host (run (loop heading guard inner done) ∷ others) →
     AreDueOn walked.planned next.host (all_due inner) → (left : List StmtId) →
     under_token walked.planned next left ≡ due_numbers others → (one : Counts → List Emission)
     (entries : List Entrance) (branches : List Position) → AreMethodEntries walked.planned entries →
@@ -288,7 +291,7 @@ loop_typed walked around level heading guard inner next own others trusted inner
     statement : BlockTree
     statement = loop heading guard inner done
 
-    due : List Due
+    due : List DueWork
     due = run (loop heading guard inner done) ∷ others
 
     site : Site
@@ -316,10 +319,10 @@ loop_typed walked around level heading guard inner next own others trusted inner
     opened : List Position
     opened = branches ++ calm level others ∷ []
 
-    middle : Place
+    middle : WalkPlace
     middle = here next.host (calm (under (length entries)) (all_due inner))
 
-    start : Known
+    start : WalkKnown
     start = known_at middle headed opened
 
     one_there : List Emission

@@ -19,12 +19,13 @@ use Rattle.split_rules.specs.Expressions.{nodes_of, released_by}
 use Rattle.split_rules.specs.Walk.{Walked, expr_emissions, pass_emissions, argument_emissions, kept_emissions}
 use Rattle.split_rules.specs.Walk.{called_emissions, call_emissions, need_of, riders_to, riding_params, call_with}
 use Rattle.split_rules.specs.Walk.{entry_id, releasing}
-use Rattle.split_rules.specs.Positions.{is_on, Due, run, keep, all_due, kept_due, Level, body, field_reads, Argument}
+use Rattle.split_rules.specs.Positions.{is_on, DueWork, run, keep, all_due, kept_due, Level, body, field_reads}
+use Rattle.split_rules.specs.Positions.{Argument}
 use Rattle.split_rules.specs.Positions.{arguments_of, arguing, entering, Forward, Position, calm, with_reads}
 use Rattle.split_rules.specs.Positions.{with_forwards}
 use Rattle.split_rules.specs.Positions.{forwards_of, due_numbers, Entrance, number_of, IsOf}
 use Rattle.split_rules.specs.Typing.{EntryIs, Frames, PushesCall, nowhere, here, AreTyped, AreDueOn, Covers, need_due}
-use Rattle.split_rules.specs.Typing.{need_of_method, IsParam, Gives, AreSourced, RidesAll, TypedOp}
+use Rattle.split_rules.specs.Typing.{need_of_method, IsParam, GivesVariable, AreSourced, RidesAll, TypedOp}
 use Rattle.split_rules.specs.TypedCode.{AreMethodEntries}
 use Rattle.split_rules.proofs.WalkedCalls.{still_there}
 use Rattle.split_rules.proofs.WalkedMoves.{at_last}
@@ -44,7 +45,7 @@ methods_still planned entries more there place tree is =
 -- ---- arguments
 
 -- where some parameters of a call are set, of which these have still to be sent, and others are left
-abbrev arguing_at : Level → List Due → BlockTree → List Argument → List Argument → List Forward → Position
+abbrev arguing_at : Level → List DueWork → BlockTree → List Argument → List Argument → List Forward → Position
 arguing_at level due statement set left out = record {
   level = level;
   due = due;
@@ -92,7 +93,7 @@ are_carried home riders out rides = by out rides.1
         (eq-eqb forward.host.0 home.0 (ap (λ (host : HostId). host.0) there.0), by others there.1)
 
 -- no parameter is left
-none_left : (planned : PlannedShape) (site : Site) (level : Level) (due : List Due) (statement : BlockTree)
+none_left : (planned : PlannedShape) (site : Site) (level : Level) (due : List DueWork) (statement : BlockTree)
     (set : List Argument) (out : List Forward) (entries : List Entrance) (branches : List Position) →
     AreTyped planned (known_at (here site.me (arguing_at level due statement set [] out)) entries branches) []
     (known_at (here site.me (arguing_at level due statement (set ++ []) [] (out ++ []))) entries branches)
@@ -102,14 +103,14 @@ none_left planned site level due statement set out entries branches =
     ∙ ap (λ all. known_at (here site.me (arguing_at level due statement (set ++ []) [] all)) entries branches)
     (sym (append-nil out))
 
-arguments_typed : (walked : Walked) (site : Site) (level : Level) (due : List Due) (statement : BlockTree)
+arguments_typed : (walked : Walked) (site : Site) (level : Level) (due : List DueWork) (statement : BlockTree)
     (set : List Argument) → IsDueOn walked.planned site.me (calm level due) →
     is_on walked.planned site.me statement ≡ true →
     is_trusted_for walked.planned site.me (number_of statement) ≡ true → IsOf walked.planned.program statement →
     (home : HostId) → home.0 < length walked.planned.hosts.hosts → (out : List Forward) →
     AreSourced walked.planned site.me out → AreCarried (Some home) out →
     (entries : List Entrance) (branches : List Position) (params : List VarId) (arguments : List ExprTree) →
-    ((x : VarId) → IsParam x params → Gives walked.planned statement x) →
+    ((x : VarId) → IsParam x params → GivesVariable walked.planned statement x) →
     let left = arguments_of params arguments in
     AreTyped walked.planned (known_at (here site.me (arguing_at level due statement set left out)) entries branches)
     (argument_emissions walked site.me home site.label site.id params arguments)
@@ -200,7 +201,7 @@ out_given planned me source (Some x) carried = out_behind planned me source x ca
 kept_typed : (walked : Walked) (site : Site) (level : Level) (heading : Heading) (at : SiteId) (method : MethodId)
     (arguments : List ExprTree) (into result : Option VarId) →
     result_of (method_at walked.planned.program method) ≡ result → is_some result ≡ is_some into →
-    (carried : Option HostId) (others : List Due) →
+    (carried : Option HostId) (others : List DueWork) →
     is_on walked.planned site.me (call heading at method arguments into done) ≡ true →
     AreDueOn walked.planned site.me (run (call heading at method arguments into done) ∷ others) →
     (entries : List Entrance) (branches : List Position) →
@@ -249,7 +250,7 @@ kept_typed walked site level heading at method arguments (Some x) (Some result) 
 
 -- what is due behind a call, with or without its result
 kept_either : (planned : PlannedShape) (heading : Heading) (at : SiteId) (method : MethodId) (arguments : List ExprTree)
-    (into : Option VarId) (others : List Due) →
+    (into : Option VarId) (others : List DueWork) →
     let statement = call heading at method arguments into done in
     (kept_due planned statement ++ others ≡ others) ⊎ (kept_due planned statement ++ others ≡ keep statement ∷ others)
 kept_either planned heading at method arguments into others =
@@ -271,7 +272,7 @@ kept_either planned heading at method arguments into others =
 params_sourced : (planned : PlannedShape) (me : HostId) (statement : BlockTree) → is_on planned me statement ≡ true →
     is_trusted_for planned me (number_of statement) ≡ true → IsOf planned.program statement → (home : HostId)
     (params : List VarId) (arguments : List ExprTree) →
-    ((x : VarId) → IsParam x params → Gives planned statement x) →
+    ((x : VarId) → IsParam x params → GivesVariable planned statement x) →
     AreSourced planned me (out_params planned me statement home params arguments)
 params_sourced planned me statement own trusted is_of home params [] among = tt
 params_sourced planned me statement own trusted is_of home [] (argument ∷ arguments) among = tt
@@ -283,7 +284,7 @@ params_sourced planned me statement own trusted is_of home (param ∷ params) (a
     (params_sourced planned me statement own trusted is_of home params arguments (λ x is. among x (inr is)))
 
 -- where the entry behind a call is pushed, and these parameters are out
-abbrev entered_at : MethodId → List Due → BlockTree → List Forward → Position
+abbrev entered_at : MethodId → List DueWork → BlockTree → List Forward → Position
 entered_at method due statement out = record {
   level = body method;
   due = due;
@@ -297,7 +298,8 @@ IsCallOf (call heading at method arguments into rest) called = method ≡ called
 IsCallOf other called = ⊥
 
 -- the method is called with all that rides
-calls_typed : (planned : PlannedShape) (me home : HostId) (statement : BlockTree) (method : MethodId) (due : List Due)
+calls_typed : (planned : PlannedShape) (me home : HostId) (statement : BlockTree) (method : MethodId)
+    (due : List DueWork)
     (riders : List VarId) (out : List Forward) (entries : List Entrance) (branches : List Position) →
     RidesAll riders home out → IsCallOf statement method →
     EntryIs entries (suc method.0) (calm (body method) due)
@@ -329,7 +331,8 @@ pub call_typed : (walked : Walked) (site : Site) (level : Level) (heading : Head
     (arguments : List ExprTree) (into : Option VarId) (called : MethodTree) →
     method_at walked.labelled.program method ≡ Some called → method_at walked.planned.program method ≡ Some called →
     is_some called.result ≡ is_some into → (home_of walked.planned called).0 < length walked.planned.hosts.hosts →
-    (carried : Option HostId) (others : List Due) → is_on walked.planned site.me (call heading at method arguments into
+    (carried : Option HostId) (others : List DueWork) →
+    is_on walked.planned site.me (call heading at method arguments into
     done) ≡ true →
     AreDueOn walked.planned site.me (run (call heading at method arguments into done) ∷ others) →
     AreDueOn walked.planned site.me (all_due called.body) → site.id ≡ heading.id → (left : List StmtId) →
@@ -412,13 +415,13 @@ call_typed walked site level heading at method arguments into called is there gi
     out = out_params walked.planned site.me (call heading at method arguments into done) (home_of walked.planned called)
         called.params arguments
 
-    due : List Due
+    due : List DueWork
     due = run statement ∷ others
 
     on_due : IsDueOn walked.planned site.me (calm level (run statement ∷ others))
     on_due = record { trusted = (trusted, tt); first = run statement; others = others; due = refl; on_host = own }
 
-    params_given : (x : VarId) → IsParam x called.params → Gives walked.planned statement x
+    params_given : (x : VarId) → IsParam x called.params → GivesVariable walked.planned statement x
     params_given x is =
         let P : Option MethodTree → Type 0 = λ it. IsParam x (params_of it) in
         inr (subst P (sym there) is)
@@ -444,7 +447,7 @@ call_typed walked site level heading at method arguments into called is there gi
 
     behind_due : AreDueOn planned site.me (kept_due planned statement ++ others)
     behind_due =
-        let P : List Due → Type 0 = λ it. AreDueOn planned site.me it in
+        let P : List DueWork → Type 0 = λ it. AreDueOn planned site.me it in
         elim (kept_either planned heading at method arguments into others) [
           | inl none ↦ subst P (sym none) trusted.1
           | inr some ↦ subst P (sym some) trusted
@@ -452,7 +455,7 @@ call_typed walked site level heading at method arguments into called is there gi
 
     behind_covers : Covers planned behind.need (kept_due planned statement ++ others)
     behind_covers =
-        let P : List Due → Type 0 = λ it. Covers planned behind.need it in
+        let P : List DueWork → Type 0 = λ it. Covers planned behind.need it in
         elim (kept_either planned heading at method arguments into others) [
           | inl none ↦ subst P (sym none) covers.1
           | inr some ↦ subst P (sym some) covers

@@ -16,7 +16,7 @@ use Rattle.split_rules.specs.Walk.{emitted, riders_to, send_emissions, pass_emis
 use Rattle.split_rules.specs.Positions.{is_on, Argument, arguing, no_call, Forward, Position, with_forwards}
 use Rattle.split_rules.specs.Positions.{forwards_of}
 use Rattle.split_rules.specs.Positions.{Entrance, number_of, IsOf, IsOut, without_forward}
-use Rattle.split_rules.specs.Typing.{AreDueOn, AreSourced, Gives, RidesAll, here, TypedOp, AreTyped}
+use Rattle.split_rules.specs.Typing.{AreDueOn, AreSourced, GivesVariable, RidesAll, here, TypedOp, AreTyped}
 use Rattle.split_rules.proofs.TypedStates.{known_at}
 use Rattle.split_rules.proofs.TypedValues.{Site}
 use Rattle.split_rules.proofs.BackedLabels.{all_both}
@@ -112,7 +112,7 @@ pub record IsGivenOn (planned : PlannedShape) (me : HostId) (source : BlockTree)
   pub on_host : is_on planned me source ≡ true
   pub trusted : is_trusted_for planned me (number_of source) ≡ true
   pub is_of : IsOf planned.program source
-  pub gives : Gives planned source x
+  pub gives : GivesVariable planned source x
 
 are_sourced : (planned : PlannedShape) (me : HostId) (source : BlockTree) (x : VarId) →
     IsGivenOn planned me source x → (hosts : List HostId) → AreSourced planned me (forwards_to source x hosts)

@@ -17,9 +17,10 @@ use Rattle.msg_cost.specs.Moves.{PlannedShape, is_trusted_for_all, return_host, 
 use Rattle.msg_cost.specs.Moves.{next_spot, is_same, straight_to, carried_to}
 use Rattle.split_rules.specs.Walk.{Walked, Around, Lane, push_or_ask, leave_emissions, enter_emissions, move_emissions}
 use Rattle.split_rules.specs.Walk.{lane_at, row_on, need_of, behind_row, entry_id, go_with}
-use Rattle.split_rules.specs.Positions.{number_of, is_on, row_of, past_row, Due, run, Level, under, Position, calm}
+use Rattle.split_rules.specs.Positions.{number_of, is_on, row_of, past_row, DueWork, run, Level, under, Position, calm}
 use Rattle.split_rules.specs.Positions.{Forward, with_forwards, Entrance}
-use Rattle.split_rules.specs.Typing.{EntryIs, Cuts, Place, nowhere, here, TypedOp, AreTyped, need_due, Covers, AreDueOn}
+use Rattle.split_rules.specs.Typing.{EntryIs, Cuts, WalkPlace, nowhere, here, TypedOp, AreTyped, need_due, Covers}
+use Rattle.split_rules.specs.Typing.{AreDueOn}
 use Rattle.split_rules.specs.Typing.{AreSourced, RidesAll}
 use Rattle.split_rules.proofs.Places.{same_host}
 use Rattle.split_rules.proofs.WalkedMoves.{at_last, lent_spot, entered_here, next_here, next_there}
@@ -48,7 +49,7 @@ lane_level level lane = chosen lane.spot.back
     chosen (Some back) = under lane.return_entry
 
 -- where these forwards are still out
-abbrev pub lane_place : PlannedShape → Level → Lane → List Forward → List BlockTree → Place
+abbrev pub lane_place : PlannedShape → Level → Lane → List Forward → List BlockTree → WalkPlace
 lane_place planned level lane out trees =
     here lane.spot.host
     (with_forwards (calm (lane_level level lane) (map run (ahead_at planned lane.spot trees))) out)
@@ -104,7 +105,7 @@ lent_none riders out host back next apart carried =
 -- ---- leaving
 
 -- where a lane is left, all of its statements that are left are due, and these forwards are still out
-abbrev left_at : Level → HostId → List Forward → List BlockTree → Place
+abbrev left_at : Level → HostId → List Forward → List BlockTree → WalkPlace
 left_at level host out trees = here host (with_forwards (calm level (map run trees)) out)
 
 -- what is out where a lane is left rides straight to the next spot
@@ -253,7 +254,7 @@ statements_need : (planned : PlannedShape) (trees : List BlockTree) →
 statements_need planned trees = ap (need_of planned) (sym (run_numbers trees))
 
 -- the thread is handed over to an entry where all is due, and all that is out rides
-go_typed : (planned : PlannedShape) (me on : HostId) (level : Level) (due : List Due) (number : ℕ)
+go_typed : (planned : PlannedShape) (me on : HostId) (level : Level) (due : List DueWork) (number : ℕ)
     (riders : List VarId) (out : List Forward) (entries : List Entrance) (branches : List Position) →
     RidesAll riders on out → EntryIs entries number (calm level due) (need_due planned due) →
     TypedOp planned (known_at (here me (with_forwards (calm level due) out)) entries branches) me
@@ -306,7 +307,7 @@ handed walked around level from host riders out tree trees due left due_there en
       trusted = due_there;
     }
 
-push_typed : (planned : PlannedShape) (me back : HostId) (level : Level) (due : List Due) (out : List Forward)
+push_typed : (planned : PlannedShape) (me back : HostId) (level : Level) (due : List DueWork) (out : List Forward)
     (number : ℕ) (next : Position) (entries : List Entrance) (branches : List Position) →
     Cuts planned entries (with_forwards (calm level due) out) number next → AreDueOn planned back due →
     (me.0 ≢ back.0 → out ≡ []) →

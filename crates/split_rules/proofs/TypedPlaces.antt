@@ -11,7 +11,7 @@ use Rattle.msg_cost.specs.Moves.{PlannedShape}
 use Rattle.split_rules.specs.Emissions.{Emission, instruction, entry, stands, lands}
 use Rattle.split_rules.specs.Positions.{Position, Entrance}
 use Rattle.split_rules.specs.SplitCode.{emitted_on, entries_in}
-use Rattle.split_rules.specs.Typing.{IsCalm, Place, nowhere, here, Known, TypedOp, Types, AreTyped}
+use Rattle.split_rules.specs.Typing.{IsCalm, WalkPlace, nowhere, here, WalkKnown, TypedOp, Types, AreTyped}
 use Rattle.split_rules.proofs.WalkedCalls.{still_there}
 
 -- ---- what was known stays known
@@ -30,23 +30,24 @@ grows_then first middle last one two = record {
   is = two.is ∙ ap (λ list. list ++ two.more) one.is ∙ append_assoc first one.more two.more;
 }
 
-pub record BothGrow (first last : Known) : Type 0 where
+pub record BothGrow (first last : WalkKnown) : Type 0 where
   pub entries : Grows first.entries last.entries
   pub branches : Grows first.branches last.branches
 
 -- an instruction names no entry
-record OpGrows (known after : Known) : Type 0 where
+record OpGrows (known after : WalkKnown) : Type 0 where
   entries : after.entries ≡ known.entries
   branches : Grows known.branches after.branches
 
-place_only : (known : Known) (place : Place) (after : Known) →
+place_only : (known : WalkKnown) (place : WalkPlace) (after : WalkKnown) →
     after ≡ record { place = place; entries = known.entries; branches = known.branches } → OpGrows known after
 place_only known place after is = record {
   entries = ap (λ one. one.entries) is;
   branches = grows_not known.branches after.branches (ap (λ one. one.branches) is);
 }
 
-op_grows : (planned : PlannedShape) (known : Known) (me : HostId) (from : Position) (what : Op) (after : Known) →
+op_grows : (planned : PlannedShape) (known : WalkKnown) (me : HostId) (from : Position) (what : Op)
+    (after : WalkKnown) →
     TypedOp planned known me from what after → OpGrows known after
 op_grows planned known me from (op.Read field index) after typed = place_only known _ after typed.2
 op_grows planned known me from (op.Let x value) after typed = place_only known _ after typed.2
@@ -69,13 +70,13 @@ op_grows planned known me from (op.GoWith there on riders) after typed = place_o
 op_grows planned known me from (op.CallWith there on riders) after typed = place_only known _ after typed.1
 
 -- the place alone is another
-still_known : (known after : Known) → OpGrows known after → BothGrow known after
+still_known : (known after : WalkKnown) → OpGrows known after → BothGrow known after
 still_known known after so = record {
   entries = grows_not known.entries after.entries so.entries;
   branches = so.branches;
 }
 
-pub one_grows : (planned : PlannedShape) (known : Known) (x : Emission) (after : Known) →
+pub one_grows : (planned : PlannedShape) (known : WalkKnown) (x : Emission) (after : WalkKnown) →
     Types planned known x after → BothGrow known after
 one_grows planned known (instruction one) after typed =
     still_known known after (op_grows planned known one.host typed.0 one.op after typed.3)
@@ -91,7 +92,7 @@ one_grows planned known (stands host number) after typed =
 one_grows planned known (lands host number) after typed =
     still_known known after (place_only known _ after typed.3)
 
-pub all_grow : (planned : PlannedShape) (first : Known) (xs : List Emission) (last : Known) →
+pub all_grow : (planned : PlannedShape) (first : WalkKnown) (xs : List Emission) (last : WalkKnown) →
     AreTyped planned first xs last → BothGrow first last
 all_grow planned first [] last typed = record {
   entries = grows_not first.entries last.entries (ap (λ one. one.entries) (sym typed));
@@ -131,7 +132,7 @@ calm_there (first ∷ entries) zero entrance calm is =
     subst P same calm.0
 calm_there (first ∷ entries) (suc number) entrance calm is = calm_there entries number entrance calm.1 is
 
-pub all_calm : (planned : PlannedShape) (first : Known) (xs : List Emission) (last : Known) →
+pub all_calm : (planned : PlannedShape) (first : WalkKnown) (xs : List Emission) (last : WalkKnown) →
     AreTyped planned first xs last → AreCalm first.entries → AreCalm last.entries
 all_calm planned first [] last typed calm = subst AreCalm (ap (λ one. one.entries) typed) calm
 all_calm planned first (instruction one ∷ xs) last typed calm =
@@ -146,33 +147,33 @@ all_calm planned first (stands host number ∷ xs) last typed calm =
 all_calm planned first (lands host number ∷ xs) last typed calm =
     all_calm planned typed.0 xs last typed.2 (subst AreCalm (sym (ap (λ one. one.entries) typed.1.3)) calm)
 
-pub entries_many : (planned : PlannedShape) (first : Known) (xs : List Emission) (last : Known) →
+pub entries_many : (planned : PlannedShape) (first : WalkKnown) (xs : List Emission) (last : WalkKnown) →
     AreTyped planned first xs last → length last.entries ≡ length first.entries + length (entries_in xs)
 entries_many planned first [] last typed =
-    let same = ap {A = Known} (λ one. length one.entries) typed in omega arith
+    let same = ap {A = WalkKnown} (λ one. length one.entries) typed in omega arith
 entries_many planned first (instruction one ∷ xs) last typed =
     let same = ap length (op_grows planned first one.host typed.1.0 one.op typed.0 typed.1.3).entries in
     let others = entries_many planned typed.0 xs last typed.2 in
     omega arith
 entries_many planned first (entry named ∷ xs) last typed =
-    let same = ap {A = Known} (λ one. length one.entries) typed.1.4
+    let same = ap {A = WalkKnown} (λ one. length one.entries) typed.1.4
     ∙ length-append first.entries (record { position = typed.1.0; need = named.need } ∷ []) in
     let others = entries_many planned typed.0 xs last typed.2 in
     omega arith
 entries_many planned first (stands host number ∷ xs) last typed =
-    let same = ap {A = Known} (λ one. length one.entries) typed.1.4 in
+    let same = ap {A = WalkKnown} (λ one. length one.entries) typed.1.4 in
     let others = entries_many planned typed.0 xs last typed.2 in
     omega arith
 entries_many planned first (lands host number ∷ xs) last typed =
-    let same = ap {A = Known} (λ one. length one.entries) typed.1.3 in
+    let same = ap {A = WalkKnown} (λ one. length one.entries) typed.1.3 in
     let others = entries_many planned typed.0 xs last typed.2 in
     omega arith
 
 -- ---- positions
 
 -- the positions of the instructions of a host
-unfoldable pub positions_on : (planned : PlannedShape) (host : HostId) (first : Known) (xs : List Emission)
-    (last : Known) →
+unfoldable pub positions_on : (planned : PlannedShape) (host : HostId) (first : WalkKnown) (xs : List Emission)
+    (last : WalkKnown) →
     AreTyped planned first xs last → List Position
 positions_on planned host first [] last typed = []
 positions_on planned host first (instruction one ∷ xs) last typed =
@@ -191,8 +192,8 @@ here_host : (host other : HostId) (position next : Position) → here host posit
     (host ≡ other) × (position ≡ next)
 here_host host other position next same = (cc, cc)
 
-pub first_is : (planned : PlannedShape) (host : HostId) (position : Position) (first : Known) (xs : List Emission)
-    (last : Known) → (typed : AreTyped planned first xs last) → first.place ≡ here host position →
+pub first_is : (planned : PlannedShape) (host : HostId) (position : Position) (first : WalkKnown) (xs : List Emission)
+    (last : WalkKnown) → (typed : AreTyped planned first xs last) → first.place ≡ here host position →
     last.place ≡ nowhere → slice_get (positions_on planned host first xs last typed) 0 ≡ Some position
 unfolding positions_on
 first_is planned host position first [] last typed goes_on ends =
@@ -213,15 +214,15 @@ first_is planned host position first (lands on number ∷ xs) last typed goes_on
 -- ---- halves
 
 -- what is behind the first part of a typed walk, and the positions there
-pub record Half (planned : PlannedShape) (host : HostId) (first : Known) (xs ys : List Emission) (last : Known)
+pub record Half (planned : PlannedShape) (host : HostId) (first : WalkKnown) (xs ys : List Emission) (last : WalkKnown)
     (typed : AreTyped planned first (xs ++ ys) last) : Type 0 where
-  pub middle : Known
+  pub middle : WalkKnown
   pub behind : AreTyped planned middle ys last
   pub many : length middle.entries ≡ length first.entries + length (entries_in xs)
   pub places : (number : ℕ) → slice_get (positions_on planned host first (xs ++ ys) last typed)
       (length (emitted_on host xs) + number) ≡ slice_get (positions_on planned host middle ys last behind) number
 
-pub half : (planned : PlannedShape) (host : HostId) (first : Known) (xs ys : List Emission) (last : Known) →
+pub half : (planned : PlannedShape) (host : HostId) (first : WalkKnown) (xs ys : List Emission) (last : WalkKnown) →
     (typed : AreTyped planned first (xs ++ ys) last) → Half planned host first xs ys last typed
 unfolding positions_on
 half planned host first [] ys last typed = record {
@@ -250,17 +251,17 @@ half planned host first (instruction one ∷ xs) ys last typed =
     }
 half planned host first (entry named ∷ xs) ys last typed =
     let others = half planned host typed.0 xs ys last typed.2 in
-    let same = ap {A = Known} (λ one. length one.entries) typed.1.4
+    let same = ap {A = WalkKnown} (λ one. length one.entries) typed.1.4
     ∙ length-append first.entries (record { position = typed.1.0; need = named.need } ∷ []) in
     let rest = others.many in
     record { middle = others.middle; behind = others.behind; many = omega arith; places = others.places }
 half planned host first (stands on number ∷ xs) ys last typed =
     let others = half planned host typed.0 xs ys last typed.2 in
-    let same = ap {A = Known} (λ one. length one.entries) typed.1.4 in
+    let same = ap {A = WalkKnown} (λ one. length one.entries) typed.1.4 in
     let rest = others.many in
     record { middle = others.middle; behind = others.behind; many = omega arith; places = others.places }
 half planned host first (lands on number ∷ xs) ys last typed =
     let others = half planned host typed.0 xs ys last typed.2 in
-    let same = ap {A = Known} (λ one. length one.entries) typed.1.3 in
+    let same = ap {A = WalkKnown} (λ one. length one.entries) typed.1.3 in
     let rest = others.many in
     record { middle = others.middle; behind = others.behind; many = omega arith; places = others.places }

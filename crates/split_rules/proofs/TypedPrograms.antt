@@ -16,7 +16,7 @@ use Rattle.split_rules.specs.SplitCode.{entries_in}
 use Rattle.split_rules.specs.Walk.{method_entry, lane_on, walked_in, block_emissions, methods_emissions, need_of}
 use Rattle.split_rules.specs.Positions.{statements_of, all_due, body, Position, calm, Entrance}
 use Rattle.split_rules.specs.Typable.{IsTypableMethod, IsTypable}
-use Rattle.split_rules.specs.Typing.{EntryIs, nowhere, here, Known, AreTyped}
+use Rattle.split_rules.specs.Typing.{EntryIs, nowhere, here, WalkKnown, AreTyped}
 use Rattle.split_rules.specs.WalkStart.{front_emissions, method_entrances, known_start}
 use Rattle.split_rules.specs.TypedCode.{AreMethodEntries}
 use Rattle.split_rules.proofs.WalkedCalls.{nothing_there}
@@ -144,7 +144,7 @@ pub program_typed : (placed : PlacedProgram) →
     let planned = planned_from placed in
     let counts = counts_after (record { entries = 0; branches = 0 }) (front_emissions placed.labelled planned) in
     IsWellNumbered placed.labelled.program → AreHostsThere planned → IsTypable planned →
-    (last : Known) × (last.place ≡ nowhere) × AreTyped planned (known_start planned)
+    (last : WalkKnown) × (last.place ≡ nowhere) × AreTyped planned (known_start planned)
     (methods_emissions placed.hosts.principals placed.labelled planned counts 0 placed.labelled.program.methods) last
 program_typed placed numbered hosts typable = (_, refl, subst P (sym same) leads.typed)
   where

@@ -12,7 +12,7 @@ use Rattle.jif_tree.specs.Trees.{BlockTree}
 use Rattle.need_labels.specs.Plan.{statement_host}
 use Rattle.msg_cost.specs.Moves.{PlannedShape, is_trusted_for, is_trusted_for_all, return_host, host_behind}
 use Rattle.split_rules.specs.Walk.{row_on, behind_row}
-use Rattle.split_rules.specs.Positions.{number_of, is_on, row_of, past_row, Due, run, due_numbers, statement_due}
+use Rattle.split_rules.specs.Positions.{number_of, is_on, row_of, past_row, DueWork, run, due_numbers, statement_due}
 use Rattle.split_rules.specs.Typable.{IsTrustedThere}
 use Rattle.split_rules.specs.Typing.{need_due, Covers, AreDueOn}
 use Rattle.split_rules.proofs.Places.{same_host}
@@ -188,7 +188,7 @@ past_numbers planned host (tree ∷ trees) =
     by others false is = rw is refl
 
 -- a word with more bits covers what the word does
-pub covers_more : (planned : PlannedShape) (need more : ℕ) (due : List Due) → Covers planned need due →
+pub covers_more : (planned : PlannedShape) (need more : ℕ) (due : List DueWork) → Covers planned need due →
     ((principal : ℕ) → principal < READERS → bit_at need principal ≤ bit_at more principal) → Covers planned more due
 covers_more planned need more [] covers within = tt
 covers_more planned need more (item ∷ others) covers within = (
@@ -197,7 +197,7 @@ covers_more planned need more (item ∷ others) covers within = (
 )
 
 -- the need of what is due covers all of it
-pub covers_due : (planned : PlannedShape) (due : List Due) → Covers planned (need_due planned due) due
+pub covers_due : (planned : PlannedShape) (due : List DueWork) → Covers planned (need_due planned due) due
 covers_due planned [] = tt
 covers_due planned (item ∷ others) =
     let one = slice_index planned.needs.need (number_of (statement_due item)).0 in

@@ -15,15 +15,16 @@ use Rattle.host_code.specs.Code.{instruction_at}
 use Rattle.need_labels.specs.Labelled.{Labelled}
 use Rattle.msg_cost.specs.Moves.{PlannedShape, home_of}
 use Rattle.split_rules.specs.Placed.{PlacedProgram, planned_from}
-use Rattle.split_rules.specs.Emissions.{Emission, instruction, stands, lands, Emitted, counts_after, Named, entry}
+use Rattle.split_rules.specs.Emissions.{Emission, instruction, stands, lands, Emitted, counts_after, NamedEntry, entry}
 use Rattle.split_rules.specs.Positions.{body, Calling, no_call, arguing, entering, Position, calm, all_due, Entrance}
 use Rattle.split_rules.specs.SplitCode.{emitted_on, entries_in, before_entry, before_landing, landed, code_labels}
 use Rattle.split_rules.specs.SplitCode.{code_of_emissions, split_code}
 use Rattle.split_rules.specs.Splittable.{IsSplittable}
 use Rattle.split_rules.specs.Typable.{IsTypableMethod, IsTypable}
 use Rattle.split_rules.specs.Walk.{need_of, methods_emissions, method_entry}
-use Rattle.split_rules.specs.Typing.{AreDueOn, Covers, LeadsTo, EntryIs, Cuts, Pushes, Follows, Enters, Ends, nowhere}
-use Rattle.split_rules.specs.Typing.{EntersWith, here, Known, TypedOp, AreTyped, IsTrustedAt}
+use Rattle.split_rules.specs.Typing.{AreDueOn, Covers, BranchLeadsTo, EntryIs, Cuts, Pushes, Follows, Enters, Ends}
+use Rattle.split_rules.specs.Typing.{nowhere}
+use Rattle.split_rules.specs.Typing.{EntersWith, here, WalkKnown, TypedOp, AreTyped, IsTrustedAt}
 use Rattle.split_rules.specs.TypedCode.{IsTypedEntry, Table, IsTypedOp, IsTypedCode}
 use Rattle.split_rules.specs.WalkStart.{front_emissions, known_start}
 use Rattle.split_rules.specs.Flow.{State}
@@ -109,10 +110,10 @@ ends_more planned entries more kept from other ends = ends
 
 -- the position of an instruction, and of what is behind it
 record InstructionTyped (planned : PlannedShape) (host : HostId) (positions : List Position) (place : ℕ) (one : Emitted)
-    (last : Known) : Type 0 where
-  known : Known
+    (last : WalkKnown) : Type 0 where
+  known : WalkKnown
   from : Position
-  after : Known
+  after : WalkKnown
   stands_at : slice_get positions place ≡ Some from
   trusted : IsTrustedAt planned one.host from
   typed : TypedOp planned known one.host from one.op after
@@ -120,7 +121,8 @@ record InstructionTyped (planned : PlannedShape) (host : HostId) (positions : Li
   entries : Kept known.entries last.entries
   branches : Kept after.branches last.branches
 
-instruction_there : (planned : PlannedShape) (host : HostId) (first : Known) (last : Known) → last.place ≡ nowhere →
+instruction_there : (planned : PlannedShape) (host : HostId) (first : WalkKnown) (last : WalkKnown) → last.place
+    ≡ nowhere →
     (emissions before : List Emission) (one : Emitted) (behind : List Emission) →
     emissions ≡ before ++ instruction one ∷ behind → one.host ≡ host → (typed : AreTyped planned first emissions last) →
     InstructionTyped planned host (positions_on planned host first emissions last typed)
@@ -175,9 +177,9 @@ record EntryTyped (positions : List Position) (place number : ℕ) (entries : Li
 record LandingTyped (positions : List Position) (place number : ℕ) (branches : List Position) : Type 0 where
   position : Position
   stands_at : slice_get positions place ≡ Some position
-  known : LeadsTo branches number position
+  known : BranchLeadsTo branches number position
 
-entry_stands : (planned : PlannedShape) (host : HostId) (number : ℕ) (first : Known) (last : Known) →
+entry_stands : (planned : PlannedShape) (host : HostId) (number : ℕ) (first : WalkKnown) (last : WalkKnown) →
     last.place ≡ nowhere → (emissions before behind : List Emission) →
     emissions ≡ before ++ stands host number ∷ behind →
     (typed : AreTyped planned first emissions last) →
@@ -197,7 +199,7 @@ entry_stands planned host number first last ends emissions before behind is type
         let step = parts.behind.1 in
         let rest = parts.behind.2 in
         let grows = all_grow planned parts.behind.0 behind last rest in
-        let same = ap {A = Known} (λ one. one.entries) step.4 in
+        let same = ap {A = WalkKnown} (λ one. one.entries) step.4 in
         let P : List Entrance → Type 0 = λ entries. EntryIs entries number step.0 step.1 in
         let place = length (emitted_on host before) in
         let none : place + 0 ≡ place = omega arith in
@@ -211,7 +213,7 @@ entry_stands planned host number first last ends emissions before behind is type
               (record { position = step.0; need = step.1 }) (subst P (sym same) step.2);
         }
 
-branch_lands : (planned : PlannedShape) (host : HostId) (number : ℕ) (first : Known) (last : Known) →
+branch_lands : (planned : PlannedShape) (host : HostId) (number : ℕ) (first : WalkKnown) (last : WalkKnown) →
     last.place ≡ nowhere → (emissions before behind : List Emission) →
     emissions ≡ before ++ lands host number ∷ behind →
     (typed : AreTyped planned first emissions last) →
@@ -231,8 +233,8 @@ branch_lands planned host number first last ends emissions before behind is type
         let step = parts.behind.1 in
         let rest = parts.behind.2 in
         let grows = all_grow planned parts.behind.0 behind last rest in
-        let same = ap {A = Known} (λ one. one.branches) step.3 in
-        let P : List Position → Type 0 = λ branches. LeadsTo branches number step.0 in
+        let same = ap {A = WalkKnown} (λ one. one.branches) step.3 in
+        let P : List Position → Type 0 = λ branches. BranchLeadsTo branches number step.0 in
         let place = length (emitted_on host before) in
         let none : place + 0 ≡ place = omega arith in
         record {
@@ -281,7 +283,7 @@ entry_place host labelled planned main number emissions =
 -- ---- the table
 
 -- The table of a typed walk.
-table_of : (planned : PlannedShape) (first : Known) (emissions : List Emission) (last : Known) →
+table_of : (planned : PlannedShape) (first : WalkKnown) (emissions : List Emission) (last : WalkKnown) →
     AreTyped planned first emissions last → Table
 table_of planned first emissions last typed = record {
   entries = last.entries;
@@ -290,7 +292,7 @@ table_of planned first emissions last typed = record {
       (calm (body planned.program.main) []);
 }
 
-read_off : (planned : PlannedShape) (first : Known) (emissions : List Emission) (last : Known) →
+read_off : (planned : PlannedShape) (first : WalkKnown) (emissions : List Emission) (last : WalkKnown) →
     (typed : AreTyped planned first emissions last) (host : HostId) (place : ℕ) (position : Position) →
     slice_get (positions_on planned host first emissions last typed) place ≡ Some position →
     (table_of planned first emissions last typed).at host.0 place ≡ position
@@ -310,7 +312,7 @@ record Walk (labelled : Labelled) (hosts : HostsShape) (planned : PlannedShape) 
     (emissions : List Emission) : Type 0 where
   end : State
   walk : IsWalk labelled hosts planned main emissions end
-  last : Known
+  last : WalkKnown
   typed : AreTyped planned (known_start planned) emissions last
   ends : last.place ≡ nowhere
 
@@ -331,7 +333,7 @@ unfolding table_of
 op_typed labelled hosts planned main emissions walk before one behind is me own what what_is =
     (trusted, by what what_is typed)
   where
-    first : Known
+    first : WalkKnown
     first = known_start planned
 
     place : ℕ
@@ -370,9 +372,9 @@ op_typed labelled hosts planned main emissions walk before one behind is me own 
         let marked = branch_lands planned me number first walk.last walk.ends emissions
         (before_landing number emissions)
         lands_there.behind lands_there.is walk.typed in
-        let target_known : LeadsTo so.after.branches number law.1 =
-        (let P : List Position → Type 0 = λ list. LeadsTo list number law.1 in
-        let Q : ℕ → Type 0 = λ at. LeadsTo (so.known.branches ++ law.1 ∷ []) at law.1 in
+        let target_known : BranchLeadsTo so.after.branches number law.1 =
+        (let P : List Position → Type 0 = λ list. BranchLeadsTo list number law.1 in
+        let Q : ℕ → Type 0 = λ at. BranchLeadsTo (so.known.branches ++ law.1 ∷ []) at law.1 in
         subst P (sym (ap (λ known. known.branches) law.4)) (subst Q (sym law.2)
         (at_last so.known.branches law.1 []))) in
         let same = same_there walk.last.branches number marked.position law.1 marked.known
@@ -425,13 +427,13 @@ instructions_typed labelled hosts planned main emissions walk me place there is 
 -- ---- entries
 
 -- what is known of an entry where it is named: its host is trusted for what is due there, and its need covers that
-record NamedTyped (planned : PlannedShape) (entries : List Entrance) (number : ℕ) (named : Named) : Type 0 where
+record NamedTyped (planned : PlannedShape) (entries : List Entrance) (number : ℕ) (named : NamedEntry) : Type 0 where
   position : Position
   is : EntryIs entries number position named.need
   trusted : AreDueOn planned named.host position.due
   covers : Covers planned named.need position.due
 
-pub method_named : (planned : PlannedShape) (methods : List MethodTree) (place : ℕ) (named : Named) →
+pub method_named : (planned : PlannedShape) (methods : List MethodTree) (place : ℕ) (named : NamedEntry) →
     slice_get (entries_in (map (method_entry planned) methods)) place ≡ Some named →
     (method : MethodTree) × (slice_get methods place ≡ Some method) × (named ≡ record {
       host = home_of planned method;
@@ -453,8 +455,9 @@ typable_there planned (first ∷ methods) (suc place) method typable there =
 
 -- the entry of a method, whose home is trusted for its body
 method_typed : (labelled : Labelled) (planned : PlannedShape) → labelled.program ≡ planned.program → IsTypable planned →
-    (emissions : List Emission) (last : Known) → AreTyped planned (known_start planned) emissions last → (number : ℕ)
-    (named : Named) →
+    (emissions : List Emission) (last : WalkKnown) → AreTyped planned (known_start planned) emissions last →
+    (number : ℕ)
+    (named : NamedEntry) →
     slice_get (entries_in (map (method_entry planned) labelled.program.methods)) number ≡ Some named →
     NamedTyped planned last.entries (suc number) named
 method_typed labelled planned same typable emissions last typed number named there =
@@ -464,7 +467,7 @@ method_typed labelled planned same typable emissions last typed number named the
     let own = subst P same found.1 in
     let so = typable_there planned planned.program.methods number method typable.methods own in
     let grows = all_grow planned (known_start planned) emissions last typed in
-    let Q : Named → Type 0 = λ it. NamedTyped planned last.entries (suc number) it in
+    let Q : NamedEntry → Type 0 = λ it. NamedTyped planned last.entries (suc number) it in
     subst Q (sym found.2) (record {
       position = calm (body (record { 0 = number })) (all_due method.body);
       is = grown (known_start planned).entries last.entries grows.entries (suc number) _
@@ -474,7 +477,8 @@ method_typed labelled planned same typable emissions last typed number named the
     })
 
 -- an entry that is named in the bodies
-later_typed : (planned : PlannedShape) (first : Known) (last : Known) (emissions before : List Emission) (named : Named)
+later_typed : (planned : PlannedShape) (first : WalkKnown) (last : WalkKnown) (emissions before : List Emission)
+    (named : NamedEntry)
     (behind : List Emission) → emissions ≡ before ++ entry named ∷ behind →
     AreTyped planned first emissions last →
     NamedTyped planned last.entries (length first.entries + length (entries_in before)) named
@@ -485,7 +489,7 @@ later_typed planned first last emissions before named behind is typed =
     let rest = parts.behind.2 in
     let grows = all_grow planned parts.behind.0 behind last rest in
     let entrance : Entrance = record { position = step.0; need = named.need } in
-    let same = ap {A = Known} (λ one. one.entries) step.4 in
+    let same = ap {A = WalkKnown} (λ one. one.entries) step.4 in
     let Q : ℕ → Type 0 = λ number. EntryIs last.entries number step.0 named.need in
     let R : List Entrance → Type 0 = λ list. EntryIs list (length parts.middle.entries) step.0 named.need in
     record {
@@ -498,7 +502,7 @@ later_typed planned first last emissions before named behind is typed =
 
 named_typed : (labelled : Labelled) (hosts : HostsShape) (planned : PlannedShape) (main : MethodTree)
     (emissions : List Emission) → labelled.program ≡ planned.program → IsTypable planned →
-    (walk : Walk labelled hosts planned main emissions) → (number : ℕ) (named : Named) →
+    (walk : Walk labelled hosts planned main emissions) → (number : ℕ) (named : NamedEntry) →
     slice_get (entries_in (given labelled planned main emissions)) (suc number) ≡ Some named →
     NamedTyped planned walk.last.entries (suc number) named
 named_typed labelled hosts planned main emissions same typable walk number named there =

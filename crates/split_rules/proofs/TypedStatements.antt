@@ -12,38 +12,40 @@ use Rattle.msg_cost.specs.Moves.{PlannedShape}
 use Rattle.split_rules.specs.Emissions.{Emission}
 use Rattle.split_rules.specs.Expressions.{reads_in, nodes_of, first_element, released_by}
 use Rattle.split_rules.specs.Walk.{expr_emissions, send_emissions, releasing}
-use Rattle.split_rules.specs.Positions.{IsIn, Due, run, statement_due, is_on, Level, body, FieldRead, field_reads}
+use Rattle.split_rules.specs.Positions.{IsStatementOfMethod, DueWork, run, statement_due, is_on, Level, body, FieldRead}
+use Rattle.split_rules.specs.Positions.{field_reads}
 use Rattle.split_rules.specs.Positions.{own_reads, Forward, Position, calm, with_reads, with_forwards, forwards_of}
 use Rattle.split_rules.specs.Positions.{Entrance}
-use Rattle.split_rules.specs.Typing.{AreDueOn, Known, here, Types, AreTyped}
+use Rattle.split_rules.specs.Typing.{AreDueOn, WalkKnown, here, Types, AreTyped}
 use Rattle.split_rules.proofs.TypedStates.{known_at, typed_on}
 use Rattle.split_rules.proofs.TypedValues.{reads_many, IsDueOn, Site, expr_typed}
 use Rattle.split_rules.proofs.TypedForwards.{out_behind, send_typed}
 
-abbrev pub calm_at : Site → Level → List Due → List Entrance → List Position → Known
+abbrev pub calm_at : Site → Level → List DueWork → List Entrance → List Position → WalkKnown
 calm_at site level due entries branches = known_at (here site.me (calm level due)) entries branches
 
 -- the same where something is still out, which rides
-abbrev pub riding_at : Site → Level → List Due → List Forward → List Entrance → List Position → Known
+abbrev pub riding_at : Site → Level → List DueWork → List Forward → List Entrance → List Position → WalkKnown
 riding_at site level due out entries branches =
     known_at (here site.me (with_forwards (calm level due) out)) entries branches
 
 -- a statement is due on its host, with others behind it
-abbrev pub due_on : (planned : PlannedShape) (site : Site) (level : Level) (statement : BlockTree) (others : List Due) →
+abbrev pub due_on : (planned : PlannedShape) (site : Site) (level : Level) (statement : BlockTree)
+    (others : List DueWork) →
     is_on planned site.me statement ≡ true → AreDueOn planned site.me (run statement ∷ others) →
     IsDueOn planned site.me (calm level (run statement ∷ others))
 due_on planned site level statement others on_host trusted =
     record { trusted = (trusted, tt); first = run statement; others = others; due = refl; on_host = on_host }
 
 -- a statement reads its expression, and what it does then
-abbrev pub behind_reads : Site → Level → List Due → List FieldRead → List Entrance → List Position → Known
+abbrev pub behind_reads : Site → Level → List DueWork → List FieldRead → List Entrance → List Position → WalkKnown
 behind_reads site level due reads entries branches =
     known_at (here site.me (with_reads (calm level due) reads)) entries branches
 
-pub reads_then : (planned : PlannedShape) (site : Site) (level : Level) (due : List Due) →
+pub reads_then : (planned : PlannedShape) (site : Site) (level : Level) (due : List DueWork) →
     (on_due : IsDueOn planned site.me (calm level due)) → (entries : List Entrance) (branches : List Position)
     (value : ExprTree) →
-    own_reads (statement_due on_due.first) ≡ field_reads value → (others : List Emission) (last : Known) →
+    own_reads (statement_due on_due.first) ≡ field_reads value → (others : List Emission) (last : WalkKnown) →
     AreTyped planned (behind_reads site level due (field_reads value) entries branches) others last →
     AreTyped planned (calm_at site level due entries branches)
     (expr_emissions site.me site.label site.id 0 value ++ others) last
@@ -55,13 +57,13 @@ reads_then planned site level due on_due entries branches value is others last f
     (is ∙ sym (append-nil (field_reads value)))) follows
 
 -- one instruction behind which the host goes on
-pub one_typed : (planned : PlannedShape) (known : Known) (x : Emission) (middle : Known) (xs : List Emission)
-    (last : Known) → Types planned known x middle → AreTyped planned middle xs last →
+pub one_typed : (planned : PlannedShape) (known : WalkKnown) (x : Emission) (middle : WalkKnown) (xs : List Emission)
+    (last : WalkKnown) → Types planned known x middle → AreTyped planned middle xs last →
     AreTyped planned known (x ∷ xs) last
 one_typed planned known x middle xs last one others = (middle, one, others)
 
 pub set_local_typed : (planned : PlannedShape) (site : Site) (level : Level) (heading : Heading) (x : VarId)
-    (value : ExprTree) (carried : Option HostId) (others : List Due) →
+    (value : ExprTree) (carried : Option HostId) (others : List DueWork) →
     is_on planned site.me (set_local heading x value done) ≡ true →
     AreDueOn planned site.me (run (set_local heading x value done) ∷ others) →
     (entries : List Entrance) (branches : List Position) →
@@ -101,7 +103,7 @@ set_local_typed planned site level heading x value carried others on_host truste
     )
 
 pub set_field_typed : (planned : PlannedShape) (site : Site) (level : Level) (heading : Heading) (field : FieldId)
-    (value : ExprTree) (others : List Due) → is_on planned site.me (set_field heading field value done) ≡ true →
+    (value : ExprTree) (others : List DueWork) → is_on planned site.me (set_field heading field value done) ≡ true →
     AreDueOn planned site.me (run (set_field heading field value done) ∷ others) →
     (entries : List Entrance) (branches : List Position) →
     AreTyped planned (calm_at site level (run (set_field heading field value done) ∷ others) entries branches)
@@ -136,7 +138,7 @@ set_field_typed planned site level heading field value others on_host trusted en
     )
 
 pub set_element_typed : (planned : PlannedShape) (site : Site) (level : Level) (heading : Heading) (field : FieldId)
-    (index value : ExprTree) (others : List Due) →
+    (index value : ExprTree) (others : List DueWork) →
     is_on planned site.me (set_element heading field index value done) ≡ true →
     AreDueOn planned site.me (run (set_element heading field index value done) ∷ others) →
     (entries : List Entrance) (branches : List Position) →
@@ -189,7 +191,7 @@ set_element_typed planned site level heading field index value others on_host tr
 -- a result is given back, which ends what is due
 pub give_back_typed : (planned : PlannedShape) (site : Site) (method : MethodId) (heading : Heading) (value : ExprTree)
     (result : VarId) → result_of (method_at planned.program method) ≡ Some result →
-    IsIn planned.program method (give_back heading value done) →
+    IsStatementOfMethod planned.program method (give_back heading value done) →
     is_on planned site.me (give_back heading value done) ≡ true →
     AreDueOn planned site.me (run (give_back heading value done) ∷ []) →
     (entries : List Entrance) (branches : List Position) →

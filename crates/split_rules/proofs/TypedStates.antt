@@ -9,21 +9,21 @@ use Rattle.msg_cost.specs.Moves.{PlannedShape}
 use Rattle.split_rules.specs.Emissions.{Emission, instruction, entry, stands, lands, Counts, one_more_branch}
 use Rattle.split_rules.specs.Emissions.{counts_with, counts_after}
 use Rattle.split_rules.specs.Positions.{Position, Entrance}
-use Rattle.split_rules.specs.Typing.{Place, Known, TypedOp, Types, AreTyped}
+use Rattle.split_rules.specs.Typing.{WalkPlace, WalkKnown, TypedOp, Types, AreTyped}
 
-abbrev pub known_at : Place → List Entrance → List Position → Known
+abbrev pub known_at : WalkPlace → List Entrance → List Position → WalkKnown
 known_at place entries branches = record { place = place; entries = entries; branches = branches }
 
 abbrev pub counts_in : List Entrance → List Position → Counts
 counts_in entries branches = record { entries = length entries; branches = length branches }
 
-abbrev pub counts_of : Known → Counts
+abbrev pub counts_of : WalkKnown → Counts
 counts_of known = counts_in known.entries known.branches
 
-pub typed_on : (planned : PlannedShape) (first : Known) (xs ys : List Emission) (middle last : Known) →
+pub typed_on : (planned : PlannedShape) (first : WalkKnown) (xs ys : List Emission) (middle last : WalkKnown) →
     AreTyped planned first xs middle → AreTyped planned middle ys last → AreTyped planned first (xs ++ ys) last
 typed_on planned first [] ys middle last one two =
-    let P : Known → Type 0 = λ known. AreTyped planned known ys last in
+    let P : WalkKnown → Type 0 = λ known. AreTyped planned known ys last in
     subst P (sym one) two
 typed_on planned first (x ∷ xs) ys middle last one two =
     (one.0, one.1, typed_on planned one.0 xs ys middle last one.2 two)
@@ -33,7 +33,8 @@ typed_on planned first (x ∷ xs) ys middle last one two =
 pub one_longer : {X : Type 0} (xs : List X) (x : X) → length (xs ++ x ∷ []) ≡ suc (length xs)
 one_longer xs x = rw length-append (omega arith)
 
-counts_op : (planned : PlannedShape) (known : Known) (me : HostId) (from : Position) (what : Op) (after : Known) →
+counts_op : (planned : PlannedShape) (known : WalkKnown) (me : HostId) (from : Position) (what : Op)
+    (after : WalkKnown) →
     TypedOp planned known me from what after → counts_of after ≡ one_more_branch what (counts_of known)
 counts_op planned known me from (op.Read field index) after typed = ap counts_of typed.2
 counts_op planned known me from (op.Let x value) after typed = ap counts_of typed.2
@@ -56,7 +57,8 @@ counts_op planned known me from (op.Branch guard number) after typed =
 counts_op planned known me from (op.GoWith there on riders) after typed = ap counts_of typed.1
 counts_op planned known me from (op.CallWith there on riders) after typed = ap counts_of typed.1
 
-counts_one : (planned : PlannedShape) (known : Known) (x : Emission) (after : Known) → Types planned known x after →
+counts_one : (planned : PlannedShape) (known : WalkKnown) (x : Emission) (after : WalkKnown) →
+    Types planned known x after →
     counts_of after ≡ counts_with (counts_of known) x
 counts_one planned known (instruction one) after typed =
     counts_op planned known one.host typed.0 one.op after typed.3
@@ -69,7 +71,7 @@ counts_one planned known (entry named) after typed =
 counts_one planned known (stands host number) after typed = ap counts_of typed.4
 counts_one planned known (lands host number) after typed = ap counts_of typed.3
 
-pub counts_behind : (planned : PlannedShape) (first : Known) (xs : List Emission) (last : Known) →
+pub counts_behind : (planned : PlannedShape) (first : WalkKnown) (xs : List Emission) (last : WalkKnown) →
     AreTyped planned first xs last → counts_of last ≡ counts_after (counts_of first) xs
 counts_behind planned first [] last typed = ap counts_of (sym typed)
 counts_behind planned first (x ∷ xs) last typed =
@@ -79,13 +81,15 @@ counts_behind planned first (x ∷ xs) last typed =
 -- ---- parts
 
 -- Emissions lead to a place. What was known stays known.
-pub record Leads (planned : PlannedShape) (first : Known) (emissions : List Emission) (place : Place) : Type 0 where
-  pub more : List Entrance
-  pub ahead : List Position
-  pub typed : AreTyped planned first emissions (known_at place (first.entries ++ more) (first.branches ++ ahead))
+pub record Leads (planned : PlannedShape) (first : WalkKnown) (emissions : List Emission) (place : WalkPlace) : Type 0
+  where
+    pub more : List Entrance
+    pub ahead : List Position
+    pub typed : AreTyped planned first emissions (known_at place (first.entries ++ more) (first.branches ++ ahead))
 
 -- where nothing is named and no branch begins
-pub leads_still : (planned : PlannedShape) (place behind : Place) (entries : List Entrance) (branches : List Position)
+pub leads_still : (planned : PlannedShape) (place behind : WalkPlace) (entries : List Entrance)
+    (branches : List Position)
     (emissions : List Emission) →
     AreTyped planned (known_at place entries branches) emissions (known_at behind entries branches) →
     Leads planned (known_at place entries branches) emissions behind
@@ -101,7 +105,7 @@ leads_still planned place behind entries branches emissions typed =
     }
 
 -- one part and what follows it, which may use what the first part made of the counts
-pub leads_on : (planned : PlannedShape) (first : Known) (xs ys : List Emission) (place behind : Place) →
+pub leads_on : (planned : PlannedShape) (first : WalkKnown) (xs ys : List Emission) (place behind : WalkPlace) →
     Leads planned first xs place → ((more : List Entrance) (ahead : List Position) →
     counts_in (first.entries ++ more) (first.branches ++ ahead) ≡ counts_after (counts_of first) xs →
     Leads planned (known_at place (first.entries ++ more) (first.branches ++ ahead)) ys behind) →
@@ -123,7 +127,7 @@ leads_on planned first xs ys place behind one follows =
 
 -- a part that names entries and opens no branch, and what follows it
 pub moved_then : (planned : PlannedShape) (entries : List Entrance) (branches : List Position)
-    (more : List Entrance) (place middle behind : Place)
+    (more : List Entrance) (place middle behind : WalkPlace)
     (xs ys : List Emission) →
     AreTyped planned (known_at place entries branches) xs (known_at middle (entries ++ more) branches) →
     Leads planned (known_at middle (entries ++ more) branches) ys behind →

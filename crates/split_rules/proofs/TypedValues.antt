@@ -13,9 +13,9 @@ use Rattle.host_code.specs.declared.code_expr.Node.{Node}
 use Rattle.host_code.specs.declared.instruction.Op.TheVariants as op
 use Rattle.msg_cost.specs.Moves.{PlannedShape}
 use Rattle.split_rules.specs.Emissions.{Emission}
-use Rattle.split_rules.specs.Expressions.{Reading, reads_in, nodes_of, readings_of, first_element, released_by}
+use Rattle.split_rules.specs.Expressions.{ElementReading, reads_in, nodes_of, readings_of, first_element, released_by}
 use Rattle.split_rules.specs.Walk.{read_emissions, expr_emissions, releasing}
-use Rattle.split_rules.specs.Positions.{Due, statement_due, is_on, FieldRead, field_reads, reads_due}
+use Rattle.split_rules.specs.Positions.{DueWork, statement_due, is_on, FieldRead, field_reads, reads_due}
 use Rattle.split_rules.specs.Positions.{Position, with_reads, Entrance}
 use Rattle.split_rules.specs.Typing.{IsTrustedAt, here, AreTyped}
 use Rattle.split_rules.proofs.TypedStates.{known_at, typed_on}
@@ -34,8 +34,8 @@ reads_many (endorsed operand label) = reads_many operand
 -- a statement on a host is due first, and the host is trusted for all that is due
 pub record IsDueOn (planned : PlannedShape) (me : HostId) (base : Position) : Type 0 where
   pub trusted : IsTrustedAt planned me base
-  pub first : Due
-  pub others : List Due
+  pub first : DueWork
+  pub others : List DueWork
   pub due : base.due ≡ first ∷ others
   pub on_host : is_on planned me (statement_due first) ≡ true
 
@@ -45,7 +45,7 @@ pub record Site : Type 0 where
   pub label : Label
   pub id : StmtId
 
-abbrev reads_at : Site → List Reading → List Emission
+abbrev reads_at : Site → List ElementReading → List Emission
 reads_at site readings = read_emissions site.me site.label site.id readings
 
 -- the position of reads behind some reads
@@ -111,7 +111,7 @@ expr_typed planned site base on_due entries branches before (element field index
     let inner = before ++ field_reads index in
     let last : FieldRead = record { field = field; index = index } in
     let middle = known_at (here site.me (with_reads base inner)) entries branches in
-    let read : Reading =
+    let read : ElementReading =
     record { field = field; index = nodes_of first index; released = released_by first index } in
     let P : List Emission → Type 0 = λ emissions. ReadsFrom planned site base entries branches before emissions
     (before ++ (field_reads index ++ last ∷ [])) in

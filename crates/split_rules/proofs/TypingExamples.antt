@@ -13,7 +13,8 @@ use Rattle.host_code.specs.Code.{CodeShape}
 use Rattle.msg_cost.specs.Moves.{PlannedShape, is_trusted_by}
 use Rattle.split_rules.specs.Expressions.{first_element, nodes_of}
 use Rattle.split_rules.specs.OpenExamples.{main_level, increase, setting, reading, tests_first}
-use Rattle.split_rules.specs.Positions.{IsIn, IsOf, Due, run, keep, Level, body, under, all_due, own_reads, is_on}
+use Rattle.split_rules.specs.Positions.{IsStatementOfMethod, IsOf, DueWork, run, keep, Level, body, under, all_due}
+use Rattle.split_rules.specs.Positions.{own_reads, is_on}
 use Rattle.split_rules.specs.Positions.{no_call, Position, Entrance, calm, with_reads, with_forwards, forwards_of}
 use Rattle.split_rules.specs.TypedCode.{Table, IsTypedOp, IsTypedEntry, IsTypedCode}
 use Rattle.split_rules.specs.Typing.{EntryIs, IsTrustedAt, AreDueOn, AreSourced, Covers, need_due, IsCalm, RidesAll}
@@ -67,7 +68,7 @@ abbrev IsEntryBehind : PlannedShape → Table → ℕ → Entry → Type 0
 IsEntryBehind planned table place entry = IsTypedEntry planned table (suc place) entry
 
 -- an entry whose need is that of what is due there
-enters : (planned : PlannedShape) (table : Table) (named : ℕ) (entry : Entry) (level : Level) (due : List Due) →
+enters : (planned : PlannedShape) (table : Table) (named : ℕ) (entry : Entry) (level : Level) (due : List DueWork) →
     EntryIs table.entries named (calm level due) entry.need → table.at entry.host.0 entry.at ≡ calm level due →
     AreDueOn planned entry.host due → entry.need ≡ need_due planned due → IsTypedEntry planned table named entry
 enters planned table named entry level due is stands trusted need_is = record {
@@ -81,7 +82,7 @@ enters planned table named entry level due is stands trusted need_is = record {
 
 -- ---- statements that read a field first
 
-reads_first : (planned : PlannedShape) (me : HostId) (level : Level) (statement : BlockTree) (others : List Due)
+reads_first : (planned : PlannedShape) (me : HostId) (level : Level) (statement : BlockTree) (others : List DueWork)
     (field : FieldId) → is_on planned me statement ≡ true →
     own_reads statement ≡ record { field = field; index = number (pos 0) } ∷ [] →
     let from = calm level (run statement ∷ others) in
@@ -110,7 +111,8 @@ reading_of : IsOf sent_local.program reading
 reading_of = (record { 0 = 0 }, (1, reading, omega arith, refl, refl))
 
 -- the local is given its value, and has then still to be sent
-sets : (planned : PlannedShape) (entries : List Entrance) (others : List Due) → is_on planned (host_id 0) setting ≡ true
+sets : (planned : PlannedShape) (entries : List Entrance) (others : List DueWork) → is_on planned (host_id 0) setting
+    ≡ true
     →
     let from = calm main_level (run setting ∷ others) in
     Follows planned entries (host_id 0) from (op.Let (var_id 0) (node.Number (pos 7) ∷ [])) (record {
@@ -308,7 +310,7 @@ rides_past_push =
 calling_of : IsOf called.program calling
 calling_of = (record { 0 = 0 }, (0, calling, omega arith, refl, refl))
 
-returning_in : IsIn called.program (record { 0 = 1 }) returning
+returning_in : IsStatementOfMethod called.program (record { 0 = 1 }) returning
 returning_in = (0, returning, omega arith, refl, refl)
 
 returning_of : IsOf called.program returning
@@ -446,7 +448,7 @@ not_none : {X : Type 0} (x : X) (xs : List X) → ¬ (x ∷ xs ≡ [])
 not_none x xs same = absurd (cc)
 
 -- the local is left to be sent where it was given its value
-local_left : (planned : PlannedShape) (table : Table) (others : List Due) →
+local_left : (planned : PlannedShape) (table : Table) (others : List DueWork) →
     is_on planned (host_id 0) setting ≡ true →
     forwards_of planned (host_id 0) setting (var_id 0) ≡ (local_out (calm main_level others)).forwards →
     table.at 0 0 ≡ calm main_level (run setting ∷ others) → IsTypedOp planned table (host_id 0) 0 set_first →

@@ -22,7 +22,7 @@ use Rattle.host_code.specs.Code.{host_of_site}
 use Rattle.msg_cost.specs.Moves.{PlannedShape, home_of}
 use Rattle.split_rules.specs.Emissions.{Emission, stands}
 use Rattle.split_rules.specs.Expressions.{reads_in, nodes_of, first_element, released_by}
-use Rattle.split_rules.specs.Flow.{Scope, at, Pending, State, NodeFits, IsVariable, Goes}
+use Rattle.split_rules.specs.Flow.{Scope, at, Pending, State, NodeFitsScope, IsVariableInScope, FlowGoes}
 use Rattle.split_rules.specs.Walk.{Walked, expr_emissions, send_emissions, pass_emissions, argument_emissions}
 use Rattle.split_rules.specs.Walk.{kept_emissions, called_emissions, call_emissions, riding_params, result_emissions}
 use Rattle.split_rules.specs.Walk.{entry_id, releasing}
@@ -72,7 +72,7 @@ named_more program planned named there more = record {
 
 abbrev pub GoesOnAt : Scope → HostId → List HostId → ℕ → List Pending → List Pending → List Emission → Type 0
 GoesOnAt scope host named branches owed opened emissions =
-    Goes scope (state_of (at host 0) named branches owed opened) emissions
+    FlowGoes scope (state_of (at host 0) named branches owed opened) emissions
     (state_of (at host 0) named branches owed opened)
 
 pub set_local_goes : (scope : Scope) (program : ProgramTree) (planned : PlannedShape) →
@@ -130,7 +130,7 @@ set_element_goes scope program planned scoped method field index value there ind
     let first = state_of (at host 0) named branches owed opened in
     let reads = expr_emissions host label id 0 index in
     let more = expr_emissions host label id (reads_in index) value in
-    let P : ℕ → Type 0 = λ count. Goes scope first reads (state_of (at host count) named branches owed opened) in
+    let P : ℕ → Type 0 = λ count. FlowGoes scope first reads (state_of (at host count) named branches owed opened) in
     let none : 0 + reads_in index ≡ reads_in index = omega arith in
     goes_on scope first (reads ++ more)
     (releasing host label id (op.Put field (nodes_of 0 index) (nodes_of (reads_in index) value))
@@ -197,7 +197,7 @@ give_back_goes scope walked scoped method value value_there there gives host lab
 
 variables_there : (scope : Scope) (program : ProgramTree) (planned : PlannedShape) → IsScopeOf scope program planned →
     (method : MethodId) (variables : List VarId) → AllByRecursion (HasVariable program method) variables →
-    AllByRecursion (IsVariable scope) variables
+    AllByRecursion (IsVariableInScope scope) variables
 variables_there scope program planned scoped method [] all = tt
 variables_there scope program planned scoped method (x ∷ variables) all = (
   variable_there scope program planned scoped method x all.0,
@@ -257,8 +257,8 @@ kept_goes scope walked scoped caller called (Some result) (Some into) there into
         refl,
         (
           variable,
-          All-cons (NodeFits scope 0) (node.Var result) []
-              (variable_there scope program planned scoped called result there) (All-nil (NodeFits scope 0)),
+          All-cons (NodeFitsScope scope 0) (node.Var result) []
+              (variable_there scope program planned scoped called result there) (All-nil (NodeFitsScope scope 0)),
         ),
       ),
       send_goes scope program planned scoped host label id into carried variable named branches owed opened 0,

@@ -21,8 +21,9 @@ use Rattle.host_code.specs.declared.instruction.Op.TheVariants as op
 use Rattle.need_labels.specs.Plan.{statement_host}
 use Rattle.msg_cost.specs.Moves.{PlannedShape, is_to}
 use Rattle.msg_cost.specs.Terms.{reads_on, is_told}
-use Rattle.split_rules.specs.Expressions.{Reading, reads_in, nodes_of, readings_of, first_element, released_by}
-use Rattle.split_rules.specs.Flow.{Scope, at, Pending, NodeFits, ExpressionFits, IsField, IsVariable, IsOther, Goes}
+use Rattle.split_rules.specs.Expressions.{ElementReading, reads_in, nodes_of, readings_of, first_element, released_by}
+use Rattle.split_rules.specs.Flow.{Scope, at, Pending, NodeFitsScope, ExpressionFitsScope, IsFieldInScope}
+use Rattle.split_rules.specs.Flow.{IsVariableInScope, IsOtherInScope, FlowGoes}
 use Rattle.split_rules.specs.Walk.{emitted, read_emissions, expr_emissions, told_readers, send_emissions}
 use Rattle.split_rules.specs.Walk.{pass_emissions}
 use Rattle.split_rules.proofs.WalkedStates.{state_of}
@@ -35,26 +36,27 @@ pub record IsScopeOf (scope : Scope) (program : ProgramTree) (planned : PlannedS
   pub statements : (statement : StmtId) → (statement_host planned.plan statement).0 < scope.hosts
 
 pub field_there : (scope : Scope) (program : ProgramTree) (planned : PlannedShape) → IsScopeOf scope program planned →
-    (array : Bool) (field : FieldId) → HasField program array field → IsField scope field
+    (array : Bool) (field : FieldId) → HasField program array field → IsFieldInScope scope field
 field_there scope program planned scoped array field there =
     let P : ℕ → Type 0 = λ many. field.0 < many in
     subst P (sym scoped.fields) (slice_get_within program.fields field.0 there.0 there.1)
 
 pub variable_there : (scope : Scope) (program : ProgramTree) (planned : PlannedShape) →
     IsScopeOf scope program planned →
-    (method : MethodId) (variable : VarId) → HasVariable program method variable → IsVariable scope variable
+    (method : MethodId) (variable : VarId) → HasVariable program method variable → IsVariableInScope scope variable
 variable_there scope program planned scoped method variable there =
     let P : ℕ → Type 0 = λ many. variable.0 < many in
     subst P (sym scoped.variables) (slice_get_within program.vars variable.0 there.0 there.1)
 
 -- ---- nodes
 
-one_fits : (scope : Scope) (count : ℕ) (one : Node) → NodeFits scope count one → ExpressionFits scope count (one ∷ [])
-one_fits scope count one fits = All-cons (NodeFits scope count) one [] fits (All-nil (NodeFits scope count))
+one_fits : (scope : Scope) (count : ℕ) (one : Node) → NodeFitsScope scope count one →
+    ExpressionFitsScope scope count (one ∷ [])
+one_fits scope count one fits = All-cons (NodeFitsScope scope count) one [] fits (All-nil (NodeFitsScope scope count))
 
 pub nodes_fit : (scope : Scope) (program : ProgramTree) (planned : PlannedShape) → IsScopeOf scope program planned →
     (method : MethodId) (expr : ExprTree) → IsExprIn program method expr → (first count : ℕ) →
-    first + reads_in expr ≤ count → ExpressionFits scope count (nodes_of first expr)
+    first + reads_in expr ≤ count → ExpressionFitsScope scope count (nodes_of first expr)
 nodes_fit scope program planned scoped method (number value) there first count enough =
     one_fits scope count (node.Number value) tt
 nodes_fit scope program planned scoped method (local x) there first count enough =
@@ -66,18 +68,18 @@ nodes_fit scope program planned scoped method (element field index) there first 
     let so : first + (reads_in index + 1) ≤ count = enough in
     one_fits scope count (node.Temp (first + reads_in index)) (omega arith)
 nodes_fit scope program planned scoped method (inverted operand) there first count enough =
-    All-append (NodeFits scope count) (nodes_of first operand) (node.Not ∷ [])
+    All-append (NodeFitsScope scope count) (nodes_of first operand) (node.Not ∷ [])
     (nodes_fit scope program planned scoped method operand there first count enough)
     (one_fits scope count node.Not tt)
 nodes_fit scope program planned scoped method (negated operand) there first count enough =
-    All-append (NodeFits scope count) (nodes_of first operand) (node.Negate ∷ [])
+    All-append (NodeFitsScope scope count) (nodes_of first operand) (node.Negate ∷ [])
     (nodes_fit scope program planned scoped method operand there first count enough)
     (one_fits scope count node.Negate tt)
 nodes_fit scope program planned scoped method (binary operator left right) there first count enough =
     let so : first + (reads_in left + reads_in right) ≤ count = enough in
-    All-append (NodeFits scope count) (nodes_of first left ++ nodes_of (first + reads_in left) right)
+    All-append (NodeFitsScope scope count) (nodes_of first left ++ nodes_of (first + reads_in left) right)
     (node.Binary operator ∷ [])
-    (All-append (NodeFits scope count) (nodes_of first left) (nodes_of (first + reads_in left) right)
+    (All-append (NodeFitsScope scope count) (nodes_of first left) (nodes_of (first + reads_in left) right)
     (nodes_fit scope program planned scoped method left there.0 first count (omega arith))
     (nodes_fit scope program planned scoped method right there.1 (first + reads_in left) count (omega arith)))
     (one_fits scope count (node.Binary operator) tt)
@@ -89,22 +91,24 @@ nodes_fit scope program planned scoped method (endorsed operand label) there fir
 -- an expression whose reads come first
 pub own_nodes_fit : (scope : Scope) (program : ProgramTree) (planned : PlannedShape) → IsScopeOf scope program planned →
     (method : MethodId) (expr : ExprTree) → IsExprIn program method expr → (first : ℕ) →
-    ExpressionFits scope (first + reads_in expr) (nodes_of first expr)
+    ExpressionFitsScope scope (first + reads_in expr) (nodes_of first expr)
 own_nodes_fit scope program planned scoped method expr there first =
     nodes_fit scope program planned scoped method expr there first (first + reads_in expr) (omega arith)
 
-pub first_fits : (scope : Scope) (count : ℕ) → ExpressionFits scope count first_element
+pub first_fits : (scope : Scope) (count : ℕ) → ExpressionFitsScope scope count first_element
 first_fits scope count = one_fits scope count _ tt
 
 -- ---- reads
 
 -- reads that fit where so many temporaries are there, and what is there behind them
-abbrev ReadsFrom : Scope → ℕ → List Reading → ℕ → Type 0
+abbrev ReadsFrom : Scope → ℕ → List ElementReading → ℕ → Type 0
 ReadsFrom scope first [] last = first ≡ last
 ReadsFrom scope first (reading ∷ others) last =
-    IsField scope reading.field × ExpressionFits scope first reading.index × ReadsFrom scope (suc first) others last
+    IsFieldInScope scope reading.field × ExpressionFitsScope scope first reading.index
+    × ReadsFrom scope (suc first) others last
 
-reads_on_then : (scope : Scope) (first : ℕ) (xs ys : List Reading) (middle last : ℕ) → ReadsFrom scope first xs middle →
+reads_on_then : (scope : Scope) (first : ℕ) (xs ys : List ElementReading) (middle last : ℕ) →
+    ReadsFrom scope first xs middle →
     ReadsFrom scope middle ys last → ReadsFrom scope first (xs ++ ys) last
 reads_on_then scope first [] ys middle last one two =
     let P : ℕ → Type 0 = λ count. ReadsFrom scope count ys last in
@@ -147,8 +151,9 @@ reads_fit scope program planned scoped method (endorsed operand label) there fir
 
 -- such reads, one after another
 readings_go : (scope : Scope) (host : HostId) (label : Label) (statement : StmtId) (named : List HostId) (branches : ℕ)
-    (owed opened : List Pending) (readings : List Reading) (first last : ℕ) → ReadsFrom scope first readings last →
-    Goes scope (state_of (at host first) named branches owed opened) (read_emissions host label statement readings)
+    (owed opened : List Pending) (readings : List ElementReading) (first last : ℕ) →
+    ReadsFrom scope first readings last →
+    FlowGoes scope (state_of (at host first) named branches owed opened) (read_emissions host label statement readings)
     (state_of (at host last) named branches owed opened)
 readings_go scope host label statement named branches owed opened [] first last reads =
     ap (λ count. state_of (at host count) named branches owed opened) reads
@@ -160,7 +165,8 @@ readings_go scope host label statement named branches owed opened (reading ∷ o
 pub expr_goes : (scope : Scope) (program : ProgramTree) (planned : PlannedShape) → IsScopeOf scope program planned →
     (method : MethodId) (expr : ExprTree) → IsExprIn program method expr → (host : HostId) (label : Label)
     (statement : StmtId) (named : List HostId) (branches : ℕ) (owed opened : List Pending) (first : ℕ) →
-    Goes scope (state_of (at host first) named branches owed opened) (expr_emissions host label statement first expr)
+    FlowGoes scope (state_of (at host first) named branches owed opened)
+    (expr_emissions host label statement first expr)
     (state_of (at host (first + reads_in expr)) named branches owed opened)
 expr_goes scope program planned scoped method expr there host label statement named branches owed opened first =
     readings_go scope host label statement named branches owed opened (readings_of first expr) first
@@ -173,7 +179,7 @@ true_not_false is = cc
 
 told_passes : (scope : Scope) (planned : PlannedShape) (host : HostId) (x : VarId) (carried : Option HostId)
     (other : ℕ) → other < scope.hosts → is_told planned host x carried other ≡ true →
-    IsOther scope host (record { 0 = other })
+    IsOtherInScope scope host (record { 0 = other })
 told_passes scope planned host x carried other within passes = (within, apart)
   where
     apart : record { 0 = other } ≢ host
@@ -186,9 +192,9 @@ told_passes scope planned host x carried other within passes = (within, apart)
 told_below : (scope : Scope) (planned : PlannedShape) (host : HostId) (x : VarId) (carried : Option HostId)
     (first count : ℕ) →
     first + count ≤ scope.hosts →
-    All (IsOther scope host) (map (λ other. record { 0 = other })
+    All (IsOtherInScope scope host) (map (λ other. record { 0 = other })
     (filter (is_told planned host x carried) (range_with_len first count)))
-told_below scope planned host x carried first zero within = All-nil (IsOther scope host)
+told_below scope planned host x carried first zero within = All-nil (IsOtherInScope scope host)
 told_below scope planned host x carried first (suc count) within =
     let so : first + suc count ≤ scope.hosts = within in
     chosen (is_told planned host x carried first)
@@ -198,58 +204,62 @@ told_below scope planned host x carried first (suc count) within =
     others : List ℕ
     others = filter (is_told planned host x carried) (range_with_len (first + 1) count)
 
-    chosen : (b : Bool) → (b ≡ true → IsOther scope host (record { 0 = first })) →
-        All (IsOther scope host) (map (λ other. record { 0 = other }) others) →
-        All (IsOther scope host) (map (λ other. record { 0 = other }) (cond b (first ∷ others) others))
-    chosen true is all = All-cons (IsOther scope host) (record { 0 = first }) _ (is refl) all
+    chosen : (b : Bool) → (b ≡ true → IsOtherInScope scope host (record { 0 = first })) →
+        All (IsOtherInScope scope host) (map (λ other. record { 0 = other }) others) →
+        All (IsOtherInScope scope host) (map (λ other. record { 0 = other }) (cond b (first ∷ others) others))
+    chosen true is all = All-cons (IsOtherInScope scope host) (record { 0 = first }) _ (is refl) all
     chosen false is all = all
 
 told_there : (scope : Scope) (program : ProgramTree) (planned : PlannedShape) → IsScopeOf scope program planned →
     (host : HostId) (x : VarId) (carried : Option HostId) →
-    All (IsOther scope host) (told_readers planned host x carried)
+    All (IsOtherInScope scope host) (told_readers planned host x carried)
 told_there scope program planned scoped host x carried =
     let same = scoped.hosts in
     told_below scope planned host x carried 0 (length planned.hosts.hosts) (omega arith)
 
-sends_go : (scope : Scope) (host : HostId) (label : Label) (statement : StmtId) (x : VarId) → IsVariable scope x →
+sends_go : (scope : Scope) (host : HostId) (label : Label) (statement : StmtId) (x : VarId) →
+    IsVariableInScope scope x →
     (named : List HostId) (branches : ℕ) (owed opened : List Pending) (count : ℕ) (others : List HostId) →
-    All (IsOther scope host) others →
-    Goes scope (state_of (at host count) named branches owed opened)
+    All (IsOtherInScope scope host) others →
+    FlowGoes scope (state_of (at host count) named branches owed opened)
     (map (λ other. emitted host label statement (op.Send x other)) others)
     (state_of (at host count) named branches owed opened)
 sends_go scope host label statement x there named branches owed opened count [] fit = refl
 sends_go scope host label statement x there named branches owed opened count (other ∷ others) fit = (
-  (refl, (there, All-head (IsOther scope host) other others fit)),
+  (refl, (there, All-head (IsOtherInScope scope host) other others fit)),
   sends_go scope host label statement x there named branches owed opened count others
-      (All-tail (IsOther scope host) other others fit),
+      (All-tail (IsOtherInScope scope host) other others fit),
 )
 
-passes_go : (scope : Scope) (host : HostId) (label : Label) (statement : StmtId) (x : VarId) → IsVariable scope x →
+passes_go : (scope : Scope) (host : HostId) (label : Label) (statement : StmtId) (x : VarId) →
+    IsVariableInScope scope x →
     (named : List HostId) (branches : ℕ) (owed opened : List Pending) (count : ℕ) (others : List HostId) →
-    All (IsOther scope host) others →
-    Goes scope (state_of (at host count) named branches owed opened)
+    All (IsOtherInScope scope host) others →
+    FlowGoes scope (state_of (at host count) named branches owed opened)
     (map (λ other. emitted host label statement (op.Pass x other)) others)
     (state_of (at host count) named branches owed opened)
 passes_go scope host label statement x there named branches owed opened count [] fit = refl
 passes_go scope host label statement x there named branches owed opened count (other ∷ others) fit = (
-  (refl, (there, All-head (IsOther scope host) other others fit)),
+  (refl, (there, All-head (IsOtherInScope scope host) other others fit)),
   passes_go scope host label statement x there named branches owed opened count others
-      (All-tail (IsOther scope host) other others fit),
+      (All-tail (IsOtherInScope scope host) other others fit),
 )
 
 pub send_goes : (scope : Scope) (program : ProgramTree) (planned : PlannedShape) → IsScopeOf scope program planned →
-    (host : HostId) (label : Label) (statement : StmtId) (x : VarId) (carried : Option HostId) → IsVariable scope x →
+    (host : HostId) (label : Label) (statement : StmtId) (x : VarId) (carried : Option HostId) →
+    IsVariableInScope scope x →
     (named : List HostId) (branches : ℕ) (owed opened : List Pending) (count : ℕ) →
-    Goes scope (state_of (at host count) named branches owed opened)
+    FlowGoes scope (state_of (at host count) named branches owed opened)
     (send_emissions planned host label statement x carried) (state_of (at host count) named branches owed opened)
 send_goes scope program planned scoped host label statement x carried there named branches owed opened count =
     sends_go scope host label statement x there named branches owed opened count (told_readers planned host x carried)
     (told_there scope program planned scoped host x carried)
 
 pub pass_goes : (scope : Scope) (program : ProgramTree) (planned : PlannedShape) → IsScopeOf scope program planned →
-    (host : HostId) (label : Label) (statement : StmtId) (x : VarId) (carried : Option HostId) → IsVariable scope x →
+    (host : HostId) (label : Label) (statement : StmtId) (x : VarId) (carried : Option HostId) →
+    IsVariableInScope scope x →
     (named : List HostId) (branches : ℕ) (owed opened : List Pending) (count : ℕ) →
-    Goes scope (state_of (at host count) named branches owed opened)
+    FlowGoes scope (state_of (at host count) named branches owed opened)
     (pass_emissions planned host label statement x carried) (state_of (at host count) named branches owed opened)
 pass_goes scope program planned scoped host label statement x carried there named branches owed opened count =
     passes_go scope host label statement x there named branches owed opened count (told_readers planned host x carried)

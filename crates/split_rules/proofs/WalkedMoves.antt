@@ -15,7 +15,7 @@ use Rattle.msg_cost.specs.declared.spot.Spot.{Spot}
 use Rattle.msg_cost.specs.Moves.{PlannedShape, is_same, is_trusted_for_all, host_behind, return_host, on, end_of}
 use Rattle.msg_cost.specs.Moves.{entered, next_spot}
 use Rattle.split_rules.specs.Emissions.{Counts, stands}
-use Rattle.split_rules.specs.Flow.{Scope, at, Pending, State, IsEntryOn, Goes}
+use Rattle.split_rules.specs.Flow.{Scope, at, Pending, State, IsNamedEntryOn, FlowGoes}
 use Rattle.split_rules.specs.Walk.{Walked, Around, Lane, entry_id, leave_emissions, enter_emissions, move_emissions}
 use Rattle.split_rules.specs.Walk.{lane_at, emitted, go_with}
 use Rattle.split_rules.proofs.Places.{same_host}
@@ -61,7 +61,7 @@ pub no_halt : (number : ℕ) → 0 < number → entry_id number ≢ halt
 no_halt number some same = let none : number ≡ 0 = ap (λ (one : EntryId). one.0) same in omega arith
 
 pub entry_there : (named : List HostId) (host : HostId) (more : List HostId) (number : ℕ) → number ≡ length named →
-    0 < number → IsEntryOn (named ++ host ∷ more) host (entry_id number)
+    0 < number → IsNamedEntryOn (named ++ host ∷ more) host (entry_id number)
 entry_there named host more number is some =
     let P : ℕ → Type 0 = λ place. slice_get (named ++ host ∷ more) place ≡ Some host in
     (no_halt number some, subst P (sym is) (at_last named host more))
@@ -71,14 +71,14 @@ entry_there named host more number is some =
 leave_from : (scope : Scope) (around : Around) (host : HostId) (back : Option HostId) (number : ℕ)
     (riders : List VarId) (named : List HostId) (branches : ℕ) (owed opened : List Pending) →
     let lane : Lane = record { spot = record { host = host; back = back }; return_entry = number; riding = riders } in
-    Goes scope (state_of (at host 0) named branches (owes back number ++ owed) opened) (leave_emissions around lane)
+    FlowGoes scope (state_of (at host 0) named branches (owes back number ++ owed) opened) (leave_emissions around lane)
     (state_of (at (end_of lane.spot) 0) named branches owed opened)
 leave_from scope around host None number riders named branches owed opened = refl
 leave_from scope around host (Some back) number riders named branches owed opened = ((refl, tt), ((refl, tt), refl))
 
 pub leave_goes : (scope : Scope) (around : Around) (lane : Lane) (named : List HostId) (branches : ℕ)
     (owed opened : List Pending) →
-    Goes scope (state_of (at lane.spot.host 0) named branches (owed_by lane ++ owed) opened)
+    FlowGoes scope (state_of (at lane.spot.host 0) named branches (owed_by lane ++ owed) opened)
     (leave_emissions around lane) (state_of (at (end_of lane.spot) 0) named branches owed opened)
 leave_goes scope around lane named branches owed opened =
     leave_from scope around lane.spot.host lane.spot.back lane.return_entry lane.riding named branches owed opened
@@ -131,7 +131,7 @@ lent scope walked around statements named branches owed opened from host back ri
     back_within =
     elim (eqb_tells from.0 back.0) [
       | inl same ↦
-          let P : HostId → Type 0 = λ one. IsEntryOn both one (entry_id (length named)) in
+          let P : HostId → Type 0 = λ one. IsNamedEntryOn both one (entry_id (length named)) in
           rw (ne_eqb from.0 host.0 apart, same.0) (record {
             more = back ∷ host ∷ [];
             branches = branches;
@@ -169,13 +169,13 @@ lent scope walked around statements named branches owed opened from host back ri
     long : length named + 1 ≡ length (named ++ back ∷ [])
     long = rw length-append (omega arith)
 
-    first : IsEntryOn both back (entry_id (length named))
+    first : IsNamedEntryOn both back (entry_id (length named))
     first =
-        let P : List HostId → Type 0 = λ hosts. IsEntryOn hosts back (entry_id (length named)) in
+        let P : List HostId → Type 0 = λ hosts. IsNamedEntryOn hosts back (entry_id (length named)) in
         subst P (sym (append_assoc named (back ∷ []) (host ∷ [])))
         (entry_there named back (host ∷ []) (length named) refl some)
 
-    second : IsEntryOn both host (entry_id (length named + 1))
+    second : IsNamedEntryOn both host (entry_id (length named + 1))
     second = entry_there (named ++ back ∷ []) host [] (length named + 1) long (omega arith)
 
     pending : ℕ → Pending
@@ -191,7 +191,7 @@ lent scope walked around statements named branches owed opened from host back ri
     ends : behind both ≡ behind (named ++ back ∷ host ∷ [])
     ends = ap behind (append_assoc named (back ∷ []) (host ∷ []))
 
-    goes : Goes scope (state_of (at from 0) both branches
+    goes : FlowGoes scope (state_of (at from 0) both branches
         (pending (length (named ++ back ∷ [])) ∷ record { host = back; number = length named } ∷ owed) opened)
         (emitted from around.pc around.owner (go_with riders (entry_id (length named + 1)) host)
         ∷ stands host (length named + 1) ∷ [])

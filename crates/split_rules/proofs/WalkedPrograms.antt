@@ -17,7 +17,7 @@ use Rattle.need_labels.specs.Labelled.{Labelled}
 use Rattle.msg_cost.specs.Moves.{PlannedShape, home_of}
 use Rattle.split_rules.specs.Placed.{PlacedProgram, planned_from}
 use Rattle.split_rules.specs.Emissions.{stands, Counts, counts_after}
-use Rattle.split_rules.specs.Flow.{Scope, stopped, State, counts_of, Goes}
+use Rattle.split_rules.specs.Flow.{Scope, stopped, State, counts_of, FlowGoes}
 use Rattle.split_rules.specs.Splittable.{IsSplittable}
 use Rattle.split_rules.specs.Walk.{lane_on, walked_in, method_entry, methods_emissions, halt_entries}
 use Rattle.split_rules.specs.Walk.{block_emissions}
@@ -136,7 +136,7 @@ front_counted labelled planned main is =
 pub program_goes : (placed : PlacedProgram) → IsSplittable placed →
     let planned = planned_from placed in
     let counts = counts_after (record { entries = 0; branches = 0 }) (front_emissions placed.labelled planned) in
-    (last : State) × Goes (scope_of placed.labelled placed.hosts placed.plan) (walk_start placed.labelled planned)
+    (last : State) × FlowGoes (scope_of placed.labelled placed.hosts placed.plan) (walk_start placed.labelled planned)
     (methods_emissions placed.hosts.principals placed.labelled planned counts 0 placed.labelled.program.methods) last
     × IsEnd last
 program_goes placed splittable = (
@@ -164,6 +164,6 @@ program_goes placed splittable = (
         (start_named placed.labelled planned)
 
     P : Counts → Type 0
-    P counts = Goes (scope_of placed.labelled placed.hosts placed.plan) start
+    P counts = FlowGoes (scope_of placed.labelled placed.hosts placed.plan) start
         (methods_emissions placed.hosts.principals placed.labelled planned counts 0 placed.labelled.program.methods)
         (state_of stopped (start.named ++ reached.more) reached.branches [] [])

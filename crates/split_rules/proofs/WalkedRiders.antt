@@ -15,25 +15,26 @@ use Rattle.msg_cost.specs.declared.spot.Spot.{Spot}
 use Rattle.msg_cost.specs.Moves.{PlannedShape, carried_to}
 use Rattle.msg_cost.specs.Terms.{is_other_reader}
 use Rattle.split_rules.specs.Emissions.{Emission}
-use Rattle.split_rules.specs.Flow.{Scope, stopped, awaited, at, Pending, State, IsVariable, IsOther, IsEntryOn}
-use Rattle.split_rules.specs.Flow.{AreRiding, Goes}
+use Rattle.split_rules.specs.Flow.{Scope, stopped, awaited, at, Pending, State, IsVariableInScope, IsOtherInScope}
+use Rattle.split_rules.specs.Flow.{IsNamedEntryOn}
+use Rattle.split_rules.specs.Flow.{AreRidingInScope, FlowGoes}
 use Rattle.split_rules.specs.Walk.{emitted, riders_to, rides_behind, riding_params, go_with, call_with}
 use Rattle.split_rules.proofs.WalkedStates.{state_of}
 
 -- nothing rides, or variables of the program do, 1 to 8
 abbrev pub CanRide : Scope → List VarId → Type 0
 CanRide scope [] = ⊤
-CanRide scope (x ∷ riders) = AreRiding scope (x ∷ riders)
+CanRide scope (x ∷ riders) = AreRidingInScope scope (x ∷ riders)
 
 -- nothing rides, or such variables do to another host
 abbrev pub CanRideTo : Scope → HostId → HostId → List VarId → Type 0
 CanRideTo scope me on [] = ⊤
-CanRideTo scope me on (x ∷ riders) = IsOther scope me on × AreRiding scope (x ∷ riders)
+CanRideTo scope me on (x ∷ riders) = IsOtherInScope scope me on × AreRidingInScope scope (x ∷ riders)
 
 -- a variable that is given a value, if one is, is one of the program
 abbrev pub IsGivenOne : Scope → Option VarId → Type 0
 IsGivenOne scope None = ⊤
-IsGivenOne scope (Some x) = IsVariable scope x
+IsGivenOne scope (Some x) = IsVariableInScope scope x
 
 -- ---- what a walk lets ride
 
@@ -82,18 +83,18 @@ none_home planned host home (param ∷ params) (argument ∷ others) same =
     rw (eq-eqb home.0 host.0 same) (none_home planned host home params others same)
 
 pub params_fit : (scope : Scope) (planned : PlannedShape) (host home : HostId) (params : List VarId)
-    (arguments : List ExprTree) → home.0 < scope.hosts → AllByRecursion (IsVariable scope) params →
+    (arguments : List ExprTree) → home.0 < scope.hosts → AllByRecursion (IsVariableInScope scope) params →
     length params ≤ MOST_RIDERS → CanRideTo scope host home (riding_params planned host home params arguments)
 params_fit scope planned host home params arguments within all few =
     elim (eqb_tells home.0 host.0) [
       | inl same ↦ subst (CanRideTo scope host home) (sym (none_home planned host home params arguments same.1)) tt
       | inr apart ↦ by (riding_params planned host home params arguments)
           (within, λ is. apart.1 (ap (λ (one : HostId). one.0) is))
-          (rides_among (IsVariable scope) planned host home params arguments all)
+          (rides_among (IsVariableInScope scope) planned host home params arguments all)
           (rides_few planned host home params arguments)
     ]
   where
-    by : (riders : List VarId) → IsOther scope host home → AllByRecursion (IsVariable scope) riders →
+    by : (riders : List VarId) → IsOtherInScope scope host home → AllByRecursion (IsVariableInScope scope) riders →
         length riders ≤ length params → CanRideTo scope host home riders
     by [] other fit less = tt
     by (x ∷ riders) other fit less = (other, ((omega arith, omega (arith, less, few)), fit))
@@ -102,9 +103,10 @@ params_fit scope planned host home params arguments within all few =
 
 pub go_goes : (scope : Scope) (from on : HostId) (label : Label) (statement : StmtId) (there : EntryId)
     (riders : List VarId) (named : List HostId) (branches : ℕ) (owed opened : List Pending) →
-    CanRide scope riders → IsEntryOn named on there → IsOther scope from on → (others : List Emission) (last : State) →
-    Goes scope (state_of stopped named branches owed opened) others last →
-    Goes scope (state_of (at from 0) named branches owed opened)
+    CanRide scope riders → IsNamedEntryOn named on there → IsOtherInScope scope from on →
+    (others : List Emission) (last : State) →
+    FlowGoes scope (state_of stopped named branches owed opened) others last →
+    FlowGoes scope (state_of (at from 0) named branches owed opened)
     (emitted from label statement (go_with riders there on) ∷ others) last
 go_goes scope from on label statement there [] named branches owed opened can is other others last follows =
     ((refl, (is, other)), follows)
@@ -113,10 +115,10 @@ go_goes scope from on label statement there (x ∷ riders) named branches owed o
 
 pub call_goes_with : (scope : Scope) (from on : HostId) (label : Label) (statement : StmtId) (there : EntryId)
     (riders : List VarId) (named : List HostId) (branches : ℕ) (owed opened : List Pending) →
-    CanRideTo scope from on riders → IsEntryOn named on there → on.0 < scope.hosts →
+    CanRideTo scope from on riders → IsNamedEntryOn named on there → on.0 < scope.hosts →
     (others : List Emission) (last : State) →
-    Goes scope (state_of (awaited from) named branches owed opened) others last →
-    Goes scope (state_of (at from 0) named branches owed opened)
+    FlowGoes scope (state_of (awaited from) named branches owed opened) others last →
+    FlowGoes scope (state_of (at from 0) named branches owed opened)
     (emitted from label statement (call_with riders there on) ∷ others) last
 call_goes_with scope from on label statement there [] named branches owed opened can is within others last follows =
     ((refl, (is, within)), follows)

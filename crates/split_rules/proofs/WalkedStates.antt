@@ -7,7 +7,7 @@ use Rattle.host_code.specs.declared.instruction.Op.{Op}
 use Rattle.host_code.specs.declared.instruction.Op.TheVariants as op
 use Rattle.split_rules.specs.Emissions.{Emission, instruction, entry, stands, lands, Counts}
 use Rattle.split_rules.specs.Emissions.{one_more_branch, counts_with, counts_after}
-use Rattle.split_rules.specs.Flow.{Scope, Flow, Pending, State, counts_of, branched, after, Fits, Goes}
+use Rattle.split_rules.specs.Flow.{Scope, Flow, Pending, State, counts_of, branched, after, EmissionFits, FlowGoes}
 
 abbrev pub state_of : Flow → List HostId → ℕ → List Pending → List Pending → State
 state_of flow named branches owed opened = record {
@@ -19,9 +19,9 @@ state_of flow named branches owed opened = record {
 }
 
 pub goes_on : (scope : Scope) (first : State) (xs ys : List Emission) (middle last : State) →
-    Goes scope first xs middle → Goes scope middle ys last → Goes scope first (xs ++ ys) last
+    FlowGoes scope first xs middle → FlowGoes scope middle ys last → FlowGoes scope first (xs ++ ys) last
 goes_on scope first [] ys middle last one two =
-    let P : State → Type 0 = λ state. Goes scope state ys last in
+    let P : State → Type 0 = λ state. FlowGoes scope state ys last in
     subst P (sym one) two
 goes_on scope first (x ∷ xs) ys middle last one two =
     (one.0, goes_on scope (after first x) xs ys middle last one.1 two)
@@ -51,7 +51,7 @@ counts_one state (entry named) =
 counts_one state (stands host number) = refl
 counts_one state (lands host number) = refl
 
-pub counts_behind : (scope : Scope) (first : State) (xs : List Emission) (last : State) → Goes scope first xs last →
+pub counts_behind : (scope : Scope) (first : State) (xs : List Emission) (last : State) → FlowGoes scope first xs last →
     counts_of last ≡ counts_after (counts_of first) xs
 counts_behind scope first [] last goes = ap counts_of (sym goes)
 counts_behind scope first (x ∷ xs) last goes =
@@ -65,15 +65,15 @@ pub record Reaches (scope : Scope) (first : State) (emissions : List Emission) (
     (owed opened : List Pending) : Type 0 where
   pub more : List HostId
   pub branches : ℕ
-  pub goes : Goes scope first emissions (state_of flow (first.named ++ more) branches owed opened)
+  pub goes : FlowGoes scope first emissions (state_of flow (first.named ++ more) branches owed opened)
 
 -- where nothing is named and no branch begins
 pub reaches_flow : (scope : Scope) (flow behind : Flow) (named : List HostId) (branches : ℕ)
     (owed opened : List Pending) (emissions : List Emission) →
-    Goes scope (state_of flow named branches owed opened) emissions (state_of behind named branches owed opened) →
+    FlowGoes scope (state_of flow named branches owed opened) emissions (state_of behind named branches owed opened) →
     Reaches scope (state_of flow named branches owed opened) emissions behind owed opened
 reaches_flow scope flow behind named branches owed opened emissions goes =
-    let P : List HostId → Type 0 = λ hosts. Goes scope (state_of flow named branches owed opened) emissions
+    let P : List HostId → Type 0 = λ hosts. FlowGoes scope (state_of flow named branches owed opened) emissions
     (state_of behind hosts branches owed opened) in
     record { more = []; branches = branches; goes = subst P (sym (append-nil named)) goes }
 
@@ -87,7 +87,7 @@ pub reaches_on : (scope : Scope) (first : State) (xs ys : List Emission) (flow b
 reaches_on scope first xs ys flow behind owed opened owed_behind opened_behind one follows =
     let middle = state_of flow (first.named ++ one.more) one.branches owed opened in
     let two = follows one.more one.branches (counts_behind scope first xs middle one.goes) in
-    let P : List HostId → Type 0 = λ hosts. Goes scope middle ys
+    let P : List HostId → Type 0 = λ hosts. FlowGoes scope middle ys
     (state_of behind hosts two.branches owed_behind opened_behind) in
     record {
       more = one.more ++ two.more;
@@ -98,17 +98,17 @@ reaches_on scope first xs ys flow behind owed opened owed_behind opened_behind o
 
 -- one emission that names nothing, and what follows it
 pub reaches_step : (scope : Scope) (first : State) (x : Emission) (xs : List Emission) (flow : Flow)
-    (owed opened : List Pending) → Fits scope first x → (after first x).named ≡ first.named →
+    (owed opened : List Pending) → EmissionFits scope first x → (after first x).named ≡ first.named →
     Reaches scope (after first x) xs flow owed opened → Reaches scope first (x ∷ xs) flow owed opened
 reaches_step scope first x xs flow owed opened fits same follows =
-    let P : List HostId → Type 0 = λ hosts. Goes scope (after first x) xs
+    let P : List HostId → Type 0 = λ hosts. FlowGoes scope (after first x) xs
     (state_of flow (hosts ++ follows.more) follows.branches owed opened) in
     record { more = follows.more; branches = follows.branches; goes = (fits, subst P same follows.goes) }
 
 -- emissions that name nothing, and what follows them
 pub goes_then : (scope : Scope) (first : State) (xs ys : List Emission) (flow behind : Flow) (branches : ℕ)
     (owed opened owed_behind opened_behind : List Pending) →
-    Goes scope first xs (state_of flow first.named branches owed opened) →
+    FlowGoes scope first xs (state_of flow first.named branches owed opened) →
     Reaches scope (state_of flow first.named branches owed opened) ys behind owed_behind opened_behind →
     Reaches scope first (xs ++ ys) behind owed_behind opened_behind
 goes_then scope first xs ys flow behind branches owed opened owed_behind opened_behind one two = record {

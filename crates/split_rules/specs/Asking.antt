@@ -36,21 +36,21 @@ IsGranted code me (op.Ret x value) = (to : HostId) → May code to (ask.Forward 
 IsGranted code me other = ⊤
 
 -- an instruction with a program label that a host may see
-abbrev pub IsSeenBy : CodeShape → ℕ → HostId → Type 0
-IsSeenBy code label host = MaySee (label_at code label) (label_of_host code host)
+abbrev pub IsLabelSeenBy : CodeShape → ℕ → HostId → Type 0
+IsLabelSeenBy code label host = MaySee (label_at code label) (label_of_host code host)
 
 -- Each other host that an instruction of this host names, or whose field it names, may see its program label. Who takes
 -- a token back, or a result, is told by that token.
 abbrev pub TellsWell : CodeShape → HostId → ℕ → Op → Type 0
-TellsWell code me label (op.Read field index) = IfElsewhere code me field (IsSeenBy code label)
-TellsWell code me label (op.Put field index value) = IfElsewhere code me field (IsSeenBy code label)
-TellsWell code me label (op.Send x to) = IsSeenBy code label to
-TellsWell code me label (op.Pass x to) = IsSeenBy code label to
-TellsWell code me label (op.Ask there on) = IsSeenBy code label on
-TellsWell code me label (op.Go there on) = IsSeenBy code label on
-TellsWell code me label (op.Call there on) = on ≢ me → IsSeenBy code label on
-TellsWell code me label (op.GoWith there on riders) = IsSeenBy code label on
-TellsWell code me label (op.CallWith there on riders) = IsSeenBy code label on
+TellsWell code me label (op.Read field index) = IfElsewhere code me field (IsLabelSeenBy code label)
+TellsWell code me label (op.Put field index value) = IfElsewhere code me field (IsLabelSeenBy code label)
+TellsWell code me label (op.Send x to) = IsLabelSeenBy code label to
+TellsWell code me label (op.Pass x to) = IsLabelSeenBy code label to
+TellsWell code me label (op.Ask there on) = IsLabelSeenBy code label on
+TellsWell code me label (op.Go there on) = IsLabelSeenBy code label on
+TellsWell code me label (op.Call there on) = on ≢ me → IsLabelSeenBy code label on
+TellsWell code me label (op.GoWith there on riders) = IsLabelSeenBy code label on
+TellsWell code me label (op.CallWith there on riders) = IsLabelSeenBy code label on
 TellsWell code me label other = ⊤
 
 -- each request between hosts is granted

@@ -19,14 +19,14 @@ pub record Emitted : Type 0 where
   pub released : List (List Node)
 
 -- an entry on a host, with its program label and a word of those who have to trust whoever enters
-pub record Named : Type 0 where
+pub record NamedEntry : Type 0 where
   pub host : HostId
   pub label : Label
   pub need : ℕ
 
 pub data Emission : Type 0 where
   instruction : Emitted → Emission
-  entry : Named → Emission
+  entry : NamedEntry → Emission
   -- the entry of this number stands at the next instruction of the host
   stands : HostId → ℕ → Emission
   -- the branch of this number leads to the next instruction of the host

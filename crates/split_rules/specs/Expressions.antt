@@ -51,13 +51,13 @@ abbrev pub first_element : List Node
 first_element = node.Number (pos 0) ∷ []
 
 -- a read of an element, by the nodes of its index, with the operands that are released in the index
-pub record Reading : Type 0 where
+pub record ElementReading : Type 0 where
   pub field : FieldId
   pub index : List Node
   pub released : List (List Node)
 
 -- its reads in order
-abbrev pub readings_of : ℕ → ExprTree → List Reading
+abbrev pub readings_of : ℕ → ExprTree → List ElementReading
 readings_of first (number value) = []
 readings_of first (local x) = []
 readings_of first (scalar field) = record { field = field; index = first_element; released = [] } ∷ []

@@ -56,57 +56,62 @@ counts_of state = record { entries = length state.named; branches = state.branch
 
 -- ---- what an instruction names is there
 
-abbrev pub NodeFits : Scope → ℕ → Node → Type 0
-NodeFits scope count (node.Var variable) = variable.0 < scope.variables
-NodeFits scope count (node.Temp temporary) = temporary < count
-NodeFits scope count other = ⊤
+abbrev pub NodeFitsScope : Scope → ℕ → Node → Type 0
+NodeFitsScope scope count (node.Var variable) = variable.0 < scope.variables
+NodeFitsScope scope count (node.Temp temporary) = temporary < count
+NodeFitsScope scope count other = ⊤
 
-abbrev pub ExpressionFits : Scope → ℕ → List Node → Type 0
-ExpressionFits scope count nodes = All (NodeFits scope count) nodes
+abbrev pub ExpressionFitsScope : Scope → ℕ → List Node → Type 0
+ExpressionFitsScope scope count nodes = All (NodeFitsScope scope count) nodes
 
-abbrev pub IsField : Scope → FieldId → Type 0
-IsField scope field = field.0 < scope.fields
+abbrev pub IsFieldInScope : Scope → FieldId → Type 0
+IsFieldInScope scope field = field.0 < scope.fields
 
-abbrev pub IsVariable : Scope → VarId → Type 0
-IsVariable scope variable = variable.0 < scope.variables
+abbrev pub IsVariableInScope : Scope → VarId → Type 0
+IsVariableInScope scope variable = variable.0 < scope.variables
 
 -- another host than an instruction's own
-abbrev pub IsOther : Scope → HostId → HostId → Type 0
-IsOther scope me host = (host.0 < scope.hosts) × (host ≢ me)
+abbrev pub IsOtherInScope : Scope → HostId → HostId → Type 0
+IsOtherInScope scope me host = (host.0 < scope.hosts) × (host ≢ me)
 
 -- one of the entries so far, on this host, and not the one that ends the program
-abbrev pub IsEntryOn : List HostId → HostId → EntryId → Type 0
-IsEntryOn named host there = (there ≢ halt) × (slice_get named there.0 ≡ Some host)
+abbrev pub IsNamedEntryOn : List HostId → HostId → EntryId → Type 0
+IsNamedEntryOn named host there = (there ≢ halt) × (slice_get named there.0 ≡ Some host)
 
 -- variables of the program, 1 to 8
-abbrev pub AreRiding : Scope → List VarId → Type 0
-AreRiding scope variables = AreFew variables × AllByRecursion (IsVariable scope) variables
+abbrev pub AreRidingInScope : Scope → List VarId → Type 0
+AreRidingInScope scope variables = AreFew variables × AllByRecursion (IsVariableInScope scope) variables
 
 -- An instruction of a host, behind so many entries and branches. A branch has the next number.
-abbrev pub OperationFits : Scope → State → HostId → ℕ → Op → Type 0
-OperationFits scope state me count (op.Read field index) = IsField scope field × ExpressionFits scope count index
-OperationFits scope state me count (op.Let variable value) =
-    IsVariable scope variable × ExpressionFits scope count value
-OperationFits scope state me count (op.Put field index value) =
-    IsField scope field × ExpressionFits scope count index × ExpressionFits scope count value
-OperationFits scope state me count (op.Send variable to) = IsVariable scope variable × IsOther scope me to
-OperationFits scope state me count (op.Frame site) = host_of_site scope.sites site.0 ≡ Some me
-OperationFits scope state me count (op.Arg variable value) =
-    IsVariable scope variable × ExpressionFits scope count value
-OperationFits scope state me count (op.Pass variable to) = IsVariable scope variable × IsOther scope me to
-OperationFits scope state me count (op.Push there) = IsEntryOn state.named me there
-OperationFits scope state me count (op.Ask there on) = IsEntryOn state.named on there × IsOther scope me on
-OperationFits scope state me count (op.Go there on) = IsEntryOn state.named on there × IsOther scope me on
-OperationFits scope state me count (op.Call there on) = IsEntryOn state.named on there × (on.0 < scope.hosts)
-OperationFits scope state me count (op.Ret variable value) =
-    IsVariable scope variable × ExpressionFits scope count value
-OperationFits scope state me count op.Back = ⊤
-OperationFits scope state me count (op.Branch guard number) =
-    ExpressionFits scope count guard × (number ≡ state.branches)
-OperationFits scope state me count (op.GoWith there on riders) =
-    IsEntryOn state.named on there × IsOther scope me on × AreRiding scope riders
-OperationFits scope state me count (op.CallWith there on riders) =
-    IsEntryOn state.named on there × IsOther scope me on × AreRiding scope riders
+abbrev pub OperationFitsScope : Scope → State → HostId → ℕ → Op → Type 0
+OperationFitsScope scope state me count (op.Read field index) = IsFieldInScope scope field
+    × ExpressionFitsScope scope count index
+OperationFitsScope scope state me count (op.Let variable value) =
+    IsVariableInScope scope variable × ExpressionFitsScope scope count value
+OperationFitsScope scope state me count (op.Put field index value) =
+    IsFieldInScope scope field × ExpressionFitsScope scope count index × ExpressionFitsScope scope count value
+OperationFitsScope scope state me count (op.Send variable to) = IsVariableInScope scope variable
+    × IsOtherInScope scope me to
+OperationFitsScope scope state me count (op.Frame site) = host_of_site scope.sites site.0 ≡ Some me
+OperationFitsScope scope state me count (op.Arg variable value) =
+    IsVariableInScope scope variable × ExpressionFitsScope scope count value
+OperationFitsScope scope state me count (op.Pass variable to) = IsVariableInScope scope variable
+    × IsOtherInScope scope me to
+OperationFitsScope scope state me count (op.Push there) = IsNamedEntryOn state.named me there
+OperationFitsScope scope state me count (op.Ask there on) = IsNamedEntryOn state.named on there
+    × IsOtherInScope scope me on
+OperationFitsScope scope state me count (op.Go there on) = IsNamedEntryOn state.named on there
+    × IsOtherInScope scope me on
+OperationFitsScope scope state me count (op.Call there on) = IsNamedEntryOn state.named on there × (on.0 < scope.hosts)
+OperationFitsScope scope state me count (op.Ret variable value) =
+    IsVariableInScope scope variable × ExpressionFitsScope scope count value
+OperationFitsScope scope state me count op.Back = ⊤
+OperationFitsScope scope state me count (op.Branch guard number) =
+    ExpressionFitsScope scope count guard × (number ≡ state.branches)
+OperationFitsScope scope state me count (op.GoWith there on riders) =
+    IsNamedEntryOn state.named on there × IsOtherInScope scope me on × AreRidingInScope scope riders
+OperationFitsScope scope state me count (op.CallWith there on riders) =
+    IsNamedEntryOn state.named on there × IsOtherInScope scope me on × AreRidingInScope scope riders
 
 -- ---- one emission
 
@@ -170,31 +175,33 @@ after state (lands host number) = record {
 }
 
 -- an instruction is one of the host that goes on
-abbrev pub InstructionFits : Scope → State → Emitted → Flow → Type 0
-InstructionFits scope state one stopped = ⊥
-InstructionFits scope state one (awaited host) = ⊥
-InstructionFits scope state one (at host count) = (host ≡ one.host) × OperationFits scope state host count one.op
+abbrev pub InstructionFitsFlow : Scope → State → Emitted → Flow → Type 0
+InstructionFitsFlow scope state one stopped = ⊥
+InstructionFitsFlow scope state one (awaited host) = ⊥
+InstructionFitsFlow scope state one (at host count) = (host ≡ one.host)
+    × OperationFitsScope scope state host count one.op
 
 -- what was owed last comes first
-abbrev pub IsFirst : HostId → ℕ → List Pending → Type 0
-IsFirst host number [] = ⊥
-IsFirst host number (pending ∷ others) = pending ≡ record { host = host; number = number }
+abbrev pub IsOwedFirst : HostId → ℕ → List Pending → Type 0
+IsOwedFirst host number [] = ⊥
+IsOwedFirst host number (pending ∷ others) = pending ≡ record { host = host; number = number }
 
 -- an entry stands where nothing goes on, or where the same host goes on or awaits it
-abbrev pub MayStand : HostId → Flow → Type 0
-MayStand host stopped = ⊤
-MayStand host (at other count) = other ≡ host
-MayStand host (awaited other) = other ≡ host
+abbrev pub MayEntryStand : HostId → Flow → Type 0
+MayEntryStand host stopped = ⊤
+MayEntryStand host (at other count) = other ≡ host
+MayEntryStand host (awaited other) = other ≡ host
 
-abbrev pub Fits : Scope → State → Emission → Type 0
-Fits scope state (instruction one) = InstructionFits scope state one state.flow
-Fits scope state (entry named) = named.host.0 < scope.hosts
-Fits scope state (stands host number) = IsFirst host number state.owed × MayStand host state.flow
-Fits scope state (lands host number) = IsFirst host number state.opened × (state.flow ≡ stopped)
+abbrev pub EmissionFits : Scope → State → Emission → Type 0
+EmissionFits scope state (instruction one) = InstructionFitsFlow scope state one state.flow
+EmissionFits scope state (entry named) = named.host.0 < scope.hosts
+EmissionFits scope state (stands host number) = IsOwedFirst host number state.owed × MayEntryStand host state.flow
+EmissionFits scope state (lands host number) = IsOwedFirst host number state.opened × (state.flow ≡ stopped)
 
 -- ---- all emissions
 
 -- from one state to another
-abbrev pub Goes : Scope → State → List Emission → State → Type 0
-Goes scope first [] last = first ≡ last
-Goes scope first (emission ∷ others) last = Fits scope first emission × Goes scope (after first emission) others last
+abbrev pub FlowGoes : Scope → State → List Emission → State → Type 0
+FlowGoes scope first [] last = first ≡ last
+FlowGoes scope first (emission ∷ others) last = EmissionFits scope first emission
+    × FlowGoes scope (after first emission) others last

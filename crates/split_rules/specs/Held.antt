@@ -3,7 +3,7 @@
 --
 -- Labels of values are asked for where they stand. A walk takes the label of a value from the labels of the variables
 -- behind the whole program, and the label check takes it from those at the statement. Both are the same where each
--- variable of the value has a label there. `IsHeld` asks for just that (`values`), of all values.
+-- variable of the value has a label there. `IsWellHeld` asks for just that (`values`), of all values.
 use Rattle.std.specs.Prelude.{◌≡◌, ℕ, map, slice_get}
 use Rattle.std.specs.List.{AllZip, zip}
 use Rattle.std.specs.Option.{IsSomeAnd}
@@ -30,7 +30,7 @@ HoldsStatement hosts (used, need) host = IsSomeAnd (slice_get hosts.hosts host.0
     ConfFlows used row.label × IsTrustedBy row.label need)
 
 -- The program labels are those of the label check, and each field and each statement stands on a host that may hold it.
-pub record IsHeld (placed : PlacedProgram) : Type 0 where
+pub record IsWellHeld (placed : PlacedProgram) : Type 0 where
   pub pc : placed.labelled.pc ≡ map (λ one. one.pc) (program_labels placed.hosts.principals placed.labelled.program)
   pub values : AreAllValuesLabelled placed.hosts.principals placed.labelled.program
       (declared_labels placed.labelled.program)

@@ -26,11 +26,12 @@ use Rattle.host_code.specs.Code.{CodeShape, halt, field_at, variable_at, entry_a
 use Rattle.entry_check.specs.Checks.{MayAffect, label_at, label_of_host}
 use Rattle.need_labels.specs.Labelled.{Labelled}
 use Rattle.msg_cost.specs.Moves.{PlannedShape, is_trusted_for}
-use Rattle.split_rules.specs.Positions.{IsIn, IsOf, number_of, Due, statement_due, all_due, Argument, Calling}
+use Rattle.split_rules.specs.Positions.{IsStatementOfMethod, IsOf, number_of, DueWork, statement_due, all_due, Argument}
+use Rattle.split_rules.specs.Positions.{Calling}
 use Rattle.split_rules.specs.Positions.{no_call, arguing, entering, Forward, Position}
-use Rattle.split_rules.specs.Typing.{IsParam, Gives, Covers, body_of}
+use Rattle.split_rules.specs.Typing.{IsParam, GivesVariable, Covers, body_of}
 use Rattle.split_rules.specs.TypedCode.{Table}
-use Rattle.split_rules.specs.ThreadRun.{Thread, IsAtEntry, Runs}
+use Rattle.split_rules.specs.ThreadRun.{Thread, IsAtEntry, RunsInstructions}
 
 -- ---- statements
 
@@ -39,7 +40,7 @@ abbrev pub MayRun : PlannedShape → Label → BlockTree → Type 0
 MayRun planned label statement =
     IsTrustedBy label (slice_index planned.needs.need (number_of statement).0) × IsOf planned.program statement
 
-abbrev pub MayRunAll : PlannedShape → Label → List Due → Type 0
+abbrev pub MayRunAll : PlannedShape → Label → List DueWork → Type 0
 MayRunAll planned label due = AllByRecursion (λ item. MayRun planned label (statement_due item)) due
 
 -- a statement stores to a field
@@ -49,7 +50,7 @@ StoresTo (set_element heading field index value rest) to = field ≡ to
 StoresTo other to = ⊥
 
 -- what a statement starts: the blocks in it, or the body of the method that it calls
-abbrev pub started : PlannedShape → BlockTree → List Due
+abbrev pub started : PlannedShape → BlockTree → List DueWork
 started planned (branch heading guard first second rest) = all_due first ++ all_due second
 started planned (loop heading guard inner rest) = all_due inner
 started planned (call heading site method arguments into rest) =
@@ -59,7 +60,7 @@ started planned other = []
 -- a statement of a method gives a variable its value, which may be the result of the method
 abbrev pub GivesIn : PlannedShape → MethodId → BlockTree → VarId → Type 0
 GivesIn planned method (give_back heading value rest) x = result_of (method_at planned.program method) ≡ Some x
-GivesIn planned method other x = Gives planned other x
+GivesIn planned method other x = GivesVariable planned other x
 
 -- ---- places
 
@@ -70,19 +71,20 @@ call_made (arguing statement set left) = statement ∷ []
 call_made (entering statement) = statement ∷ []
 
 -- what is still to be set are parameters of the method that is called
-abbrev pub AreParams : PlannedShape → BlockTree → List Argument → Type 0
-AreParams planned (call heading site method arguments into rest) left =
+abbrev pub AreParamsOfCall : PlannedShape → BlockTree → List Argument → Type 0
+AreParamsOfCall planned (call heading site method arguments into rest) left =
     AllByRecursion (λ one. IsParam one.param (params_of (method_at planned.program method))) left
-AreParams planned other left = ⊥
+AreParamsOfCall planned other left = ⊥
 
 abbrev pub PassesParams : PlannedShape → Calling → Type 0
-PassesParams planned (arguing statement set left) = AreParams planned statement left
+PassesParams planned (arguing statement set left) = AreParamsOfCall planned statement left
 PassesParams planned other = ⊤
 
 -- each of these variables was given its value by a statement that the host is trusted for
 abbrev pub AreSentFrom : PlannedShape → Label → List Forward → Type 0
 AreSentFrom planned label forwards =
-    AllByRecursion (λ forward. MayRun planned label forward.source × Gives planned forward.source forward.variable)
+    AllByRecursion (λ forward. MayRun planned label forward.source
+    × GivesVariable planned forward.source forward.variable)
     forwards
 
 -- The host is trusted for all that is due at a position, for what gave its value to what has still to be sent, and for
@@ -153,7 +155,7 @@ OpensOp planned code table label me place other = IsOpenTo planned label (table.
 -- at a place that is open to a host brings about nothing but what that host may.
 pub record IsOpenCode (planned : PlannedShape) (code : CodeShape) (table : Table) : Type 0 where
   pub statements : (label : Label) (method : MethodId) (statement : BlockTree) →
-      IsIn planned.program method statement →
+      IsStatementOfMethod planned.program method statement →
       IsTrustedBy label (slice_index planned.needs.need (number_of statement).0) →
       OpensStatement planned code label method statement
   pub entries : (label : Label) (number : ℕ) (entry : Entry) → slice_get code.entries (suc number) ≡ Some entry →
@@ -187,14 +189,14 @@ HasAllOf code need there = (entry : Entry) → entry_at code there ≡ Some entr
     bit_at entry.need principal ≤ bit_at need principal
 
 -- of the entry that an instruction pushes, asks for or goes to, if it does
-abbrev pub NamesWithin : CodeShape → ℕ → Op → Type 0
-NamesWithin code need (op.Push there) = HasAllOf code need there
-NamesWithin code need (op.Ask there on) = HasAllOf code need there
-NamesWithin code need (op.Go there on) = HasAllOf code need there
-NamesWithin code need (op.Call there on) = HasAllOf code need there
-NamesWithin code need (op.GoWith there on riders) = HasAllOf code need there
-NamesWithin code need (op.CallWith there on riders) = HasAllOf code need there
-NamesWithin code need other = ⊤
+abbrev pub NamesEntryWithin : CodeShape → ℕ → Op → Type 0
+NamesEntryWithin code need (op.Push there) = HasAllOf code need there
+NamesEntryWithin code need (op.Ask there on) = HasAllOf code need there
+NamesEntryWithin code need (op.Go there on) = HasAllOf code need there
+NamesEntryWithin code need (op.Call there on) = HasAllOf code need there
+NamesEntryWithin code need (op.GoWith there on riders) = HasAllOf code need there
+NamesEntryWithin code need (op.CallWith there on riders) = HasAllOf code need there
+NamesEntryWithin code need other = ⊤
 
 -- A thread is where a need has all who have to trust the hosts of what is due there, and who enters at what is pushed,
 -- asked for or gone to.
@@ -202,11 +204,12 @@ pub record IsCoveredBy (planned : PlannedShape) (code : CodeShape) (table : Tabl
     Type 0 where
   pub due : Covers planned need (table.at thread.host.0 thread.place).due
   pub names : (there : Instr) → instruction_at code thread.host thread.place ≡ Some there →
-      NamesWithin code need there.op
+      NamesEntryWithin code need there.op
 
 -- A thread enters at an entry and runs, with nothing on its chain at first. The need of the entry covers it wherever it
 -- comes to, until it gives back the token with which it entered.
 abbrev pub CoversRuns : PlannedShape → CodeShape → Table → Type 0
 CoversRuns planned code table = (there : EntryId) (start : Entry) → there ≢ halt → entry_at code there ≡ Some start →
-    (count steps : ℕ) (first last : Thread) → IsAtEntry code there [] first → Runs code count steps first last →
+    (count steps : ℕ) (first last : Thread) → IsAtEntry code there [] first →
+    RunsInstructions code count steps first last →
     IsCoveredBy planned code table start.need last

@@ -59,9 +59,9 @@ is_call_there (Some there) = is_call there.op
 abbrev pub calls_at : CodeShape → HostId → ℕ → Bool
 calls_at code me place = is_call_there (instruction_at code me place)
 
-abbrev pub Pushes : Allowance → HostId → ℕ → Bool → Type 0
-Pushes left me place true = FallsWithStep left me place (suc place)
-Pushes left me place false = FallsWithEntry left me place (suc place)
+abbrev pub PacedPush : Allowance → HostId → ℕ → Bool → Type 0
+PacedPush left me place true = FallsWithStep left me place (suc place)
+PacedPush left me place false = FallsWithEntry left me place (suc place)
 
 -- an entry is entered, without a step
 abbrev pub EntersLower : CodeShape → Allowance → HostId → ℕ → EntryId → Type 0
@@ -74,7 +74,7 @@ IsPacedOp code left me place (op.Put field index value) = FallsWithStep left me 
 IsPacedOp code left me place (op.Ret x value) = FallsWithStep left me place (suc place)
 IsPacedOp code left me place (op.Branch guard target) =
     FallsWithStep left me place (suc place) × FallsWithStep left me place target
-IsPacedOp code left me place (op.Push there) = Pushes left me place (calls_at code me (suc place))
+IsPacedOp code left me place (op.Push there) = PacedPush left me place (calls_at code me (suc place))
 IsPacedOp code left me place (op.Ask there on) = FallsWithEntry left me place (suc place)
 IsPacedOp code left me place (op.Go there on) = EntersLower code left me place there
 IsPacedOp code left me place (op.Call there on) = EntersLower code left me place there

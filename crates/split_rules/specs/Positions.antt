@@ -52,13 +52,13 @@ all_statements (call heading site method arguments into rest) =
 all_statements (give_back heading value rest) = give_back heading value done ∷ all_statements rest
 
 -- it is one of the statements of a method
-abbrev pub IsIn : ProgramTree → MethodId → BlockTree → Type 0
-IsIn program method statement =
+abbrev pub IsStatementOfMethod : ProgramTree → MethodId → BlockTree → Type 0
+IsStatementOfMethod program method statement =
     IsSomeAnd (method_at program method) (λ tree. Any (λ one. one ≡ statement) (all_statements tree.body))
 
 -- it is one of the statements of the program
 abbrev pub IsOf : ProgramTree → BlockTree → Type 0
-IsOf program statement = (method : MethodId) × IsIn program method statement
+IsOf program statement = (method : MethodId) × IsStatementOfMethod program method statement
 
 -- the number of a statement, 0 where there is none
 abbrev pub number_of : BlockTree → StmtId
@@ -88,30 +88,30 @@ past_row planned host (statement ∷ others) =
 
 -- ---- what is due
 
-pub data Due : Type 0 where
+pub data DueWork : Type 0 where
   -- a statement
-  run : BlockTree → Due
+  run : BlockTree → DueWork
   -- the result of a call, which has come back and is still to be kept
-  keep : BlockTree → Due
+  keep : BlockTree → DueWork
 
-abbrev pub statement_due : Due → BlockTree
+abbrev pub statement_due : DueWork → BlockTree
 statement_due (run statement) = statement
 statement_due (keep statement) = statement
 
 -- the numbers of the statements for which something is due
-abbrev pub due_numbers : List Due → List StmtId
+abbrev pub due_numbers : List DueWork → List StmtId
 due_numbers due = map (λ item. number_of (statement_due item)) due
 
 -- what is due where a block begins
-abbrev pub all_due : BlockTree → List Due
+abbrev pub all_due : BlockTree → List DueWork
 all_due block = map run (statements_of block)
 
 -- what is due behind a call, before what follows it
-abbrev pub kept_due : PlannedShape → BlockTree → List Due
+abbrev pub kept_due : PlannedShape → BlockTree → List DueWork
 kept_due planned (call heading site method arguments into rest) =
     kept (result_of (method_at planned.program method)) into
   where
-    kept : Option VarId → Option VarId → List Due
+    kept : Option VarId → Option VarId → List DueWork
     kept (Some result) (Some variable) = keep (call heading site method arguments into rest) ∷ []
     kept result variable = []
 kept_due planned other = []
@@ -186,14 +186,14 @@ pub record Forward : Type 0 where
 
 pub record Position : Type 0 where
   pub level : Level
-  pub due : List Due
+  pub due : List DueWork
   -- what the temporaries hold
   pub reads : List FieldRead
   pub calling : Calling
   pub forwards : List Forward
 
 -- where nothing was read, no call is made, and nothing has to be sent
-abbrev pub calm : Level → List Due → Position
+abbrev pub calm : Level → List DueWork → Position
 calm level due = record { level = level; due = due; reads = []; calling = no_call; forwards = [] }
 
 -- An entry: the position where it stands, and a word of those who have to trust whoever enters.

@@ -15,7 +15,7 @@ use Rattle.host_code.specs.Code.{CodeShape, part_of}
 use Rattle.host_code.specs.declared.instruction.Instr.{Instr}
 use Rattle.host_code.specs.declared.instruction.Op.{Op}
 use Rattle.host_code.specs.declared.instruction.Op.TheVariants as op
-use Rattle.split_rules.specs.Expressions.{Reading, reads_in, readings_of, released_by}
+use Rattle.split_rules.specs.Expressions.{ElementReading, reads_in, readings_of, released_by}
 use Rattle.split_rules.specs.Positions.{all_statements}
 
 -- ---- statements
@@ -46,7 +46,7 @@ statement_nodes (give_back heading value rest) = expr_nodes value
 -- ---- rows
 
 -- what reads release, one after another
-abbrev pub read_rows : List Reading → List (List (List Node))
+abbrev pub read_rows : List ElementReading → List (List (List Node))
 read_rows readings = map (λ reading. reading.released) readings
 
 -- what the reads of an expression release, and what is released where its value is used

@@ -6,7 +6,7 @@ use Rattle.std.specs.List.{AllByRecursion}
 use Rattle.js_base.specs.declared.ids.HostId.{HostId}
 use Rattle.host_code.specs.declared.instruction.Op.{Op}
 use Rattle.host_code.specs.declared.instruction.Op.TheVariants as op
-use Rattle.split_rules.specs.Emissions.{Emission, instruction, entry, stands, lands, Named}
+use Rattle.split_rules.specs.Emissions.{Emission, instruction, entry, stands, lands, NamedEntry}
 use Rattle.split_rules.specs.SplitCode.{entries_in, emitted_on}
 
 -- the host on which the entry of a number stands first
@@ -22,11 +22,11 @@ host_landing number (lands on other ∷ others) = if nat_eq other number then So
 host_landing number (emission ∷ others) = host_landing number others
 
 -- on one of so many hosts
-abbrev pub IsWithin : ℕ → Emission → Type 0
-IsWithin count (instruction one) = one.host.0 < count
-IsWithin count (entry named) = named.host.0 < count
-IsWithin count (stands on number) = on.0 < count
-IsWithin count (lands on number) = on.0 < count
+abbrev pub IsOnSomeHost : ℕ → Emission → Type 0
+IsOnSomeHost count (instruction one) = one.host.0 < count
+IsOnSomeHost count (entry named) = named.host.0 < count
+IsOnSomeHost count (stands on number) = on.0 < count
+IsOnSomeHost count (lands on number) = on.0 < count
 
 -- nowhere, or on this host
 abbrev pub IsOn : HostId → Option HostId → Type 0
@@ -41,8 +41,8 @@ BranchIsOn count emissions host other = ⊤
 -- All is on one of so many hosts. Each branch has one of so many numbers and leads first to its own host, and each
 -- entry stands first on its own, if anywhere.
 pub record AreSettled (hosts count : ℕ) (emissions : List Emission) : Type 0 where
-  pub within : AllByRecursion (IsWithin hosts) emissions
-  pub entries : (number : ℕ) (named : Named) → slice_get (entries_in emissions) number ≡ Some named →
+  pub within : AllByRecursion (IsOnSomeHost hosts) emissions
+  pub entries : (number : ℕ) (named : NamedEntry) → slice_get (entries_in emissions) number ≡ Some named →
       IsOn named.host (host_standing number emissions)
   pub branches : (host : HostId) →
       All (λ one. (one.host ≡ host) × BranchIsOn count emissions host one.op) (emitted_on host emissions)

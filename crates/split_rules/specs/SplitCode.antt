@@ -23,7 +23,7 @@ use Rattle.need_labels.specs.Labelled.{Labelled}
 use Rattle.need_labels.specs.Plan.{PlanShape, field_host, statement_host}
 use Rattle.msg_cost.specs.Moves.{PlannedShape, called_home}
 use Rattle.split_rules.specs.Placed.{PlacedProgram, planned_from}
-use Rattle.split_rules.specs.Emissions.{Emission, instruction, entry, stands, lands, Emitted, Named}
+use Rattle.split_rules.specs.Emissions.{Emission, instruction, entry, stands, lands, Emitted, NamedEntry}
 use Rattle.split_rules.specs.Walk.{program_emissions, entry_id}
 
 -- ---- places
@@ -82,7 +82,7 @@ label_of_emission (entry named) = named.label ∷ []
 label_of_emission (stands on number) = []
 label_of_emission (lands on number) = []
 
-abbrev pub entries_in : List Emission → List Named
+abbrev pub entries_in : List Emission → List NamedEntry
 entries_in [] = []
 entries_in (entry named ∷ others) = named ∷ entries_in others
 entries_in (emission ∷ others) = entries_in others
@@ -110,7 +110,7 @@ abbrev pub part_on : List Label → List Emission → HostId → List Instr
 part_on labels emissions host = map (placed_instruction labels emissions) (emitted_on host emissions)
 
 -- the entries, of which the first has this number
-abbrev pub placed_entries : List Label → List Emission → ℕ → List Named → List Entry
+abbrev pub placed_entries : List Label → List Emission → ℕ → List NamedEntry → List Entry
 placed_entries labels emissions number [] = []
 placed_entries labels emissions number (named ∷ others) =
     record {

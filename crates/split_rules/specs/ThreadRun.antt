@@ -27,9 +27,9 @@ IsAtEntry code there chain next = (entry : Entry) × (entry_at code there ≡ So
     × (next ≡ record { host = entry.host; place = entry.at; chain = chain })
 
 -- the token goes back, and ends the thread where nothing is left on the chain
-abbrev pub GoesBack : CodeShape → List EntryId → Thread → Type 0
-GoesBack code [] next = ⊥
-GoesBack code (there ∷ chain) next = (there ≢ halt) × IsAtEntry code there chain next
+abbrev pub TokenGoesBack : CodeShape → List EntryId → Thread → Type 0
+TokenGoesBack code [] next = ⊥
+TokenGoesBack code (there ∷ chain) next = (there ≢ halt) × IsAtEntry code there chain next
 
 -- what an instruction makes of a thread, and how many steps it makes, none or one
 abbrev pub RunsOp : CodeShape → Thread → Op → ℕ → Thread → Type 0
@@ -48,7 +48,7 @@ RunsOp code here (op.Go there on) steps next = (steps ≡ 0) × IsAtEntry code t
 RunsOp code here (op.Call there on) steps next = (steps ≡ 0) × IsAtEntry code there here.chain next
 RunsOp code here (op.GoWith there on riders) steps next = (steps ≡ 0) × IsAtEntry code there here.chain next
 RunsOp code here (op.CallWith there on riders) steps next = (steps ≡ 0) × IsAtEntry code there here.chain next
-RunsOp code here op.Back steps next = (steps ≡ 0) × GoesBack code here.chain next
+RunsOp code here op.Back steps next = (steps ≡ 0) × TokenGoesBack code here.chain next
 RunsOp code here other steps next = (steps ≡ 0) × (next ≡ thread_at here (suc here.place) here.chain)
 
 -- one instruction
@@ -58,10 +58,10 @@ pub record RunsOne (code : CodeShape) (here : Thread) (steps : ℕ) (next : Thre
   pub runs : RunsOp code here instruction.op steps next
 
 -- so many instructions, which make so many steps
-abbrev pub Runs : CodeShape → ℕ → ℕ → Thread → Thread → Type 0
-Runs code zero steps first last = (steps ≡ 0) × (first ≡ last)
-Runs code (suc count) steps first last = (own others : ℕ) × (middle : Thread) × (steps ≡ own + others)
-    × RunsOne code first own middle × Runs code count others middle last
+abbrev pub RunsInstructions : CodeShape → ℕ → ℕ → Thread → Thread → Type 0
+RunsInstructions code zero steps first last = (steps ≡ 0) × (first ≡ last)
+RunsInstructions code (suc count) steps first last = (own others : ℕ) × (middle : Thread) × (steps ≡ own + others)
+    × RunsOne code first own middle × RunsInstructions code count others middle last
 
 -- a thread where the program begins
 abbrev pub IsAtMain : CodeShape → Thread → Type 0

@@ -25,7 +25,8 @@ use Rattle.msg_cost.specs.Moves.{PlannedShape, is_trusted_for}
 use Rattle.split_rules.specs.Emissions.{Emission, instruction, entry, stands, lands}
 use Rattle.split_rules.specs.Expressions.{reads_in, nodes_of, first_element}
 use Rattle.split_rules.specs.Walk.{need_of}
-use Rattle.split_rules.specs.Positions.{IsIn, IsOf, number_of, due_numbers, Entrance, Due, run, keep, statement_due}
+use Rattle.split_rules.specs.Positions.{IsStatementOfMethod, IsOf, number_of, due_numbers, Entrance, DueWork, run, keep}
+use Rattle.split_rules.specs.Positions.{statement_due}
 use Rattle.split_rules.specs.Positions.{is_on, all_due, kept_due, body, under, FieldRead, field_reads, Argument}
 use Rattle.split_rules.specs.Positions.{Calling, no_call, arguing, entering, Forward, arguments_of, reads_due, Position}
 use Rattle.split_rules.specs.Positions.{calm, with_reads, with_forwards, forwards_of, IsOut, without_forward}
@@ -38,11 +39,11 @@ EntryIs entries number position need =
     slice_get entries number ≡ Some (record { position = position; need = need })
 
 -- the branch of a number leads to this position
-abbrev pub LeadsTo : List Position → ℕ → Position → Type 0
-LeadsTo branches number position = slice_get branches number ≡ Some position
+abbrev pub BranchLeadsTo : List Position → ℕ → Position → Type 0
+BranchLeadsTo branches number position = slice_get branches number ≡ Some position
 
 -- a host is trusted for all that is due
-abbrev pub AreDueOn : PlannedShape → HostId → List Due → Type 0
+abbrev pub AreDueOn : PlannedShape → HostId → List DueWork → Type 0
 AreDueOn planned host due =
     AllByRecursion (λ item. (is_trusted_for planned host (number_of (statement_due item)) ≡ true)
     × IsOf planned.program (statement_due item)) due
@@ -52,30 +53,30 @@ IsParam x [] = ⊥
 IsParam x (param ∷ params) = (param ≡ x) ⊎ IsParam x params
 
 -- a statement gives a variable its value: an assignment, or a call whose parameter or kept result it is
-abbrev pub Gives : PlannedShape → BlockTree → VarId → Type 0
-Gives planned (set_local heading variable value rest) x = variable ≡ x
-Gives planned (call heading site method arguments into rest) x =
+abbrev pub GivesVariable : PlannedShape → BlockTree → VarId → Type 0
+GivesVariable planned (set_local heading variable value rest) x = variable ≡ x
+GivesVariable planned (call heading site method arguments into rest) x =
     (into ≡ Some x) ⊎ IsParam x (params_of (method_at planned.program method))
-Gives planned other x = ⊥
+GivesVariable planned other x = ⊥
 
 -- What has to be sent was given its value by a statement of the program on this host, which is trusted for the
 -- statement.
 abbrev pub AreSourced : PlannedShape → HostId → List Forward → Type 0
 AreSourced planned me forwards = AllByRecursion (λ forward. (is_on planned me forward.source ≡ true)
     × (is_trusted_for planned me (number_of forward.source) ≡ true) × IsOf planned.program forward.source
-    × Gives planned forward.source forward.variable) forwards
+    × GivesVariable planned forward.source forward.variable) forwards
 
 -- a host is trusted for what is due and for what has to be sent
 abbrev pub IsTrustedAt : PlannedShape → HostId → Position → Type 0
 IsTrustedAt planned me here = AreDueOn planned me here.due × AreSourced planned me here.forwards
 
 -- whoever has to trust the host of a statement for which something is due is in the word
-abbrev pub Covers : PlannedShape → ℕ → List Due → Type 0
+abbrev pub Covers : PlannedShape → ℕ → List DueWork → Type 0
 Covers planned need due = AllByRecursion (λ item. (principal : ℕ) → principal < READERS →
     bit_at (slice_index planned.needs.need (number_of (statement_due item)).0) principal ≤ bit_at need principal) due
 
 -- those who have to trust whoever enters where this is due, and nobody else
-abbrev pub need_due : PlannedShape → List Due → ℕ
+abbrev pub need_due : PlannedShape → List DueWork → ℕ
 need_due planned due = need_of planned (due_numbers due)
 
 -- those who have to trust whoever enters a method; nobody where there is none
@@ -96,7 +97,8 @@ RidesAll riders on forwards = (map (λ forward. forward.variable) forwards ≡ r
     × AllByRecursion (λ forward. forward.host ≡ on) forwards
 
 -- what comes first stands on this host, and nothing has to be sent before it
-pub record BeginsWith (planned : PlannedShape) (me : HostId) (here : Position) (first : Due) (others : List Due) :
+pub record BeginsWith (planned : PlannedShape) (me : HostId) (here : Position) (first : DueWork)
+    (others : List DueWork) :
     Type 0 where
   pub due : here.due ≡ first ∷ others
   pub on_host : is_on planned me (statement_due first) ≡ true
@@ -108,7 +110,7 @@ pub record IsValue (here : Position) (value : ExprTree) (nodes : List Node) : Ty
   pub are : nodes ≡ nodes_of 0 value
 
 -- a variable is set by an assignment, or to the result of a call
-abbrev pub Sets : PlannedShape → Position → Due → VarId → List Node → Type 0
+abbrev pub Sets : PlannedShape → Position → DueWork → VarId → List Node → Type 0
 Sets planned here (run (set_local heading variable value rest)) x nodes = (variable ≡ x) × IsValue here value nodes
 Sets planned here (keep (call heading site method arguments into rest)) x nodes =
     (result : VarId) × (result_of (method_at planned.program method) ≡ Some result) × (into ≡ Some x)
@@ -116,7 +118,7 @@ Sets planned here (keep (call heading site method arguments into rest)) x nodes 
 Sets planned here other x nodes = ⊥
 
 -- an assignment to a field
-abbrev pub Stores : Position → Due → FieldId → List Node → List Node → Type 0
+abbrev pub Stores : Position → DueWork → FieldId → List Node → List Node → Type 0
 Stores here (run (set_field heading field value rest)) to at nodes =
     (field ≡ to) × (at ≡ first_element) × IsValue here value nodes
 Stores here (run (set_element heading field index value rest)) to at nodes =
@@ -125,7 +127,7 @@ Stores here (run (set_element heading field index value rest)) to at nodes =
 Stores here other to at nodes = ⊥
 
 -- what is due first is a call of this site, all of whose parameters are then to be set
-abbrev pub Frames : PlannedShape → Position → Due → SiteId → Position → Type 0
+abbrev pub Frames : PlannedShape → Position → DueWork → SiteId → Position → Type 0
 Frames planned here (run (call heading own method arguments into rest)) site next =
     (own ≡ site) × (next ≡ record {
       level = here.level;
@@ -138,9 +140,9 @@ Frames planned here (run (call heading own method arguments into rest)) site nex
 Frames planned here other site next = ⊥
 
 -- what is due first is to give back this value
-abbrev pub GivesBack : Position → Due → List Node → Type 0
-GivesBack here (run (give_back heading value rest)) nodes = IsValue here value nodes
-GivesBack here other nodes = ⊥
+abbrev pub GivesBackDue : Position → DueWork → List Node → Type 0
+GivesBackDue here (run (give_back heading value rest)) nodes = IsValue here value nodes
+GivesBackDue here other nodes = ⊥
 
 -- the body of a method, empty where there is none
 abbrev pub body_of : Option MethodTree → BlockTree
@@ -154,7 +156,7 @@ body_of (Some method) = method.body
 pub record Cuts (planned : PlannedShape) (entries : List Entrance) (here : Position) (number : ℕ) (next : Position) :
     Type 0 where
   pub idle : IsIdle here
-  pub behind : List Due
+  pub behind : List DueWork
   pub pushed : EntryIs entries number (calm here.level behind) (need_due planned behind)
   pub due : here.due ≡ next.due ++ behind
   pub goes : next ≡ with_forwards (calm (under number) next.due) here.forwards
@@ -163,7 +165,7 @@ pub record Cuts (planned : PlannedShape) (entries : List Entrance) (here : Posit
 -- the parameters that have still to be sent may ride with the call.
 pub record PushesCall (planned : PlannedShape) (entries : List Entrance) (here : Position) (statement : BlockTree)
     (set : List Argument) (method : MethodId) (arguments : List ExprTree) (number : ℕ) (next : Position) : Type 0 where
-  pub others : List Due
+  pub others : List DueWork
   pub due : here.due ≡ run statement ∷ others
   pub reads : here.reads ≡ []
   pub all_set : set ≡ arguments_of (params_of (method_at planned.program method)) arguments
@@ -188,8 +190,8 @@ Pushes planned entries here other number next = ⊥
 -- the element is read that is to be read next, by an index over the last temporaries
 pub record Reads (planned : PlannedShape) (me : HostId) (here : Position) (field : FieldId) (nodes : List Node)
     (next : Position) : Type 0 where
-  pub first : Due
-  pub others : List Due
+  pub first : DueWork
+  pub others : List DueWork
   pub due : here.due ≡ first ∷ others
   pub on_host : is_on planned me (statement_due first) ≡ true
   pub index : ExprTree
@@ -231,7 +233,7 @@ Sends here x to next = (here.reads ≡ []) × IsOut here.forwards x to
 abbrev pub Follows : PlannedShape → List Entrance → HostId → Position → Op → Position → Type 0
 Follows planned entries me here (op.Read field index) next = Reads planned me here field index next
 Follows planned entries me here (op.Let x value) next =
-    (first : Due) × (others : List Due) × BeginsWith planned me here first others × (here.calling ≡ no_call)
+    (first : DueWork) × (others : List DueWork) × BeginsWith planned me here first others × (here.calling ≡ no_call)
     × Sets planned here first x value × (next ≡ record {
       level = here.level;
       due = others;
@@ -240,11 +242,11 @@ Follows planned entries me here (op.Let x value) next =
       forwards = forwards_of planned me (statement_due first) x;
     })
 Follows planned entries me here (op.Put field index value) next =
-    (first : Due) × (others : List Due) × BeginsWith planned me here first others × (here.calling ≡ no_call)
+    (first : DueWork) × (others : List DueWork) × BeginsWith planned me here first others × (here.calling ≡ no_call)
     × Stores here first field index value × (next ≡ calm here.level others)
 Follows planned entries me here (op.Send x to) next = (here.calling ≡ no_call) × Sends here x to next
 Follows planned entries me here (op.Frame site) next =
-    (first : Due) × (others : List Due) × BeginsWith planned me here first others × IsCalm here
+    (first : DueWork) × (others : List DueWork) × BeginsWith planned me here first others × IsCalm here
     × Frames planned here first site next
 Follows planned entries me here (op.Arg x value) next = Argues planned me here here.calling x value next
 Follows planned entries me here (op.Pass x to) next =
@@ -254,14 +256,14 @@ Follows planned entries me here (op.Push there) next = Pushes planned entries he
 Follows planned entries me here (op.Ask there on) next =
     Cuts planned entries here there.0 next × AreDueOn planned on here.due × (here.forwards ≡ [])
 Follows planned entries me here (op.Ret x value) next =
-    (first : Due) × (method : MethodId) × BeginsWith planned me here first [] × (here.calling ≡ no_call)
-    × GivesBack here first value × (here.level ≡ body method)
+    (first : DueWork) × (method : MethodId) × BeginsWith planned me here first [] × (here.calling ≡ no_call)
+    × GivesBackDue here first value × (here.level ≡ body method)
     × (result_of (method_at planned.program method) ≡ Some x) × (next ≡ calm here.level [])
-    × IsIn planned.program method (statement_due first)
+    × IsStatementOfMethod planned.program method (statement_due first)
 Follows planned entries me here other next = ⊥
 
 -- A branch goes on at the next position where its guard holds, and otherwise at its target.
-abbrev pub Branches : Position → Due → List Due → List Node → Position → Position → Type 0
+abbrev pub Branches : Position → DueWork → List DueWork → List Node → Position → Position → Type 0
 Branches here (run (branch heading guard first second rest)) others nodes next target =
     IsValue here guard nodes × (others ≡ []) × (next ≡ calm here.level (all_due first))
     × (target ≡ calm here.level (all_due second))
@@ -273,7 +275,7 @@ Branches here other others nodes next target = ⊥
 
 abbrev pub Divides : PlannedShape → HostId → Position → List Node → Position → Position → Type 0
 Divides planned me here nodes next target =
-    (first : Due) × (others : List Due) × BeginsWith planned me here first others × (here.calling ≡ no_call)
+    (first : DueWork) × (others : List DueWork) × BeginsWith planned me here first others × (here.calling ≡ no_call)
     × Branches here first others nodes next target
 
 -- the entry of the called method is gone to
@@ -306,21 +308,21 @@ Ends planned entries here other = ⊥
 -- ---- emissions
 
 -- Where a walk goes on.
-pub data Place : Type 0 where
-  nowhere : Place
-  here : HostId → Position → Place
+pub data WalkPlace : Type 0 where
+  nowhere : WalkPlace
+  here : HostId → Position → WalkPlace
 
 -- What is known at a place of a walk: the entries so far, by their numbers, and where branches lead.
-pub record Known : Type 0 where
-  pub place : Place
+pub record WalkKnown : Type 0 where
+  pub place : WalkPlace
   pub entries : List Entrance
   pub branches : List Position
 
-abbrev pub with_place : Known → Place → Known
+abbrev pub with_place : WalkKnown → WalkPlace → WalkKnown
 with_place known place = record { place = place; entries = known.entries; branches = known.branches }
 
 -- An instruction of a host at a position.
-abbrev pub TypedOp : PlannedShape → Known → HostId → Position → Op → Known → Type 0
+abbrev pub TypedOp : PlannedShape → WalkKnown → HostId → Position → Op → WalkKnown → Type 0
 TypedOp planned known me from (op.Branch guard number) after =
     (next : Position) × (target : Position) × (number ≡ length known.branches)
     × Divides planned me from guard next target × (after ≡ record {
@@ -344,7 +346,7 @@ TypedOp planned known me from other after =
 -- The host of an instruction is trusted for all that is due there, and for what has to be sent. An entry has a calm
 -- position from where it is named on, and stands where that is the position. Its host is trusted for all that is due
 -- there, and its need has all who have to be asked for that.
-abbrev pub Types : PlannedShape → Known → Emission → Known → Type 0
+abbrev pub Types : PlannedShape → WalkKnown → Emission → WalkKnown → Type 0
 Types planned known (instruction one) after =
     (from : Position) × (known.place ≡ here one.host from) × IsTrustedAt planned one.host from
     × TypedOp planned known one.host from one.op after
@@ -359,11 +361,11 @@ Types planned known (stands host number) after =
     (position : Position) × (need : ℕ) × EntryIs known.entries number position need
     × ((known.place ≡ nowhere) ⊎ (known.place ≡ here host position)) × (after ≡ with_place known (here host position))
 Types planned known (lands host number) after =
-    (position : Position) × LeadsTo known.branches number position × (known.place ≡ nowhere)
+    (position : Position) × BranchLeadsTo known.branches number position × (known.place ≡ nowhere)
     × (after ≡ with_place known (here host position))
 
 -- Emissions from one place of a walk to another.
-abbrev pub AreTyped : PlannedShape → Known → List Emission → Known → Type 0
+abbrev pub AreTyped : PlannedShape → WalkKnown → List Emission → WalkKnown → Type 0
 AreTyped planned first [] last = first ≡ last
 AreTyped planned first (emission ∷ others) last =
-    (middle : Known) × Types planned first emission middle × AreTyped planned middle others last
+    (middle : WalkKnown) × Types planned first emission middle × AreTyped planned middle others last

@@ -34,7 +34,7 @@ use Rattle.msg_cost.specs.Moves.{PlannedShape, is_same, on, end_of, next_spot, c
 use Rattle.msg_cost.specs.Moves.{called_home}
 use Rattle.msg_cost.specs.Terms.{is_other_reader, is_told}
 use Rattle.split_rules.specs.Emissions.{Emission, instruction, entry, stands, lands, Counts, counts_after}
-use Rattle.split_rules.specs.Expressions.{Reading, reads_in, nodes_of, readings_of, first_element, released_by}
+use Rattle.split_rules.specs.Expressions.{ElementReading, reads_in, nodes_of, readings_of, first_element, released_by}
 use Rattle.split_rules.specs.Placed.{PlacedProgram, planned_from}
 
 -- ---- what a walk knows
@@ -106,7 +106,7 @@ releasing host label statement what released =
 abbrev pub emitted : HostId → Label → StmtId → Op → Emission
 emitted host label statement what = releasing host label statement what []
 
-abbrev pub read_emissions : HostId → Label → StmtId → List Reading → List Emission
+abbrev pub read_emissions : HostId → Label → StmtId → List ElementReading → List Emission
 read_emissions host label statement readings =
     map (λ reading. releasing host label statement (op.Read reading.field reading.index) reading.released) readings
 

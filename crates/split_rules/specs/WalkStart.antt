@@ -12,7 +12,7 @@ use Rattle.split_rules.specs.Emissions.{Emission}
 use Rattle.split_rules.specs.Flow.{Scope, State, Pending, stopped}
 use Rattle.split_rules.specs.Positions.{all_due, body, calm, Entrance}
 use Rattle.split_rules.specs.SplitCode.{site_hosts}
-use Rattle.split_rules.specs.Typing.{need_of_method, nowhere, Known}
+use Rattle.split_rules.specs.Typing.{need_of_method, nowhere, WalkKnown}
 use Rattle.split_rules.specs.Walk.{need_of, halt_entries, method_entry}
 
 -- what the code of a program has
@@ -64,7 +64,7 @@ method_entrances planned number (method ∷ methods) =
     } ∷ method_entrances planned (suc number) methods
 
 -- what is known of all entries before the bodies of the methods: nothing is due behind the program
-abbrev pub known_start : PlannedShape → Known
+abbrev pub known_start : PlannedShape → WalkKnown
 known_start planned = record {
   place = nowhere;
   entries = record {

@@ -7,16 +7,16 @@ ghost use Rattle.split_rules.specs.SplitCode.{split_code};
 ghost use Rattle.split_rules.specs.Splittable.{IsSplittable};
 ghost use Rattle.split_rules.specs.Typable.{IsTypable};
 ghost use Rattle.split_rules.specs.Allowed.{IsAllowed};
-ghost use Rattle.split_rules.specs.Held.{IsHeld};
+ghost use Rattle.split_rules.specs.Held.{IsWellHeld};
 ghost use Rattle.split_rules.specs.Asking.{AreGranted, TellsNoMore};
 ghost use Rattle.split_rules.specs.Pace.{PACE, Allowance, IsPaced};
-ghost use Rattle.split_rules.specs.ThreadRun.{Thread, Runs, IsAtMain};
+ghost use Rattle.split_rules.specs.ThreadRun.{Thread, RunsInstructions, IsAtMain};
 ghost use Rattle.split_rules.specs.TypedCode.{Table, IsTypedCode};
 ghost use Rattle.split_rules.specs.Typing.{Follows, Divides};
-ghost use Rattle.split_rules.specs.Positions.{Position, Entrance, IsIn, IsOf};
+ghost use Rattle.split_rules.specs.Positions.{Position, Entrance, IsStatementOfMethod, IsOf};
 ghost use Rattle.split_rules.specs.Emissions.{counts_after};
 ghost use Rattle.split_rules.specs.Opening.{IsOpenCode, HasOwnLabels, CoversRuns, MayRun, IsOpenTo, HasNeed};
-ghost use Rattle.split_rules.specs.Opening.{NamesWithin, IsCoveredBy};
+ghost use Rattle.split_rules.specs.Opening.{NamesEntryWithin, IsCoveredBy};
 ghost use Rattle.split_rules.specs.OpenExamples.{code_of, untrusted, trusted_by_first, thread_on_first, lent_table};
 ghost use Rattle.split_rules.specs.OpenExamples.{sent_table, branched_table, looped_table, FirstOpens};
 ghost use Rattle.split_rules.specs.TypingExamples.{first_instead, CanBeTyped, as_given, rides, sent_and_rides};
@@ -68,9 +68,9 @@ pub fn trust_laws()
 /// Where besides each field and each statement stands on a host that may hold it, other hosts grant what the code of a
 /// host asks of them, by the checks of the host table, and no instruction tells another host what it may not see.
 pub fn asking_laws()
-    ensures granted { (placed : PlacedProgram) → IsSplittable placed → IsAllowed placed → IsHeld placed →
+    ensures granted { (placed : PlacedProgram) → IsSplittable placed → IsAllowed placed → IsWellHeld placed →
         AreGranted (split_code placed) }
-    ensures tells { (placed : PlacedProgram) → IsSplittable placed → IsAllowed placed → IsHeld placed →
+    ensures tells { (placed : PlacedProgram) → IsSplittable placed → IsAllowed placed → IsWellHeld placed →
         TellsNoMore (split_code placed) }
 {}
 
@@ -103,7 +103,7 @@ pub fn pace_laws()
         (left : Allowance) × IsPaced (split_code placed) left }
     ensures runs_few { (placed : PlacedProgram) → IsSplittable placed → (count steps : ℕ) (first last : Thread) →
         IsAtMain (split_code placed) first →
-        Runs (split_code placed) count steps first last → count ≤ PACE * (steps + 1) }
+        RunsInstructions (split_code placed) count steps first last → count ≤ PACE * (steps + 1) }
 {}
 
 /// The laws of positions leave one outcome: behind an instruction there is one position, and where a branch leads
@@ -214,12 +214,12 @@ pub fn worked_laws()
         ∷ op.Back ∷ [] }
     ensures call_entries { entry_hosts called ≡ 0 ∷ 0 ∷ 1 ∷ 0 ∷ [] }
     // What a method gives back is a statement of that method, and so of the program.
-    ensures is_in { IsIn called.program (record { 0 = 1 }) returning }
+    ensures is_in { IsStatementOfMethod called.program (record { 0 = 1 }) returning }
     ensures is_of { IsOf called.program returning }
     // It is none of `main`, which calls the method.
-    ensures is_not_in { ¬ IsIn called.program (record { 0 = 0 }) returning }
+    ensures is_not_in { ¬ IsStatementOfMethod called.program (record { 0 = 0 }) returning }
     // A statement inside a loop is one of the method's too.
-    ensures is_inside { IsIn looped.program (record { 0 = 0 }) loop_end }
+    ensures is_inside { IsStatementOfMethod looped.program (record { 0 = 0 }) loop_end }
     // The index of an array is read before the value.
     ensures indexes { operations_on indexed 0 ≡ op.Read (field_id 0) first_element
         ∷ op.Read (field_id 1) (node.Number (pos 2) ∷ [])
@@ -266,14 +266,14 @@ pub fn opening_examples()
     ensures of_none { (label : Label) → ¬ MayRun looped label returning }
     // The need of an entry has that of each entry that is pushed, asked for or gone to on the way, and of all that is
     // due.
-    ensures pushed_without { ¬ NamesWithin (code_of lent_back) 0 (op.Push (entry_id 2)) }
-    ensures pushed_within { NamesWithin (code_of lent_back) 1 (op.Push (entry_id 2)) }
-    ensures asked_without { ¬ NamesWithin (code_of lent_back) 0 (op.Ask (entry_id 2) (host_id 0)) }
-    ensures gone_without { ¬ NamesWithin (code_of lent_back) 0 (op.Go (entry_id 2) (host_id 0)) }
-    ensures called_without { ¬ NamesWithin (code_of lent_back) 0 (op.Call (entry_id 2) (host_id 0)) }
+    ensures pushed_without { ¬ NamesEntryWithin (code_of lent_back) 0 (op.Push (entry_id 2)) }
+    ensures pushed_within { NamesEntryWithin (code_of lent_back) 1 (op.Push (entry_id 2)) }
+    ensures asked_without { ¬ NamesEntryWithin (code_of lent_back) 0 (op.Ask (entry_id 2) (host_id 0)) }
+    ensures gone_without { ¬ NamesEntryWithin (code_of lent_back) 0 (op.Go (entry_id 2) (host_id 0)) }
+    ensures called_without { ¬ NamesEntryWithin (code_of lent_back) 0 (op.Call (entry_id 2) (host_id 0)) }
     ensures gone_riding { (riders : List VarId) →
-        ¬ NamesWithin (code_of lent_back) 0 (op.GoWith (entry_id 2) (host_id 0) riders) }
+        ¬ NamesEntryWithin (code_of lent_back) 0 (op.GoWith (entry_id 2) (host_id 0) riders) }
     ensures called_riding { (riders : List VarId) →
-        ¬ NamesWithin (code_of lent_back) 0 (op.CallWith (entry_id 2) (host_id 0) riders) }
+        ¬ NamesEntryWithin (code_of lent_back) 0 (op.CallWith (entry_id 2) (host_id 0) riders) }
     ensures due_without { ¬ IsCoveredBy lent_back (code_of lent_back) lent_table 0 (thread_on_first 0) }
 {}

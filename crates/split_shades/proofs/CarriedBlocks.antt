@@ -25,9 +25,10 @@ use Rattle.msg_cost.specs.declared.spot.Spot.{Spot}
 use Rattle.msg_cost.specs.Moves.{PlannedShape, is_same, end_of, entered, next_spot, carried_to, called_home}
 use Rattle.msg_cost.specs.Moves.{own_statements}
 use Rattle.split_rules.specs.Emissions.{Emission, stands, lands, Counts, counts_after}
-use Rattle.split_rules.specs.Expressions.{Reading, readings_of, reads_in}
+use Rattle.split_rules.specs.Expressions.{ElementReading, readings_of, reads_in}
 use Rattle.split_rules.specs.Positions.{IsOf, all_statements}
-use Rattle.split_rules.specs.Walk.{Walked, Around, Lane, walked_in, lane_on, lane_behind, entry_id, emitted, read_emissions}
+use Rattle.split_rules.specs.Walk.{Walked, Around, Lane, walked_in, lane_on, lane_behind, entry_id, emitted}
+use Rattle.split_rules.specs.Walk.{read_emissions}
 use Rattle.split_rules.specs.Walk.{under_token, expr_emissions, told_readers, leave_emissions, go_with, call_with}
 use Rattle.split_rules.specs.Walk.{enter_emissions, move_emissions, argument_emissions, riding_params}
 use Rattle.split_rules.specs.Walk.{kept_emissions, call_emissions, result_emissions, block_emissions}
@@ -38,7 +39,7 @@ use Rattle.split_rules.proofs.SeenBlocks.{guard_same, IsKept, AreLabelsKept}
 use Rattle.split_rules.proofs.WalkedBlocks.{inside_of, branch_front, branch_own, loop_front, loop_own}
 use Rattle.split_rules.proofs.WalkedMoves.{entered_here, entered_there, next_here, next_there, one_of_two}
 use Rattle.split_shades.specs.Basis.{Basis, basis_setting}
-use Rattle.split_shades.specs.Carried.{IsBlockOf, IsOwn, CarriesWell, IsCarried}
+use Rattle.split_shades.specs.Carried.{IsBlockOf, IsOwnStatement, InstructionCarriesWell, IsCarried}
 use Rattle.split_shades.proofs.BasisLabels.{same_value}
 
 -- ---- the program labels of statements
@@ -148,7 +149,7 @@ leave_carried basis planned around lane block = by lane.spot.host lane.spot.back
 -- whatever rides where the thread is handed over
 go_carried : (basis : Basis) (planned : PlannedShape) (host : HostId) (label : Label) (statement : StmtId)
     (riders : List VarId) (there : EntryId) (on : HostId) → IsBlockOf basis statement label →
-    CarriesWell basis planned host label statement (go_with riders there on)
+    InstructionCarriesWell basis planned host label statement (go_with riders there on)
 go_carried basis planned host label statement [] there on block = block
 go_carried basis planned host label statement (x ∷ riders) there on block = block
 
@@ -167,7 +168,7 @@ enter_carried basis planned walked around counts from riders host (Some back) st
       (
         (around.owner, block),
         (
-          one_of_two (CarriesWell basis planned from around.pc around.owner) (is_same from back)
+          one_of_two (InstructionCarriesWell basis planned from around.pc around.owner) (is_same from back)
               (op.Push (entry_id counts.entries)) (op.Ask (entry_id counts.entries) back) (inr block) block,
           (goes, (tt, tt)),
         ),
@@ -211,27 +212,27 @@ spot_host planned spot statement others = elim (eqb_tells spot.host.0 host.0) [
 -- ---- statements
 
 reads_carried : (basis : Basis) (planned : PlannedShape) (host : HostId) (label : Label) (statement : StmtId)
-    (readings : List Reading) → IsOwn basis planned host label statement →
+    (readings : List ElementReading) → IsOwnStatement basis planned host label statement →
     AllCarried basis planned (read_emissions host label statement readings)
 reads_carried basis planned host label statement [] own = tt
 reads_carried basis planned host label statement (reading ∷ readings) own =
     (own, reads_carried basis planned host label statement readings own)
 
 expr_carried : (basis : Basis) (planned : PlannedShape) (host : HostId) (label : Label) (statement : StmtId)
-    (first : ℕ) (value : ExprTree) → IsOwn basis planned host label statement →
+    (first : ℕ) (value : ExprTree) → IsOwnStatement basis planned host label statement →
     AllCarried basis planned (expr_emissions host label statement first value)
 expr_carried basis planned host label statement first value own =
     reads_carried basis planned host label statement (readings_of first value) own
 
 sends_carried : (basis : Basis) (planned : PlannedShape) (host : HostId) (label : Label) (statement : StmtId)
-    (x : VarId) (others : List HostId) → IsOwn basis planned host label statement →
+    (x : VarId) (others : List HostId) → IsOwnStatement basis planned host label statement →
     AllCarried basis planned (map (λ other. emitted host label statement (op.Send x other)) others)
 sends_carried basis planned host label statement x [] own = tt
 sends_carried basis planned host label statement x (other ∷ others) own =
     (own, sends_carried basis planned host label statement x others own)
 
 passes_carried : (basis : Basis) (planned : PlannedShape) (host : HostId) (label : Label) (statement : StmtId)
-    (x : VarId) (others : List HostId) → IsOwn basis planned host label statement →
+    (x : VarId) (others : List HostId) → IsOwnStatement basis planned host label statement →
     AllCarried basis planned (map (λ other. emitted host label statement (op.Pass x other)) others)
 passes_carried basis planned host label statement x [] own = tt
 passes_carried basis planned host label statement x (other ∷ others) own =
@@ -239,7 +240,7 @@ passes_carried basis planned host label statement x (other ∷ others) own =
 
 arguments_carried : (basis : Basis) (planned : PlannedShape) (walked : Walked) → walked.planned ≡ planned →
     (host home : HostId) (label : Label) (statement : StmtId) (params : List VarId) (arguments : List ExprTree) →
-    IsOwn basis planned host label statement →
+    IsOwnStatement basis planned host label statement →
     AllCarried basis planned (argument_emissions walked host home label statement params arguments)
 arguments_carried basis planned walked same host home label statement params [] own = tt
 arguments_carried basis planned walked same host home label statement [] (argument ∷ others) own = tt
@@ -253,7 +254,7 @@ arguments_carried basis planned walked same host home label statement (param ∷
 
 keeps_carried : (basis : Basis) (planned : PlannedShape) (walked : Walked) (host : HostId) (label : Label)
     (statement : StmtId) (result into : Option VarId) (carried : Option HostId) →
-    IsOwn basis planned host label statement →
+    IsOwnStatement basis planned host label statement →
     AllCarried basis planned (kept_emissions walked host label statement result into carried)
 keeps_carried basis planned walked host label statement (Some result) (Some into) carried own =
     (own, sends_carried basis planned host label statement into (told_readers walked.planned host into carried) own)
@@ -263,15 +264,15 @@ keeps_carried basis planned walked host label statement None None carried own = 
 
 -- whatever rides with a call
 calls_carried : (basis : Basis) (planned : PlannedShape) (host : HostId) (label : Label) (statement : StmtId)
-    (riders : List VarId) (there : EntryId) (on : HostId) → IsOwn basis planned host label statement →
-    CarriesWell basis planned host label statement (call_with riders there on)
+    (riders : List VarId) (there : EntryId) (on : HostId) → IsOwnStatement basis planned host label statement →
+    InstructionCarriesWell basis planned host label statement (call_with riders there on)
 calls_carried basis planned host label statement [] there on own = own
 calls_carried basis planned host label statement (x ∷ riders) there on own = own
 
 call_carried : (basis : Basis) (planned : PlannedShape) (walked : Walked) → walked.planned ≡ planned →
     (around : Around) → IsBlockOf basis around.owner around.pc → (counts : Counts) (host : HostId) (statement : StmtId)
     (site : SiteId) (method : MethodId) (arguments : List ExprTree) (into : Option VarId) (carried : Option HostId)
-    (left : List StmtId) → IsOwn basis planned host around.pc statement →
+    (left : List StmtId) → IsOwnStatement basis planned host around.pc statement →
     AllCarried basis planned
     (call_emissions walked counts host around.pc statement site method arguments into carried left)
 call_carried basis planned walked same around block counts host statement site method arguments into carried left own =
@@ -299,7 +300,7 @@ call_carried basis planned walked same around block counts host statement site m
     )
 
 result_carried : (basis : Basis) (planned : PlannedShape) (walked : Walked) (host : HostId) (label : Label)
-    (statement : StmtId) (value : ExprTree) → IsOwn basis planned host label statement →
+    (statement : StmtId) (value : ExprTree) → IsOwnStatement basis planned host label statement →
     AllCarried basis planned (result_emissions walked host label statement value)
 result_carried basis planned walked host label statement value own = by walked.setting.result refl
   where
@@ -339,32 +340,37 @@ block_carried basis planned tree around (set_local heading x value rest) block k
     let pc = around.pc in
     let others = own_statements rest in
     let next = next_spot planned lane.spot heading.id others in
-    let own : IsOwn basis planned next.host around.pc heading.id =
+    let own : IsOwnStatement basis planned next.host around.pc heading.id =
     (spot_host planned lane.spot heading.id others, kept.0) in
     parts_carried basis planned _ _ _
     (move_carried basis planned walked around counts lane next (heading.id ∷ others) block)
     (then_carried basis planned (expr_emissions next.host pc heading.id 0 value) _
-    (expr_carried basis planned next.host pc heading.id 0 value own)
-    (own, sends_carried basis planned next.host pc heading.id x (told_readers planned next.host x (carried_to planned next others)) own))
-    (block_carried basis planned tree around rest block kept.1 there.1 _ (lane_behind walked counts lane next (Some x) others))
+    (expr_carried basis planned next.host pc heading.id 0 value own) (
+      own,
+      sends_carried basis planned next.host pc heading.id x
+          (told_readers planned next.host x (carried_to planned next others)) own,
+    ))
+    (block_carried basis planned tree around rest block kept.1 there.1 _
+    (lane_behind walked counts lane next (Some x) others))
 block_carried basis planned tree around (set_field heading field value rest) block kept there counts lane =
     let walked = walked_in basis.principals basis.labelled planned tree in
     let pc = around.pc in
     let others = own_statements rest in
     let next = next_spot planned lane.spot heading.id others in
-    let own : IsOwn basis planned next.host around.pc heading.id =
+    let own : IsOwnStatement basis planned next.host around.pc heading.id =
     (spot_host planned lane.spot heading.id others, kept.0) in
     parts_carried basis planned _ _ _
     (move_carried basis planned walked around counts lane next (heading.id ∷ others) block)
     (then_carried basis planned (expr_emissions next.host pc heading.id 0 value) _
     (expr_carried basis planned next.host pc heading.id 0 value own) (own, tt))
-    (block_carried basis planned tree around rest block kept.1 there.1 _ (lane_behind walked counts lane next None others))
+    (block_carried basis planned tree around rest block kept.1 there.1 _
+    (lane_behind walked counts lane next None others))
 block_carried basis planned tree around (set_element heading field index value rest) block kept there counts lane =
     let walked = walked_in basis.principals basis.labelled planned tree in
     let pc = around.pc in
     let others = own_statements rest in
     let next = next_spot planned lane.spot heading.id others in
-    let own : IsOwn basis planned next.host around.pc heading.id =
+    let own : IsOwnStatement basis planned next.host around.pc heading.id =
     (spot_host planned lane.spot heading.id others, kept.0) in
     let one = expr_emissions next.host pc heading.id 0 index in
     let two = expr_emissions next.host pc heading.id (reads_in index) value in
@@ -373,7 +379,8 @@ block_carried basis planned tree around (set_element heading field index value r
     (then_carried basis planned (one ++ two) _
     (then_carried basis planned one two (expr_carried basis planned next.host pc heading.id 0 index own)
     (expr_carried basis planned next.host pc heading.id (reads_in index) value own)) (own, tt))
-    (block_carried basis planned tree around rest block kept.1 there.1 _ (lane_behind walked counts lane next None others))
+    (block_carried basis planned tree around rest block kept.1 there.1 _
+    (lane_behind walked counts lane next None others))
 block_carried basis planned tree around (branch heading guard first second rest) block kept there counts lane =
     let walked = walked_in basis.principals basis.labelled planned tree in
     let pc = around.pc in
@@ -382,7 +389,7 @@ block_carried basis planned tree around (branch heading guard first second rest)
     let host = next.host in
     let here = counts_after counts (move_emissions walked around counts lane next (heading.id ∷ others)) in
     let inside = inside_of walked around heading guard in
-    let own : IsOwn basis planned next.host around.pc heading.id =
+    let own : IsOwnStatement basis planned next.host around.pc heading.id =
     (spot_host planned lane.spot heading.id others, kept.0) in
     let within : IsBlockOf basis heading.id inside.pc =
     inr (
@@ -426,7 +433,7 @@ block_carried basis planned tree around (loop heading guard inner rest) block ke
     let host = next.host in
     let here = counts_after counts (move_emissions walked around counts lane next (heading.id ∷ others)) in
     let inside = inside_of walked around heading guard in
-    let own : IsOwn basis planned next.host inside.pc heading.id =
+    let own : IsOwnStatement basis planned next.host inside.pc heading.id =
     (spot_host planned lane.spot heading.id others, kept.0) in
     let within : IsBlockOf basis heading.id inside.pc =
     inr (loop heading guard inner done, there.0, refl, sym kept.0) in
@@ -453,24 +460,26 @@ block_carried basis planned tree around (call heading site method arguments into
     let walked = walked_in basis.principals basis.labelled planned tree in
     let others = own_statements rest in
     let next = next_spot planned lane.spot heading.id others in
-    let own : IsOwn basis planned next.host around.pc heading.id =
+    let own : IsOwnStatement basis planned next.host around.pc heading.id =
     (spot_host planned lane.spot heading.id others, kept.0) in
     parts_carried basis planned _ _ _
     (move_carried basis planned walked around counts lane next (heading.id ∷ others) block)
     (call_carried basis planned walked refl around block
     (counts_after counts (move_emissions walked around counts lane next (heading.id ∷ others))) next.host heading.id
     site method arguments into (carried_to planned next others) (under_token planned next others) own)
-    (block_carried basis planned tree around rest block kept.1 there.1 _ (lane_behind walked counts lane next into others))
+    (block_carried basis planned tree around rest block kept.1 there.1 _
+    (lane_behind walked counts lane next into others))
 block_carried basis planned tree around (give_back heading value rest) block kept there counts lane =
     let walked = walked_in basis.principals basis.labelled planned tree in
     let pc = around.pc in
     let others = own_statements rest in
     let next = next_spot planned lane.spot heading.id others in
-    let own : IsOwn basis planned next.host around.pc heading.id =
+    let own : IsOwnStatement basis planned next.host around.pc heading.id =
     (spot_host planned lane.spot heading.id others, kept.0) in
     parts_carried basis planned _ _ _
     (move_carried basis planned walked around counts lane next (heading.id ∷ others) block)
     (then_carried basis planned (expr_emissions next.host pc heading.id 0 value) _
     (expr_carried basis planned next.host pc heading.id 0 value own)
     (result_carried basis planned walked next.host pc heading.id value own))
-    (block_carried basis planned tree around rest block kept.1 there.1 _ (lane_behind walked counts lane next None others))
+    (block_carried basis planned tree around rest block kept.1 there.1 _
+    (lane_behind walked counts lane next None others))

@@ -25,8 +25,8 @@ use Rattle.msg_cost.specs.Moves.{PlannedShape, home_of}
 use Rattle.split_rules.specs.Placed.{PlacedProgram, planned_from}
 use Rattle.split_rules.specs.Allowed.{IsAllowed}
 use Rattle.split_rules.specs.Emissions.{Emission, instruction, entry, Counts, counts_after}
-use Rattle.split_rules.specs.Held.{IsHeld}
-use Rattle.split_rules.specs.Positions.{IsIn, IsOf, all_statements}
+use Rattle.split_rules.specs.Held.{IsWellHeld}
+use Rattle.split_rules.specs.Positions.{IsStatementOfMethod, IsOf, all_statements}
 use Rattle.split_rules.specs.SplitCode.{landed, code_labels}
 use Rattle.split_rules.specs.SplitCode.{code_of_emissions}
 use Rattle.split_rules.specs.Splittable.{IsSplittable}
@@ -42,7 +42,7 @@ use Rattle.split_rules.proofs.SoundInstructions.{instruction_made}
 use Rattle.split_rules.proofs.SoundParts.{entry_made}
 use Rattle.split_rules.proofs.ToldCode.{emission_labelled}
 use Rattle.split_shades.specs.Basis.{Basis}
-use Rattle.split_shades.specs.Carried.{CarriesWell, IsCarried, IsBlockOf}
+use Rattle.split_shades.specs.Carried.{InstructionCarriesWell, IsCarried, IsBlockOf}
 use Rattle.split_shades.proofs.BasisLabels.{basis_of}
 use Rattle.split_shades.proofs.CarriedBlocks.{BlockKept, block_kept, AllCarried, then_carried, block_carried}
 
@@ -71,7 +71,8 @@ methods_kept principals labelled final are (method ∷ methods) labels end value
 
 -- what is in a method is of the program
 pub in_program : (labelled : Labelled) (method : MethodId) (statements : List BlockTree) →
-    AllByRecursion (IsIn labelled.program method) statements → AllByRecursion (IsOf labelled.program) statements
+    AllByRecursion (IsStatementOfMethod labelled.program method) statements →
+    AllByRecursion (IsOf labelled.program) statements
 in_program labelled method [] all = tt
 in_program labelled method (statement ∷ others) all = ((method, all.0), in_program labelled method others all.1)
 
@@ -129,7 +130,7 @@ from_first methods place tree is =
     let P : ℕ → Type 0 = λ one. slice_get methods one ≡ Some tree in
     subst P none is
 
-pub program_kept : (placed : PlacedProgram) → IsAllowed placed → IsHeld placed →
+pub program_kept : (placed : PlacedProgram) → IsAllowed placed → IsWellHeld placed →
     AllByRecursion (MethodKept placed.hosts.principals placed.labelled) placed.labelled.program.methods
 program_kept placed allowed held =
     let program = placed.labelled.program in
@@ -138,7 +139,7 @@ program_kept placed allowed held =
     methods_kept placed.hosts.principals placed.labelled final allowed.var_labels program.methods declared refl
     held.values (labels_kept placed.labelled placed.hosts.principals allowed.statements held.pc)
 
-pub program_carried : (placed : PlacedProgram) → IsSplittable placed → IsAllowed placed → IsHeld placed →
+pub program_carried : (placed : PlacedProgram) → IsSplittable placed → IsAllowed placed → IsWellHeld placed →
     let planned = planned_from placed in
     AllCarried (basis_of placed.hosts.principals placed.labelled) planned (program_emissions placed)
 program_carried placed splittable allowed held =
@@ -172,14 +173,14 @@ pub instructions_carried : (basis : Basis) (hosts : HostsShape) (planned : Plann
     let code = code_of_emissions basis.labelled hosts planned emissions in
     instruction_at code me place ≡ Some there →
     (label : Label) × (label_at code there.label ≡ Some label)
-    × CarriesWell basis planned me label there.statement there.op
+    × InstructionCarriesWell basis planned me label there.statement there.op
 instructions_carried basis hosts planned emissions all me place there is =
     let made = instruction_made basis.labelled hosts planned emissions me place there is in
     let one = made.1 in
     let so = found me emissions place one.0 one.1 in
     let P : List Emission → Type 0 = λ list. AllCarried basis planned list in
     let own = one_carried basis planned so.before (instruction one.0) so.behind (subst P so.is all) in
-    let Q : HostId → Type 0 = λ host. CarriesWell basis planned host one.0.label one.0.statement one.0.op in
+    let Q : HostId → Type 0 = λ host. InstructionCarriesWell basis planned host one.0.label one.0.statement one.0.op in
     let label_is = emission_labelled basis.labelled hosts planned emissions so.before (instruction one.0) so.behind
     so.is one.0.label (inl refl) in
     subst Carries one.2 (
@@ -193,11 +194,11 @@ instructions_carried basis hosts planned emissions all me place there is =
 
     Carries : Instr → Type 0
     Carries it = (label : Label) × (label_at code it.label ≡ Some label)
-        × CarriesWell basis planned me label it.statement it.op
+        × InstructionCarriesWell basis planned me label it.statement it.op
 
     landed_carries : (on : HostId) (label : Label) (statement : StmtId) (what : Op) →
-        CarriesWell basis planned me label statement what →
-        CarriesWell basis planned me label statement (landed on emissions what)
+        InstructionCarriesWell basis planned me label statement what →
+        InstructionCarriesWell basis planned me label statement (landed on emissions what)
     landed_carries on label statement (op.Branch guard number) carries = carries
     landed_carries on label statement other carries = carries
 

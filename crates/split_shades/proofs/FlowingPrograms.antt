@@ -15,7 +15,7 @@ use Rattle.need_labels.specs.Needs.{block_uses, method_uses, statement_uses}
 use Rattle.msg_cost.specs.Moves.{PlannedShape}
 use Rattle.split_rules.specs.Placed.{PlacedProgram, planned_from}
 use Rattle.split_rules.specs.Allowed.{IsAllowed}
-use Rattle.split_rules.specs.Held.{IsHeld}
+use Rattle.split_rules.specs.Held.{IsWellHeld}
 use Rattle.split_rules.specs.Splittable.{IsSplittable}
 use Rattle.split_rules.proofs.AllowedTyping.{by_recursion, each_there, met_from, methods_stay}
 use Rattle.split_rules.proofs.BackedLabels.{all_first, all_second}
@@ -59,7 +59,7 @@ methods_flow principals labelled planned results final are place (method ∷ met
           (all_second (IsUseWell labelled planned principals) own_uses _ uses.1),
     )
 
-pub program_flows : (placed : PlacedProgram) → IsSplittable placed → IsAllowed placed → IsHeld placed →
+pub program_flows : (placed : PlacedProgram) → IsSplittable placed → IsAllowed placed → IsWellHeld placed →
     AreResultsLabelled placed.labelled.program →
     AllFlow (record { principals = placed.hosts.principals; labelled = placed.labelled }) (planned_from placed)
 program_flows placed splittable allowed held results =

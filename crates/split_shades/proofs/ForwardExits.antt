@@ -14,7 +14,8 @@ use Rattle.split_rules.specs.Emissions.{Emission, instruction, entry, stands, la
 use Rattle.split_rules.specs.SplitCode.{emitted_on, before_landing}
 use Rattle.split_rules.proofs.Places.{emitted_append}
 use Rattle.split_shades.specs.Shades.{Shade, EntryShade, Begun, Ahead, ahead_of}
-use Rattle.split_shades.specs.Shading.{Scene, PushesAt, Pushes, Follows, Divides, nowhere, here, Known, ShadedOp}
+use Rattle.split_shades.specs.Shading.{Scene, PushesAt, PushesInShade, FollowsInShade, DividesInShade, nowhere, here}
+use Rattle.split_shades.specs.Shading.{ShadeKnown, ShadedOp}
 use Rattle.split_shades.specs.Shading.{IsShaded}
 use Rattle.split_shades.specs.Shading.{Shaded, AreShaded}
 use Rattle.split_shades.proofs.ShadedPlaces.{not_nowhere, here_host}
@@ -37,7 +38,7 @@ not_landed_on own (stands host number ∷ xs) ys one two = not_landed_on own xs 
 not_landed_on own (lands host number ∷ xs) ys one two = (one.0, not_landed_on own xs ys one.1 two)
 
 -- Of no branch that is still to come is it known where it leads, nor of the loop whose guard is ahead.
-record IsForward (before : List Emission) (known : Known) : Type 0 where
+record IsForward (before : List Emission) (known : ShadeKnown) : Type 0 where
   fresh : (own : ℕ) → length known.branches ≤ own → NotLanded own before
   guards : (own : ℕ) (host : HostId) (ahead : Ahead) (pc : Label) → known.place ≡ here host ahead →
       ahead.begun ≡ Some (record { pc = pc; guard = Some own }) → NotLanded own before
@@ -65,13 +66,13 @@ pushes_none None entries shade number next pushes = ap (λ ahead. ahead.begun) p
 pushes_none (Some guard) entries shade number next pushes = ap (λ ahead. ahead.begun) pushes.2
 
 push_none : (scene : Scene) (entries : List EntryShade) (me : HostId) (calls : Bool) (shade : Shade) (number : ℕ)
-    (next : Ahead) → Pushes scene entries me calls shade number next → next.begun ≡ None
+    (next : Ahead) → PushesInShade scene entries me calls shade number next → next.begun ≡ None
 push_none scene entries me false shade number next pushes =
     pushes_none shade.guard entries shade number next pushes
 push_none scene entries me true shade number next pushes = ap (λ ahead. ahead.begun) pushes.goes
 
 follows_guard : (scene : Scene) (entries : List EntryShade) (me : HostId) (shade : Shade) (what : Op) (next : Ahead)
-    (own : ℕ) → Follows scene entries me shade what next → BeginsGuard next own → shade.guard ≡ Some own
+    (own : ℕ) → FollowsInShade scene entries me shade what next → BeginsGuard next own → shade.guard ≡ Some own
 follows_guard scene entries me shade (op.Read field index) next own law begins =
     same_guard shade.pc begins.0 shade.guard own (sym (ap (λ ahead. ahead.begun) law.goes) ∙ begins.1)
 follows_guard scene entries me shade (op.Let x value) next own law begins =
@@ -95,14 +96,14 @@ follows_guard scene entries me shade (op.Ret x value) next own law begins =
 follows_guard scene entries me shade other next own law begins = absurd law
 
 divides_guard : (scene : Scene) (shade : Shade) (nodes : List Node) (guard : Option ℕ) (next target : Ahead) (own : ℕ) →
-    Divides scene shade nodes guard next target → BeginsGuard next own → guard ≡ Some own
+    DividesInShade scene shade nodes guard next target → BeginsGuard next own → guard ≡ Some own
 divides_guard scene shade nodes None next target own law begins =
     absurd (none_begins next own (ap (λ ahead. ahead.begun) law.1) begins)
 divides_guard scene shade nodes (Some guard) next target own law begins =
     same_guard shade.pc begins.0 (Some guard) own (sym (ap (λ ahead. ahead.begun) law.1) ∙ begins.1)
 
 -- a guard that is ahead behind an instruction is the one that it evaluates
-op_guard : (scene : Scene) (known : Known) (me : HostId) (shade : Shade) (what : Op) (after : Known) →
+op_guard : (scene : Scene) (known : ShadeKnown) (me : HostId) (shade : Shade) (what : Op) (after : ShadeKnown) →
     ShadedOp scene known me shade what after → (own : ℕ) (host : HostId) (ahead : Ahead) →
     after.place ≡ here host ahead → BeginsGuard ahead own → shade.guard ≡ Some own
 op_guard scene known me shade (op.Branch guard number) after law own host ahead place_is begins =
@@ -125,7 +126,7 @@ op_guard scene known me shade other after law own host ahead place_is begins =
     follows_guard scene known.entries me shade other law.0 own law.1 (subst P (sym same) begins)
 
 -- no guard is evaluated of a loop of which it is known where its branch leads
-guard_waits : (scene : Scene) (before : List Emission) (known : Known) (one : Emitted) (after : Known) →
+guard_waits : (scene : Scene) (before : List Emission) (known : ShadeKnown) (one : Emitted) (after : ShadeKnown) →
     IsForward before known → (so : IsShaded scene known one after) → (own : ℕ) → so.shade.guard ≡ Some own →
     NotLanded own before
 guard_waits scene before known one after forward so own is =
@@ -139,7 +140,7 @@ no_fewer : (what : Op) (counts : Counts) → counts.branches ≤ (one_more_branc
 no_fewer (op.Branch guard number) counts = omega arith
 no_fewer other counts = omega arith
 
-forward_step : (scene : Scene) (before : List Emission) (known : Known) (x : Emission) (after : Known) →
+forward_step : (scene : Scene) (before : List Emission) (known : ShadeKnown) (x : Emission) (after : ShadeKnown) →
     IsForward before known → Shaded scene known x after → IsForward (before ++ x ∷ []) after
 forward_step scene before known (instruction one) after forward so = record {
   fresh = λ own past.
@@ -154,7 +155,7 @@ forward_step scene before known (instruction one) after forward so = record {
 }
 forward_step scene before known (entry named) after forward so = record {
   fresh = λ own past.
-      let many = ap {A = Known} (λ one. length one.branches) so.3 in
+      let many = ap {A = ShadeKnown} (λ one. length one.branches) so.3 in
       not_landed_on own before (entry named ∷ []) (forward.fresh own (omega (arith, many, past))) tt;
   guards = λ own host ahead pc place_is begun.
       not_landed_on own before (entry named ∷ [])
@@ -162,7 +163,7 @@ forward_step scene before known (entry named) after forward so = record {
 }
 forward_step scene before known (stands on number) after forward so = record {
   fresh = λ own past.
-      let many = ap {A = Known} (λ one. length one.branches) so.3 in
+      let many = ap {A = ShadeKnown} (λ one. length one.branches) so.3 in
       not_landed_on own before (stands on number ∷ []) (forward.fresh own (omega (arith, many, past))) tt;
   guards = λ own host ahead pc place_is begun.
       let same = (here_host on host (ahead_of so.0) ahead (sym (ap (λ one. one.place) so.3) ∙ place_is)).1 in
@@ -185,7 +186,7 @@ forward_step scene before known (stands on number) after forward so = record {
     ]
 forward_step scene before known (lands on number) after forward so = record {
   fresh = λ own past.
-      let many = ap {A = Known} (λ one. length one.branches) so.3 in
+      let many = ap {A = ShadeKnown} (λ one. length one.branches) so.3 in
       let within = slice_get_within known.branches number so.0 so.1 in
       not_landed_on own before (lands on number ∷ []) (forward.fresh own (omega (arith, many, past)))
       ((λ same. omega (arith, many, past, within, same)), tt);
@@ -196,10 +197,10 @@ forward_step scene before known (lands on number) after forward so = record {
       absurd (cc);
 }
 
-forward_all : (scene : Scene) (before : List Emission) (first : Known) (xs : List Emission) (last : Known) →
+forward_all : (scene : Scene) (before : List Emission) (first : ShadeKnown) (xs : List Emission) (last : ShadeKnown) →
     IsForward before first → AreShaded scene first xs last → IsForward (before ++ xs) last
 forward_all scene before first [] last forward so =
-    let P : Known → Type 0 = λ known. IsForward (before ++ []) known in
+    let P : ShadeKnown → Type 0 = λ known. IsForward (before ++ []) known in
     let Q : List Emission → Type 0 = λ list. IsForward list first in
     subst P so (subst Q (sym (append-nil before)) forward)
 forward_all scene before first (x ∷ xs) last forward so =
@@ -208,7 +209,7 @@ forward_all scene before first (x ∷ xs) last forward so =
     (forward_all scene (before ++ x ∷ []) so.0 xs last (forward_step scene before first x so.0 forward so.1) so.2)
 
 -- at the start nothing goes on
-forward_start : (known : Known) → known.place ≡ nowhere → IsForward [] known
+forward_start : (known : ShadeKnown) → known.place ≡ nowhere → IsForward [] known
 forward_start known none = record {
   fresh = λ own past. tt;
   guards = λ own host ahead pc place_is begun. absurd (not_nowhere host ahead (sym place_is ∙ none));
@@ -230,8 +231,9 @@ landing_behind own (lands host number ∷ before) one behind not =
     rw (ne_eqb number own not.0) (ap (λ list. lands host number ∷ list) (landing_behind own before one behind not.1))
 
 -- the branch of a loop leads behind each instruction of its guard
-pub exit_behind : (scene : Scene) (me : HostId) (first : Known) (before : List Emission) (known : Known) (one : Emitted)
-    (behind : List Emission) (after : Known) → first.place ≡ nowhere → AreShaded scene first before known →
+pub exit_behind : (scene : Scene) (me : HostId) (first : ShadeKnown) (before : List Emission) (known : ShadeKnown)
+    (one : Emitted)
+    (behind : List Emission) (after : ShadeKnown) → first.place ≡ nowhere → AreShaded scene first before known →
     (so : IsShaded scene known one after) → one.host ≡ me →
     IfSome so.shade.guard (λ own. length (emitted_on me before)
     < length (emitted_on me (before_landing own (before ++ instruction one ∷ behind))))

@@ -21,7 +21,7 @@ use Rattle.msg_cost.specs.Moves.{PlannedShape}
 use Rattle.split_rules.specs.Placed.{PlacedProgram, planned_from}
 use Rattle.split_rules.specs.Allowed.{IsAllowed}
 use Rattle.split_rules.specs.Emissions.{Emission}
-use Rattle.split_rules.specs.Held.{IsHeld}
+use Rattle.split_rules.specs.Held.{IsWellHeld}
 use Rattle.split_rules.specs.SplitCode.{code_labels, code_variable, code_of_emissions}
 use Rattle.split_rules.specs.SplitCode.{split_code}
 use Rattle.split_rules.specs.Splittable.{IsSplittable}
@@ -76,7 +76,7 @@ field_known placed emissions premises field there is =
     let Q : HostId → Type 0 = λ host. MaySee (label_at code there.label) (label_of_host code host) in
     (label_is, host_is, subst Q (sym host_is) (subst P (sym label_is) sees))
 
-pub split_is_known : (placed : PlacedProgram) → IsSplittable placed → IsAllowed placed → IsHeld placed →
+pub split_is_known : (placed : PlacedProgram) → IsSplittable placed → IsAllowed placed → IsWellHeld placed →
     AreKnownInCode (record { principals = placed.hosts.principals; labelled = placed.labelled })
     (planned_from placed) (split_code placed)
 split_is_known placed splittable allowed held =

@@ -17,11 +17,13 @@ use Rattle.need_labels.specs.Labelled.{pc_of}
 use Rattle.msg_cost.specs.declared.spot.Spot.{Spot}
 use Rattle.msg_cost.specs.Moves.{PlannedShape, is_same, end_of, next_spot, carried_to, own_statements, called_home}
 use Rattle.split_rules.specs.Emissions.{Emission, instruction, entry, stands, lands, Counts, counts_after, counts_with}
-use Rattle.split_rules.specs.Expressions.{Reading, readings_of, reads_in}
+use Rattle.split_rules.specs.Expressions.{ElementReading, readings_of, reads_in}
 use Rattle.split_rules.specs.Positions.{IsOf, all_statements}
-use Rattle.split_rules.specs.Walk.{Walked, Around, Lane, walked_in, lane_on, lane_behind, entry_id, emitted, read_emissions}
+use Rattle.split_rules.specs.Walk.{Walked, Around, Lane, walked_in, lane_on, lane_behind, entry_id, emitted}
+use Rattle.split_rules.specs.Walk.{read_emissions}
 use Rattle.split_rules.specs.Walk.{under_token, expr_emissions, told_readers, leave_emissions, enter_emissions}
-use Rattle.split_rules.specs.Walk.{go_with, call_with, riding_params, move_emissions, argument_emissions, kept_emissions, call_emissions, result_emissions}
+use Rattle.split_rules.specs.Walk.{go_with, call_with, riding_params, move_emissions, argument_emissions}
+use Rattle.split_rules.specs.Walk.{kept_emissions, call_emissions, result_emissions}
 use Rattle.split_rules.specs.Walk.{block_emissions}
 use Rattle.split_rules.proofs.BackedLabels.{all_first, all_second, all_both}
 use Rattle.split_rules.proofs.WalkedBlocks.{inside_of, branch_front, branch_own, loop_front, loop_own}
@@ -152,7 +154,7 @@ move_named has basis walked around counts lane next statements block =
 -- ---- statements
 
 reads_named : (has : ℕ → Label → Type 0) (basis : Basis) (host : HostId) (label : Label) (statement : StmtId)
-    (readings : List Reading) → AllNamed has basis (read_emissions host label statement readings)
+    (readings : List ElementReading) → AllNamed has basis (read_emissions host label statement readings)
 reads_named has basis host label statement [] = tt
 reads_named has basis host label statement (reading ∷ readings) =
     (tt, reads_named has basis host label statement readings)
@@ -283,7 +285,8 @@ block_named has basis planned tree around (set_local heading x value rest) block
       sends_named has basis next.host pc heading.id x
           (told_readers planned next.host x (carried_to planned next others)),
     ))
-    (block_named has basis planned tree around rest block kept.1 there.1 _ (lane_behind walked counts lane next (Some x) others))
+    (block_named has basis planned tree around rest block kept.1 there.1 _
+    (lane_behind walked counts lane next (Some x) others))
 block_named has basis planned tree around (set_field heading field value rest) block kept there counts lane =
     let walked = walked_in basis.principals basis.labelled planned tree in
     let pc = around.pc in
@@ -293,7 +296,8 @@ block_named has basis planned tree around (set_field heading field value rest) b
     (move_named has basis walked around counts lane next (heading.id ∷ others) block)
     (λ told. all_both (IsWellNamed has basis) (expr_emissions next.host pc heading.id 0 value) _
     (expr_named has basis next.host pc heading.id 0 value) (tt, tt))
-    (block_named has basis planned tree around rest block kept.1 there.1 _ (lane_behind walked counts lane next None others))
+    (block_named has basis planned tree around rest block kept.1 there.1 _
+    (lane_behind walked counts lane next None others))
 block_named has basis planned tree around (set_element heading field index value rest) block kept there counts lane =
     let walked = walked_in basis.principals basis.labelled planned tree in
     let pc = around.pc in
@@ -306,7 +310,8 @@ block_named has basis planned tree around (set_element heading field index value
     (all_both (IsWellNamed has basis) (expr_emissions next.host pc heading.id 0 index) _
     (expr_named has basis next.host pc heading.id 0 index)
     (expr_named has basis next.host pc heading.id (reads_in index) value)) (tt, tt))
-    (block_named has basis planned tree around rest block kept.1 there.1 _ (lane_behind walked counts lane next None others))
+    (block_named has basis planned tree around rest block kept.1 there.1 _
+    (lane_behind walked counts lane next None others))
 block_named has basis planned tree around (branch heading guard first second rest) block kept there counts lane =
     let walked = walked_in basis.principals basis.labelled planned tree in
     let pc = around.pc in
@@ -390,7 +395,8 @@ block_named has basis planned tree around (call heading site method arguments in
     (counts_after counts (move_emissions walked around counts lane next (heading.id ∷ others))) next.host around.pc
     heading.id site method arguments into (carried_to planned next others) (under_token planned next others) pushed
     (call heading site method arguments into done, there.0, refl, refl))
-    (block_named has basis planned tree around rest block kept.1 there.1 _ (lane_behind walked counts lane next into others))
+    (block_named has basis planned tree around rest block kept.1 there.1 _
+    (lane_behind walked counts lane next into others))
 block_named has basis planned tree around (give_back heading value rest) block kept there counts lane =
     let walked = walked_in basis.principals basis.labelled planned tree in
     let pc = around.pc in
@@ -401,4 +407,5 @@ block_named has basis planned tree around (give_back heading value rest) block k
     (λ told. all_both (IsWellNamed has basis) (expr_emissions next.host pc heading.id 0 value) _
     (expr_named has basis next.host pc heading.id 0 value)
     (result_named has basis walked next.host pc heading.id value))
-    (block_named has basis planned tree around rest block kept.1 there.1 _ (lane_behind walked counts lane next None others))
+    (block_named has basis planned tree around rest block kept.1 there.1 _
+    (lane_behind walked counts lane next None others))

@@ -21,8 +21,8 @@ use Rattle.msg_cost.specs.Moves.{PlannedShape, home_of}
 use Rattle.split_rules.specs.Placed.{PlacedProgram, planned_from}
 use Rattle.split_rules.specs.Allowed.{IsAllowed}
 use Rattle.split_rules.specs.Emissions.{Emission, instruction, entry, Counts, counts_after, counts_with}
-use Rattle.split_rules.specs.Emissions.{one_more_branch, stands, lands, Named}
-use Rattle.split_rules.specs.Held.{IsHeld}
+use Rattle.split_rules.specs.Emissions.{one_more_branch, stands, lands, NamedEntry}
+use Rattle.split_rules.specs.Held.{IsWellHeld}
 use Rattle.split_rules.specs.Positions.{all_statements}
 use Rattle.split_rules.specs.SplitCode.{landed, code_labels, code_of_emissions}
 use Rattle.split_rules.specs.SplitCode.{split_code, entries_in}
@@ -40,7 +40,7 @@ use Rattle.split_rules.proofs.CodeItems.{code_entry}
 use Rattle.split_rules.proofs.WalkedMoves.{at_last}
 use Rattle.split_rules.proofs.WalkedCalls.{still_there}
 use Rattle.split_shades.specs.Basis.{Basis}
-use Rattle.split_shades.specs.Carried.{NamesWell, HasLabel, AreCarried}
+use Rattle.split_shades.specs.Carried.{NamesWell, EntryHasLabel, AreCarried}
 use Rattle.split_shades.proofs.BasisLabels.{basis_of}
 use Rattle.split_shades.proofs.CarriedCode.{MethodKept, from_first, program_kept, in_program, program_carried}
 use Rattle.split_shades.proofs.CarriedCode.{instructions_carried}
@@ -86,7 +86,7 @@ entries_named has basis planned (method ∷ methods) = (tt, entries_named has ba
 -- ---- programs
 
 program_named : (has : ℕ → Label → Type 0) (placed : PlacedProgram) →
-    IsSplittable placed → IsAllowed placed → IsHeld placed →
+    IsSplittable placed → IsAllowed placed → IsWellHeld placed →
     let planned = planned_from placed in
     AreNamed has (basis_of placed.hosts.principals placed.labelled) (record { entries = 0; branches = 0 })
     (program_emissions placed)
@@ -114,9 +114,9 @@ more_entries counts (op.Branch guard number) = refl
 more_entries counts other = refl
 
 -- what is told of all entries of a list is told of those of a walk behind these
-told_behind : (has : ℕ → Label → Type 0) (front : List Named) (emissions : List Emission) (counts : Counts) →
+told_behind : (has : ℕ → Label → Type 0) (front : List NamedEntry) (emissions : List Emission) (counts : Counts) →
     counts.entries ≡ length front →
-    ((number : ℕ) (named : Named) → slice_get (front ++ entries_in emissions) number ≡ Some named →
+    ((number : ℕ) (named : NamedEntry) → slice_get (front ++ entries_in emissions) number ≡ Some named →
     has number named.label) → AreTold has counts emissions
 told_behind has front [] counts many all = tt
 told_behind has front (instruction one ∷ others) counts many all =
@@ -130,7 +130,7 @@ told_behind has front (entry named ∷ others) counts many all =
           (λ number one is. all number one (ap (λ list. slice_get list number) (sym same) ∙ is)),
     )
   where
-    one_longer : (list : List Named) (one : Named) → length (list ++ one ∷ []) ≡ suc (length list)
+    one_longer : (list : List NamedEntry) (one : NamedEntry) → length (list ++ one ∷ []) ≡ suc (length list)
     one_longer [] one = refl
     one_longer (first ∷ list) one = ap suc (one_longer list one)
 told_behind has front (stands host number ∷ others) counts many all =
@@ -139,8 +139,8 @@ told_behind has front (lands host number ∷ others) counts many all =
     (tt, told_behind has front others counts many all)
 
 has_label : (labelled : Labelled) (hosts : HostsShape) (planned : PlannedShape) (emissions : List Emission)
-    (number : ℕ) (named : Named) → slice_get (entries_in emissions) number ≡ Some named →
-    HasLabel (code_of_emissions labelled hosts planned emissions) number named.label
+    (number : ℕ) (named : NamedEntry) → slice_get (entries_in emissions) number ≡ Some named →
+    EntryHasLabel (code_of_emissions labelled hosts planned emissions) number named.label
 has_label labelled hosts planned emissions number named is =
     let labels = code_labels labelled emissions in
     let so = found_entry emissions number named is in (
@@ -152,10 +152,10 @@ has_label labelled hosts planned emissions number named is =
 
 pub instructions_named : (basis : Basis) (hosts : HostsShape) (planned : PlannedShape) (emissions : List Emission) →
     let code = code_of_emissions basis.labelled hosts planned emissions in
-    AreNamed (HasLabel code) basis (record { entries = 0; branches = 0 }) emissions →
+    AreNamed (EntryHasLabel code) basis (record { entries = 0; branches = 0 }) emissions →
     (me : HostId) (place : ℕ) (there : Instr) → instruction_at code me place ≡ Some there →
     (label : Label) × (label_at code there.label ≡ Some label)
-    × NamesWell (HasLabel code) basis label there.statement there.op
+    × NamesWell (EntryHasLabel code) basis label there.statement there.op
 instructions_named basis hosts planned emissions named me place there is =
     let made = instruction_made basis.labelled hosts planned emissions me place there is in
     let one = made.1 in
@@ -175,7 +175,7 @@ instructions_named basis hosts planned emissions named me place there is =
     code = code_of_emissions basis.labelled hosts planned emissions
 
     has : ℕ → Label → Type 0
-    has = HasLabel (code_of_emissions basis.labelled hosts planned emissions)
+    has = EntryHasLabel (code_of_emissions basis.labelled hosts planned emissions)
 
     Names : Instr → Type 0
     Names it = (label : Label) × (label_at code it.label ≡ Some label)
@@ -191,22 +191,22 @@ instructions_named basis hosts planned emissions named me place there is =
     landed_names on label statement (op.Branch guard number) names = names
     landed_names on label statement other names = names
 
-pub split_named : (placed : PlacedProgram) → IsSplittable placed → IsAllowed placed → IsHeld placed →
+pub split_named : (placed : PlacedProgram) → IsSplittable placed → IsAllowed placed → IsWellHeld placed →
     let code = split_code placed in
     (me : HostId) (place : ℕ) (there : Instr) → instruction_at code me place ≡ Some there →
     (label : Label) × (label_at code there.label ≡ Some label)
-    × NamesWell (HasLabel code) (basis_of placed.hosts.principals placed.labelled) label there.statement there.op
+    × NamesWell (EntryHasLabel code) (basis_of placed.hosts.principals placed.labelled) label there.statement there.op
 split_named placed splittable allowed held =
     let planned = planned_from placed in
     instructions_named (basis_of placed.hosts.principals placed.labelled) placed.hosts planned
     (program_emissions placed)
-    (program_named (HasLabel (split_code placed)) placed splittable allowed held)
+    (program_named (EntryHasLabel (split_code placed)) placed splittable allowed held)
 
 -- ---- the entries of methods
 
 method_label : (planned : PlannedShape) (methods : List MethodTree) (place : ℕ) (tree : MethodTree) →
     slice_get methods place ≡ Some tree →
-    (named : Named) × (slice_get (entries_in (map (method_entry planned) methods)) place ≡ Some named)
+    (named : NamedEntry) × (slice_get (entries_in (map (method_entry planned) methods)) place ≡ Some named)
     × (named.label ≡ tree.begin)
 method_label planned [] place tree is = absurd (cc)
 method_label planned (method ∷ methods) zero tree is =
@@ -217,11 +217,11 @@ method_label planned (method ∷ methods) zero tree is =
     )
 method_label planned (method ∷ methods) (suc place) tree is = method_label planned methods place tree is
 
-front_labelled : (placed : PlacedProgram) → IsSplittable placed → (number : ℕ) (named : Named) →
+front_labelled : (placed : PlacedProgram) → IsSplittable placed → (number : ℕ) (named : NamedEntry) →
     let planned = planned_from placed in
     (main : MethodTree) → method_at placed.labelled.program placed.labelled.program.main ≡ Some main →
     slice_get (entries_in (front_of planned main placed.labelled.program.methods)) number ≡ Some named →
-    HasLabel (split_code placed) number named.label
+    EntryHasLabel (split_code placed) number named.label
 front_labelled placed splittable number named main main_is is =
     let planned = planned_from placed in
     let front = front_of planned main placed.labelled.program.methods in
@@ -240,31 +240,31 @@ front_labelled placed splittable number named main main_is is =
 
 pub method_named : (placed : PlacedProgram) → IsSplittable placed → (place : ℕ) (tree : MethodTree) →
     slice_get placed.labelled.program.methods place ≡ Some tree →
-    HasLabel (split_code placed) (suc place) tree.begin
+    EntryHasLabel (split_code placed) (suc place) tree.begin
 method_named placed splittable place tree is =
     let planned = planned_from placed in
     let main = splittable.numbered.main in
     let own = method_label planned placed.labelled.program.methods place tree is in
-    let P : Label → Type 0 = λ label. HasLabel (split_code placed) (suc place) label in
+    let P : Label → Type 0 = λ label. EntryHasLabel (split_code placed) (suc place) label in
     subst P own.2 (front_labelled placed splittable (suc place) own.0 main.0 main.1 own.1)
 
 pub halt_named : (placed : PlacedProgram) → IsSplittable placed →
-    HasLabel (split_code placed) 0 (begin_label (method_at placed.labelled.program placed.labelled.program.main))
+    EntryHasLabel (split_code placed) 0 (begin_label (method_at placed.labelled.program placed.labelled.program.main))
 halt_named placed splittable =
     let planned = planned_from placed in
     let main = splittable.numbered.main in
-    let named : Named = record {
+    let named : NamedEntry = record {
       host = home_of planned main.0;
       label = main.0.begin;
       need = need_of planned (main.0.head ∷ []);
     } in
-    let P : Label → Type 0 = λ label. HasLabel (split_code placed) 0 label in
+    let P : Label → Type 0 = λ label. EntryHasLabel (split_code placed) 0 label in
     subst P (sym (ap begin_label main.1)) (front_labelled placed splittable 0 named main.0 main.1
     refl)
 
 -- ---- all of it
 
-pub split_is_carried : (placed : PlacedProgram) → IsSplittable placed → IsAllowed placed → IsHeld placed →
+pub split_is_carried : (placed : PlacedProgram) → IsSplittable placed → IsAllowed placed → IsWellHeld placed →
     AreCarried (record { principals = placed.hosts.principals; labelled = placed.labelled }) (planned_from placed)
     (split_code placed)
 split_is_carried placed splittable allowed held =

@@ -5,7 +5,7 @@ use Rattle.std.proofs.Common.{subst, arith, eq-eqb, if◌then◌else◌}
 use Rattle.std.proofs.lemmas.Bool.Decides.{eqb_tells}
 use Rattle.std.specs.Prelude.{Some, slice_get}
 use Rattle.js_base.specs.declared.ids.HostId.{HostId}
-use Rattle.split_rules.specs.Emissions.{Emission, instruction, entry, stands, lands, Emitted, Named}
+use Rattle.split_rules.specs.Emissions.{Emission, instruction, entry, stands, lands, Emitted, NamedEntry}
 use Rattle.split_rules.specs.SplitCode.{emitted_on}
 use Rattle.split_shades.specs.Steps.{AreSteps}
 
@@ -94,7 +94,7 @@ pub record GoesOn {K I : Type 0} (Step : K → Emission → K → Type 0) (item 
     (Goes : K → HostId → Type 0) (Meet : K → HostId → I → Type 0) : Type 0 where
   pub own : (known : K) (one : Emitted) (after : K) (host : HostId) → (step : Step known (instruction one) after) →
       Goes known host → (one.host ≡ host) × Meet known host (item known one after step)
-  pub named : (known : K) (named : Named) (after : K) (host : HostId) → Step known (entry named) after →
+  pub named : (known : K) (named : NamedEntry) (after : K) (host : HostId) → Step known (entry named) after →
       Goes known host → Goes after host × ((i : I) → Meet after host i → Meet known host i)
   pub stands_there : (known : K) (on : HostId) (number : ℕ) (after : K) (host : HostId) →
       Step known (stands on number) after → Goes known host →

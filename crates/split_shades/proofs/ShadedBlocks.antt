@@ -33,7 +33,7 @@ use Rattle.split_rules.proofs.WalkedBlocks.{inside_of, branch_front, branch_own,
 use Rattle.split_rules.proofs.WalkedStates.{counts_more}
 use Rattle.split_shades.specs.Flows.{ArgumentsFlow, AnswerFlows, BlockFlows, AllFlow, AreIndexesSeen}
 use Rattle.split_shades.specs.Shades.{EntryShade, Ahead, calm_ahead}
-use Rattle.split_shades.specs.Shading.{Scene, IsLevelOf, Known, nowhere, here, known_at, AreShaded}
+use Rattle.split_shades.specs.Shading.{Scene, IsLevelOf, ShadeKnown, nowhere, here, known_at, AreShaded}
 use Rattle.split_shades.specs.Sites.{IsKeptBack, IsSilentBlock}
 use Rattle.split_shades.proofs.BasisLabels.{flows_self}
 use Rattle.split_shades.proofs.ShadedBranches.{branch_shaded, loop_shaded}
@@ -164,7 +164,7 @@ statement_then scene tree all around level lane statement others entries branche
     there : List EntryShade
     there = entries ++ moves.more
 
-    middle : Known
+    middle : ShadeKnown
     middle = known_at (lane_place level pc lane_there) there branches
 
     methods_there : AreMethodsNamed scene there
@@ -218,7 +218,8 @@ pub block_shaded : (scene : Scene) (tree : MethodTree) → AllFlow scene.basis s
     RidesWell scene around.pc lane.riding (own_statements block) →
     Leads scene (known_at (lane_place level around.pc lane) entries branches)
     (block_emissions (walked_of scene tree) around (counts_in entries branches) lane block) nowhere
-block_shaded scene tree all around done well flows sites silent level lane entries branches methods is known sees rides =
+block_shaded scene tree all around done well flows sites silent level lane entries branches methods is known sees
+    rides =
     leads_still scene (lane_place level around.pc lane) nowhere entries branches _
     (end_shaded scene around level lane entries branches is known)
 block_shaded scene tree all around (set_local heading x value rest) well flows sites silent level lane entries branches
@@ -234,7 +235,8 @@ block_shaded scene tree all around (set_local heading x value rest) well flows s
     statement_then scene tree all around level lane heading.id others entries branches methods is known sees rides
     (statements_see scene.basis.labelled scene.planned (walked_of scene tree).setting pc (set_local heading x value
     rest) well)
-    (Some x) flows.0.program (own next.host) (λ it lane_there. block_emissions (walked_of scene tree) around it lane_there rest) _
+    (Some x) flows.0.program (own next.host)
+    (λ it lane_there. block_emissions (walked_of scene tree) around it lane_there rest) _
     refl (λ host_is level_there there methods_there level_is counted.
     let host = statement_host scene.planned.plan heading.id in
     let P : HostId → Type 0 = λ it. Leads scene (block_known it pc level_there there branches) (own it)

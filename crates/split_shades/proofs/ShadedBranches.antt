@@ -19,7 +19,8 @@ use Rattle.split_rules.proofs.WalkedMoves.{at_last}
 use Rattle.split_rules.proofs.WalkedStates.{counts_more}
 use Rattle.split_shades.specs.Flows.{IsSeenOn, ValueFlows}
 use Rattle.split_shades.specs.Shades.{EntryShade, Begun, Ahead, calm_ahead, ahead_of}
-use Rattle.split_shades.specs.Shading.{Scene, reads_tell, IsLevelOf, Names, Place, nowhere, here, Known, known_at}
+use Rattle.split_shades.specs.Shading.{Scene, reads_tell, IsLevelOf, NamesInShade, ShadePlace, nowhere, here}
+use Rattle.split_shades.specs.Shading.{ShadeKnown, known_at}
 use Rattle.split_shades.specs.Shading.{AreShaded}
 use Rattle.split_shades.proofs.BasisLabels.{flows_self}
 use Rattle.split_shades.proofs.ShadedCalls.{AreMethodsNamed, methods_still}
@@ -129,10 +130,10 @@ branch_shaded scene tree around level heading guard next left one two entries br
     opened : List Ahead
     opened = branches ++ target ∷ []
 
-    middle : Place
+    middle : ShadePlace
     middle = here next.host target
 
-    start : Known
+    start : ShadeKnown
     start = known_at middle joined opened
 
     behind : Counts
@@ -163,7 +164,7 @@ branch_shaded scene tree around level heading guard next left one two entries br
     outer_level : IsLevelOf joined level pc
     outer_level = level_still entries (join ∷ []) level pc is
 
-    names : Names joined (plain_shade level pc) number
+    names : NamesInShade joined (plain_shade level pc) number
     names = record { it = join; is = at_last entries join []; level = refl; block = refl; pushed = refl }
 
     site : Site
@@ -287,11 +288,11 @@ loop_shaded scene tree around level heading guard next left one entries branches
     opened : List Ahead
     opened = branches ++ target ∷ []
 
-    middle : Place
+    middle : ShadePlace
     middle = here next.host (calm_ahead (under (length entries))
         (inside_of (walked_of scene tree) around heading guard).pc)
 
-    start : Known
+    start : ShadeKnown
     start = known_at middle headed opened
 
     one_there : List Emission
@@ -328,10 +329,10 @@ loop_shaded scene tree around level heading guard next left one entries branches
     site_there : IsSite scene headed site
     site_there = record { under_block = above; below = (pc, outer_level, flows_self pc) }
 
-    names : Names headed (shade_at site [] []) number
+    names : NamesInShade headed (shade_at site [] []) number
     names = record { it = head; is = at_last entries head []; level = refl; block = refl; pushed = refl }
 
-    again : Known
+    again : ShadeKnown
     again = site_known site [] (Some own) headed opened
 
     begins : AreShaded scene (block_known host pc level entries branches) front start

@@ -25,7 +25,8 @@ use Rattle.split_rules.proofs.WalkedCalls.{still_there}
 use Rattle.split_rules.proofs.WalkedMoves.{at_last}
 use Rattle.split_shades.specs.Flows.{IsSeenOn, ArgumentsFlow, ResultFlows, AllFlow}
 use Rattle.split_shades.specs.Shades.{EntryShade, Ahead, calm_ahead}
-use Rattle.split_shades.specs.Shading.{Scene, reads_tell, IsBelow, IsLevelOf, Known, nowhere, here, known_at, AreShaded}
+use Rattle.split_shades.specs.Shading.{Scene, reads_tell, IsBelow, IsLevelOf, ShadeKnown, nowhere, here, known_at}
+use Rattle.split_shades.specs.Shading.{AreShaded}
 use Rattle.split_shades.specs.Shading.{method_shade}
 use Rattle.split_shades.proofs.BasisLabels.{flows_self}
 use Rattle.split_shades.proofs.ShadedMoves.{block_entry, block_entry_is, level_still}
@@ -71,7 +72,7 @@ calling_is : (scene : Scene) (entries : List EntryShade) (me : HostId) (pc : Lab
     IsBelow entries level pc → IsSite scene entries (calling me pc id level)
 calling_is scene entries me pc id level below = record { under_block = refl; below = below }
 
-abbrev calling_known : HostId → Label → StmtId → Level → List EntryShade → List Ahead → Known
+abbrev calling_known : HostId → Label → StmtId → Level → List EntryShade → List Ahead → ShadeKnown
 calling_known me pc id level entries branches = site_known (calling me pc id level) [] None entries branches
 
 arguments_shaded : (scene : Scene) (tree : MethodTree) → AllFlow scene.basis scene.planned → (me : HostId) (pc : Label)
@@ -137,7 +138,8 @@ kept_shaded scene tree all me pc id level entries branches below None None carri
 
 pub call_shaded : (scene : Scene) (tree : MethodTree) → AllFlow scene.basis scene.planned → (me : HostId) (pc : Label)
     (id : StmtId) (level : Level) (site : SiteId) (method : MethodId) (arguments : List ExprTree) (into : Option VarId)
-    (carried : Option HostId) (left : List StmtId) (entries : List EntryShade) (branches : List Ahead) → AreMethodsNamed scene entries →
+    (carried : Option HostId) (left : List StmtId) (entries : List EntryShade) (branches : List Ahead) →
+    AreMethodsNamed scene entries →
     IsLevelOf entries level pc → IsSeenOn scene.planned me pc → slice_get scene.sites site.0 ≡ Some pc →
     let called = method_at scene.basis.labelled.program method in
     AreRead scene me pc (params_of called) arguments → EntersWell scene.basis.labelled scene.planned me pc method →

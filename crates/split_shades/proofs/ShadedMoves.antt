@@ -22,9 +22,9 @@ use Rattle.split_rules.proofs.ToldMoves.{SpotSees, AllSee, next_well}
 use Rattle.split_rules.proofs.WalkedCalls.{still_there}
 use Rattle.split_rules.proofs.WalkedMoves.{at_last, entered_here, entered_there, next_here, next_there, lent_spot}
 use Rattle.split_shades.specs.Flows.{IsSeenOn}
-use Rattle.split_shades.specs.Shades.{Shade, EntryShade, Ahead, calm_ahead, Meets, level_entry}
-use Rattle.split_shades.specs.Shading.{Scene, MayTell, IsLevelOf, IsShade, IsEntryShade, PushesAt, Names}
-use Rattle.split_shades.specs.Shading.{Place, nowhere, here, Known, known_at, ShadedOp, IsShaded, AreShaded}
+use Rattle.split_shades.specs.Shades.{Shade, EntryShade, Ahead, calm_ahead, MeetsShade, level_entry}
+use Rattle.split_shades.specs.Shading.{Scene, MayTell, IsLevelOf, IsShade, IsEntryShade, PushesAt, NamesInShade}
+use Rattle.split_shades.specs.Shading.{ShadePlace, nowhere, here, ShadeKnown, known_at, ShadedOp, IsShaded, AreShaded}
 use Rattle.split_shades.proofs.BasisLabels.{flows_self}
 use Rattle.split_shades.proofs.ShadedRiders.{RidesWell, go_with_shaded}
 use Rattle.split_shades.proofs.ShadedStates.{counts_in, shaded_on}
@@ -36,7 +36,7 @@ abbrev pub block_entry : Level → Label → Option Label → EntryShade
 block_entry level pc pushed =
     record { level = level; block = pc; label = pc; pushed = pushed; begun = None }
 
-abbrev pub lane_place : Level → Label → Lane → Place
+abbrev pub lane_place : Level → Label → Lane → ShadePlace
 lane_place level pc lane = here lane.spot.host (calm_ahead (lane_level level lane) pc)
 
 -- the entry that gives back what was lent
@@ -90,7 +90,7 @@ plain_shade level pc = record {
   released = [];
 }
 
-pub plain_meets : (level : Level) (pc : Label) → Meets (calm_ahead level pc) (plain_shade level pc)
+pub plain_meets : (level : Level) (pc : Label) → MeetsShade (calm_ahead level pc) (plain_shade level pc)
 plain_meets level pc = record { level = refl; block = refl; temps = refl; calls = refl; begun = tt }
 
 pub plain_is_shade : (scene : Scene) (entries : List EntryShade) (level : Level) (pc : Label) →
@@ -103,7 +103,7 @@ plain_is_shade scene entries level pc is = record {
 
 -- an instruction of a block where a statement may begin
 pub plain_shaded : (scene : Scene) (host : HostId) (pc : Label) (statement : StmtId) (what : _) (level : Level)
-    (entries : List EntryShade) (branches : List Ahead) (after : Known) → IsLevelOf entries level pc →
+    (entries : List EntryShade) (branches : List Ahead) (after : ShadeKnown) → IsLevelOf entries level pc →
     let known = known_at (here host (calm_ahead level pc)) entries branches in
     ShadedOp scene known host (plain_shade level pc) what after →
     IsShaded scene known (record { host = host; label = pc; statement = statement; op = what; released = [] }) after
@@ -255,7 +255,7 @@ push_shaded : (scene : Scene) (me back : HostId) (level : Level) (pc : Label) (s
     (known_at (here me (calm_ahead (under number) pc)) entries branches)
 push_shaded scene me back level pc statement number entries branches is there seen =
     let next = calm_ahead (under number) pc in
-    let names : Names entries (plain_shade level pc) number =
+    let names : NamesInShade entries (plain_shade level pc) number =
     record { it = block_entry level pc (Some pc); is = there; level = refl; block = refl; pushed = refl } in
     let pushes : PushesAt None entries (plain_shade level pc) number next = (names, refl) in
     let after = known_at (here me next) entries branches in

@@ -13,10 +13,11 @@ use Rattle.split_rules.specs.Positions.{Level, body}
 use Rattle.split_rules.specs.SplitCode.{entries_in}
 use Rattle.split_rules.proofs.ToldEmissions.{no_entry}
 use Rattle.split_rules.proofs.WalkedCalls.{still_there}
-use Rattle.split_shades.specs.Shades.{Shade, EntryShade, Ahead, Meets, ahead_of, level_entry}
-use Rattle.split_shades.specs.Shading.{Scene, IsLevelOf, Names, PushesAt, Pushes, Follows, HandsOn}
-use Rattle.split_shades.specs.Shading.{Enters, GoesTo, CallsOn, Ends, IsShade, IsEntryShade, Place, nowhere, here}
-use Rattle.split_shades.specs.Shading.{Known, known_at, ShadedOp, no_begun, Shaded, AreShaded}
+use Rattle.split_shades.specs.Shades.{Shade, EntryShade, Ahead, MeetsShade, ahead_of, level_entry}
+use Rattle.split_shades.specs.Shading.{Scene, IsLevelOf, NamesInShade, PushesAt, PushesInShade, FollowsInShade, HandsOn}
+use Rattle.split_shades.specs.Shading.{EntersInShade, GoesToInShade, CallsOn, EndsInShade, IsShade, IsEntryShade}
+use Rattle.split_shades.specs.Shading.{ShadePlace, nowhere, here}
+use Rattle.split_shades.specs.Shading.{ShadeKnown, known_at, ShadedOp, no_begun, Shaded, AreShaded}
 use Rattle.split_shades.proofs.ReadOff.{GoesOn}
 use Rattle.split_shades.proofs.ShadedStates.{counts_behind, counts_of}
 
@@ -38,18 +39,19 @@ kept_longer {X} first behind more same number x is =
 pub kept_then : {X : Type 0} (first middle last : List X) → Kept first middle → Kept middle last → Kept first last
 kept_then first middle last one two number x is = two number x (one number x is)
 
-pub record BothKept (first last : Known) : Type 0 where
+pub record BothKept (first last : ShadeKnown) : Type 0 where
   pub entries : Kept first.entries last.entries
   pub branches : Kept first.branches last.branches
 
-place_only : (known : Known) (place : Place) (after : Known) → after ≡ known_at place known.entries known.branches →
+place_only : (known : ShadeKnown) (place : ShadePlace) (after : ShadeKnown) → after
+    ≡ known_at place known.entries known.branches →
     BothKept known after
 place_only known place after is = record {
   entries = kept_same known.entries after.entries (ap (λ one. one.entries) is);
   branches = kept_same known.branches after.branches (ap (λ one. one.branches) is);
 }
 
-op_keeps : (scene : Scene) (known : Known) (me : HostId) (shade : Shade) (what : Op) (after : Known) →
+op_keeps : (scene : Scene) (known : ShadeKnown) (me : HostId) (shade : Shade) (what : Op) (after : ShadeKnown) →
     ShadedOp scene known me shade what after → BothKept known after
 op_keeps scene known me shade (op.Read field index) after law = place_only known _ after law.2
 op_keeps scene known me shade (op.Let x value) after law = place_only known _ after law.2
@@ -71,7 +73,7 @@ op_keeps scene known me shade (op.Branch guard number) after law = record {
 op_keeps scene known me shade (op.GoWith there on riders) after law = place_only known _ after law.1
 op_keeps scene known me shade (op.CallWith there on riders) after law = place_only known _ after law.1
 
-pub step_keeps : (scene : Scene) (known : Known) (x : Emission) (after : Known) → Shaded scene known x after →
+pub step_keeps : (scene : Scene) (known : ShadeKnown) (x : Emission) (after : ShadeKnown) → Shaded scene known x after →
     BothKept known after
 step_keeps scene known (instruction one) after so = op_keeps scene known one.host so.shade one.op after so.law
 step_keeps scene known (entry named) after so = record {
@@ -81,7 +83,8 @@ step_keeps scene known (entry named) after so = record {
 step_keeps scene known (stands host number) after so = place_only known _ after so.3
 step_keeps scene known (lands host number) after so = place_only known _ after so.3
 
-pub steps_keep : (scene : Scene) (first : Known) (xs : List Emission) (last : Known) → AreShaded scene first xs last →
+pub steps_keep : (scene : Scene) (first : ShadeKnown) (xs : List Emission) (last : ShadeKnown) →
+    AreShaded scene first xs last →
     BothKept first last
 steps_keep scene first [] last so = record {
   entries = kept_same first.entries last.entries (ap (λ one. one.entries) (sym so));
@@ -108,7 +111,8 @@ entries_counted counts (entry named ∷ xs) =
 entries_counted counts (stands host number ∷ xs) = entries_counted counts xs
 entries_counted counts (lands host number ∷ xs) = entries_counted counts xs
 
-pub entries_many : (scene : Scene) (first : Known) (xs : List Emission) (last : Known) → AreShaded scene first xs last →
+pub entries_many : (scene : Scene) (first : ShadeKnown) (xs : List Emission) (last : ShadeKnown) →
+    AreShaded scene first xs last →
     length last.entries ≡ length first.entries + length (entries_in xs)
 entries_many scene first xs last so =
     ap (λ counts. counts.entries) (counts_behind scene first xs last so) ∙ entries_counted (counts_of first) xs
@@ -141,7 +145,7 @@ entry_more scene entries more kept host it is = record {
 }
 
 names_more : (entries more : List EntryShade) → Kept entries more → (shade : Shade) (number : ℕ) →
-    Names entries shade number → Names more shade number
+    NamesInShade entries shade number → NamesInShade more shade number
 names_more entries more kept shade number names = record {
   it = names.it;
   is = kept number names.it names.is;
@@ -159,8 +163,8 @@ pushes_at_more entries more kept (Some guard) shade number next pushes =
     (names_more entries more kept shade number pushes.0, pushes.1, pushes.2)
 
 pushes_more : (scene : Scene) (entries more : List EntryShade) → Kept entries more → (me : HostId) (calls : Bool)
-    (shade : Shade) (number : ℕ) (next : Ahead) → Pushes scene entries me calls shade number next →
-    Pushes scene more me calls shade number next
+    (shade : Shade) (number : ℕ) (next : Ahead) → PushesInShade scene entries me calls shade number next →
+    PushesInShade scene more me calls shade number next
 pushes_more scene entries more kept me false shade number next pushes =
     pushes_at_more entries more kept shade.guard shade number next pushes
 pushes_more scene entries more kept me true shade number next pushes = record {
@@ -174,7 +178,8 @@ pushes_more scene entries more kept me true shade number next pushes = record {
 }
 
 pub follows_more : (scene : Scene) (entries more : List EntryShade) → Kept entries more → (me : HostId) (shade : Shade)
-    (what : Op) (next : Ahead) → Follows scene entries me shade what next → Follows scene more me shade what next
+    (what : Op) (next : Ahead) → FollowsInShade scene entries me shade what next →
+    FollowsInShade scene more me shade what next
 follows_more scene entries more kept me shade (op.Push there) next follows =
     (follows.0, pushes_more scene entries more kept me shade.calls shade there.0 next follows.1)
 follows_more scene entries more kept me shade (op.Ask there on) next follows = (
@@ -196,7 +201,7 @@ hands_more entries more kept shade number hands = record {
 }
 
 enters_more : (entries more : List EntryShade) → Kept entries more → (shade : Shade) (number : ℕ) →
-    Enters entries shade number → Enters more shade number
+    EntersInShade entries shade number → EntersInShade more shade number
 enters_more entries more kept shade number enters = record {
   method = enters.method;
   is_level = enters.is_level;
@@ -209,7 +214,7 @@ enters_more entries more kept shade number enters = record {
 }
 
 goes_more : (scene : Scene) (entries more : List EntryShade) → Kept entries more → (shade : Shade) (number : ℕ)
-    (on : HostId) → GoesTo scene entries shade number on → GoesTo scene more shade number on
+    (on : HostId) → GoesToInShade scene entries shade number on → GoesToInShade scene more shade number on
 goes_more scene entries more kept shade number on goes =
     (goes.0, goes.1, goes.2, hands_more entries more kept shade number goes.3, goes.4)
 
@@ -219,7 +224,7 @@ calls_more scene entries more kept shade number on calls =
     (calls.0, calls.1, calls.2, enters_more entries more kept shade number calls.3, calls.4)
 
 pub ends_more : (scene : Scene) (entries more : List EntryShade) → Kept entries more → (shade : Shade) (what : Op) →
-    Ends scene entries shade what → Ends scene more shade what
+    EndsInShade scene entries shade what → EndsInShade scene more shade what
 ends_more scene entries more kept shade (op.Go there on) ends =
     goes_more scene entries more kept shade there.0 on ends
 ends_more scene entries more kept shade (op.Call there on) ends =
@@ -234,15 +239,15 @@ ends_more scene entries more kept shade other ends = ends
 -- ---- what comes next
 
 -- what is read off at an instruction
-abbrev pub shade_of : (scene : Scene) (known : Known) (one : Emitted) (after : Known) →
+abbrev pub shade_of : (scene : Scene) (known : ShadeKnown) (one : Emitted) (after : ShadeKnown) →
     Shaded scene known (instruction one) after → Shade
 shade_of scene known one after so = so.shade
 
-abbrev pub Goes : Known → HostId → Type 0
+abbrev pub Goes : ShadeKnown → HostId → Type 0
 Goes known host = (ahead : Ahead) × (known.place ≡ here host ahead)
 
-abbrev pub Meet : Known → HostId → Shade → Type 0
-Meet known host shade = (ahead : Ahead) → known.place ≡ here host ahead → Meets ahead shade
+abbrev pub Meet : ShadeKnown → HostId → Shade → Type 0
+Meet known host shade = (ahead : Ahead) → known.place ≡ here host ahead → MeetsShade ahead shade
 
 pub not_nowhere : (host : HostId) (ahead : Ahead) → here host ahead ≡ nowhere → ⊥
 not_nowhere host ahead same = cc
@@ -251,7 +256,8 @@ pub here_host : (host other : HostId) (ahead next : Ahead) → here host ahead �
     (host ≡ other) × (ahead ≡ next)
 here_host host other ahead next same = (cc, cc)
 
-no_less : (own : EntryShade) (shade : Shade) → Meets (ahead_of own) shade → Meets (no_begun (ahead_of own)) shade
+no_less : (own : EntryShade) (shade : Shade) → MeetsShade (ahead_of own) shade →
+    MeetsShade (no_begun (ahead_of own)) shade
 no_less own shade meets = record {
   level = meets.level;
   block = meets.block;
@@ -267,7 +273,7 @@ shades_go_on scene = record {
         at.0,
         λ ahead place_is.
             let same = (here_host one.host host so.ahead ahead (sym so.is_here ∙ place_is)).1 in
-            let P : Ahead → Type 0 = λ it. Meets it so.shade in
+            let P : Ahead → Type 0 = λ it. MeetsShade it so.shade in
             subst P same so.meets,
       );
   named = λ known named after host so goes.
@@ -282,7 +288,7 @@ shades_go_on scene = record {
           (ahead_of so.0, later),
           λ shade meet ahead place_is.
               let before = (here_host on host (no_begun (ahead_of so.0)) ahead (sym same ∙ place_is)).1 in
-              let P : Ahead → Type 0 = λ it. Meets it shade in
+              let P : Ahead → Type 0 = λ it. MeetsShade it shade in
               subst P before (no_less so.0 shade (meet (ahead_of so.0) later)),
         )
   ];

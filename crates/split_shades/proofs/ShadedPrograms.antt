@@ -9,7 +9,7 @@ use Rattle.msg_cost.specs.Moves.{PlannedShape, home_of}
 use Rattle.split_rules.specs.Placed.{PlacedProgram, planned_from}
 use Rattle.split_rules.specs.Allowed.{IsAllowed}
 use Rattle.split_rules.specs.Emissions.{Emission, stands, Counts, counts_after}
-use Rattle.split_rules.specs.Held.{IsHeld}
+use Rattle.split_rules.specs.Held.{IsWellHeld}
 use Rattle.split_rules.specs.Positions.{body}
 use Rattle.split_rules.specs.Splittable.{IsSplittable}
 use Rattle.split_rules.specs.Walk.{lane_on, block_emissions, methods_emissions}
@@ -20,7 +20,7 @@ use Rattle.split_rules.proofs.WalkedCalls.{nothing_there}
 use Rattle.split_rules.proofs.WalkedPrograms.{front_counted}
 use Rattle.split_shades.specs.Flows.{AreResultsLabelled, MethodFlows, AllFlow}
 use Rattle.split_shades.specs.Shades.{EntryShade, Ahead, calm_ahead}
-use Rattle.split_shades.specs.Shading.{Scene, Known, nowhere, here, known_at, AreShaded, method_shade}
+use Rattle.split_shades.specs.Shading.{Scene, ShadeKnown, nowhere, here, known_at, AreShaded, method_shade}
 use Rattle.split_shades.specs.Shading.{method_shades, shades_start}
 use Rattle.split_shades.specs.Sites.{IsSilentBlock, ReleasesNothing, scene_of}
 use Rattle.split_shades.proofs.FlowingPrograms.{program_flows}
@@ -111,11 +111,11 @@ methods_shaded scene all number (method ∷ methods) there well flows sites sile
 -- ---- programs
 
 pub program_shaded : (placed : PlacedProgram) (may_release : Bool) → IsSplittable placed → IsAllowed placed →
-    IsHeld placed → AreResultsLabelled placed.labelled.program →
+    IsWellHeld placed → AreResultsLabelled placed.labelled.program →
     (may_release ≡ false → ReleasesNothing placed.labelled.program) →
     let planned = planned_from placed in
     let counts = counts_after (record { entries = 0; branches = 0 }) (front_emissions placed.labelled planned) in
-    (last : Known) × (last.place ≡ nowhere) × AreShaded (scene_of placed may_release)
+    (last : ShadeKnown) × (last.place ≡ nowhere) × AreShaded (scene_of placed may_release)
     (shades_start placed.labelled.program)
     (methods_emissions placed.hosts.principals placed.labelled planned counts 0 placed.labelled.program.methods) last
 program_shaded placed may_release splittable allowed held results silent =

@@ -20,7 +20,8 @@ use Rattle.split_rules.proofs.BackedLabels.{all_both}
 use Rattle.split_rules.proofs.WalkedMoves.{one_of_two}
 use Rattle.split_shades.specs.Flows.{ArgumentsFlow, ResultFlows, AllFlow}
 use Rattle.split_shades.specs.Shades.{Shade}
-use Rattle.split_shades.specs.Shading.{Scene, MayTell, GoesTo, CallsOn, Rides, Known, nowhere, with_place, ShadedOp}
+use Rattle.split_shades.specs.Shading.{Scene, MayTell, GoesToInShade, CallsOn, Rides, ShadeKnown, nowhere, with_place}
+use Rattle.split_shades.specs.Shading.{ShadedOp}
 
 -- ---- what rides
 
@@ -107,14 +108,16 @@ params_told scene all pc host home (param ∷ params) (argument ∷ others) flow
 -- ---- instructions with what rides
 
 -- the thread is handed over
-pub go_with_shaded : (scene : Scene) (known : Known) (me : HostId) (shade : Shade) (riders : List VarId) (there : EntryId)
-    (on : HostId) → GoesTo scene known.entries shade there.0 on → Rides scene shade riders on →
+pub go_with_shaded : (scene : Scene) (known : ShadeKnown) (me : HostId) (shade : Shade) (riders : List VarId)
+    (there : EntryId)
+    (on : HostId) → GoesToInShade scene known.entries shade there.0 on → Rides scene shade riders on →
     ShadedOp scene known me shade (go_with riders there on) (with_place known nowhere)
 go_with_shaded scene known me shade [] there on goes rides = (goes, refl)
 go_with_shaded scene known me shade (x ∷ riders) there on goes rides = ((goes, rides), refl)
 
 -- a method is called
-pub call_with_shaded : (scene : Scene) (known : Known) (me : HostId) (shade : Shade) (riders : List VarId) (there : EntryId)
+pub call_with_shaded : (scene : Scene) (known : ShadeKnown) (me : HostId) (shade : Shade) (riders : List VarId)
+    (there : EntryId)
     (on : HostId) → CallsOn scene known.entries shade there.0 on → Rides scene shade riders on →
     ShadedOp scene known me shade (call_with riders there on) (with_place known nowhere)
 call_with_shaded scene known me shade [] there on calls rides = (calls, refl)

@@ -22,9 +22,9 @@ use Rattle.host_code.specs.Code.{CodeShape, instruction_at}
 use Rattle.msg_cost.specs.Moves.{PlannedShape, home_of}
 use Rattle.split_rules.specs.Placed.{PlacedProgram, planned_from}
 use Rattle.split_rules.specs.Allowed.{IsAllowed}
-use Rattle.split_rules.specs.Emissions.{Emission, instruction, stands, lands, Emitted, counts_after, Named, entry}
+use Rattle.split_rules.specs.Emissions.{Emission, instruction, stands, lands, Emitted, counts_after, NamedEntry, entry}
 use Rattle.split_rules.specs.Flow.{State}
-use Rattle.split_rules.specs.Held.{IsHeld}
+use Rattle.split_rules.specs.Held.{IsWellHeld}
 use Rattle.split_rules.specs.Positions.{body}
 use Rattle.split_rules.specs.SplitCode.{emitted_on, entries_in, before_entry, before_landing, landed, code_labels}
 use Rattle.split_rules.specs.SplitCode.{placed_instruction, code_of_emissions, split_code}
@@ -48,9 +48,10 @@ use Rattle.split_rules.proofs.WalkedPrograms.{program_goes}
 use Rattle.split_shades.specs.Flows.{IsSeenOn, AreResultsLabelled}
 use Rattle.split_shades.specs.ShadedCode.{Shades, IsShadedOp, IsShadedAt, IsShadedEntry, IsShadedCode}
 use Rattle.split_shades.specs.ShadedCode.{ReleaseNothing, IsTabled}
-use Rattle.split_shades.specs.Shades.{Shade, EntryShade, Ahead, Meets, ahead_of}
-use Rattle.split_shades.specs.Shading.{Scene, IsShade, IsEntryShade, Follows, Divides, Ends, nowhere, here}
-use Rattle.split_shades.specs.Shading.{Known, ShadedOp, Shaded, AreShaded, method_shade, method_shades}
+use Rattle.split_shades.specs.Shades.{Shade, EntryShade, Ahead, MeetsShade, ahead_of}
+use Rattle.split_shades.specs.Shading.{Scene, IsShade, IsEntryShade, FollowsInShade, DividesInShade, EndsInShade}
+use Rattle.split_shades.specs.Shading.{nowhere, here}
+use Rattle.split_shades.specs.Shading.{ShadeKnown, ShadedOp, Shaded, AreShaded, method_shade, method_shades}
 use Rattle.split_shades.specs.Shading.{halt_shade, shades_start}
 use Rattle.split_shades.specs.Sites.{ReleasesNothing, scene_of}
 use Rattle.split_shades.proofs.BasisLabels.{flows_self}
@@ -75,12 +76,13 @@ no_shade = record {
   released = [];
 }
 
-abbrev shades_on : (scene : Scene) (host : HostId) (first : Known) (emissions : List Emission) (last : Known) →
+abbrev shades_on : (scene : Scene) (host : HostId) (first : ShadeKnown) (emissions : List Emission)
+    (last : ShadeKnown) →
     AreShaded scene first emissions last → List Shade
 shades_on scene host first emissions last so = items_on (Shaded scene) (shade_of scene) host first emissions last so
 
 -- The table of a shaded walk.
-table_of : (scene : Scene) (first : Known) (emissions : List Emission) (last : Known) →
+table_of : (scene : Scene) (first : ShadeKnown) (emissions : List Emission) (last : ShadeKnown) →
     AreShaded scene first emissions last → Shades
 table_of scene first emissions last so = record {
   entries = last.entries;
@@ -88,7 +90,7 @@ table_of scene first emissions last so = record {
   exits = λ host number. length (emitted_on host (before_landing number emissions));
 }
 
-read_off : (scene : Scene) (first : Known) (emissions : List Emission) (last : Known) →
+read_off : (scene : Scene) (first : ShadeKnown) (emissions : List Emission) (last : ShadeKnown) →
     (so : AreShaded scene first emissions last) (host : HostId) (place : ℕ) (shade : Shade) →
     slice_get (shades_on scene host first emissions last so) place ≡ Some shade →
     (table_of scene first emissions last so).at host place ≡ shade
@@ -99,7 +101,7 @@ read_off scene first emissions last so host place shade is = ap (λ found. unwra
 record Walk (scene : Scene) (hosts : HostsShape) (main : MethodTree) (emissions : List Emission) : Type 0 where
   end : State
   walk : IsWalk scene.basis.labelled hosts scene.planned main emissions end
-  last : Known
+  last : ShadeKnown
   shaded : AreShaded scene (shades_start scene.basis.labelled.program) emissions last
   ends : last.place ≡ nowhere
 
@@ -109,7 +111,7 @@ table_in {scene} {hosts} {main} {emissions} walk =
     table_of scene (shades_start scene.basis.labelled.program) emissions walk.last walk.shaded
 
 -- nothing goes on behind a walk
-nobody_goes : (host : HostId) (last : Known) → last.place ≡ nowhere → Goes last host → ⊥
+nobody_goes : (host : HostId) (last : ShadeKnown) → last.place ≡ nowhere → Goes last host → ⊥
 nobody_goes host last ends goes = not_nowhere host goes.0 (sym goes.1 ∙ ends)
 
 -- ---- instructions
@@ -133,10 +135,10 @@ unfolding table_of
 op_shaded scene hosts main emissions walk before one behind is me own what what_is =
     (ap (λ it. it.pc) here_is ∙ so.step.label_is, is_shade, exits, by what what_is law)
   where
-    first : Known
+    first : ShadeKnown
     first = shades_start scene.basis.labelled.program
 
-    last : Known
+    last : ShadeKnown
     last = walk.last
 
     place : ℕ
@@ -161,10 +163,10 @@ op_shaded scene hosts main emissions walk before one behind is me own what what_
         (step_keeps scene so.known (instruction one) so.after so.step).entries
         (steps_keep scene so.after behind walk.last so.from).entries
 
-    next_meets : (next : Ahead) → so.after.place ≡ here me next → Meets next (table.at me (suc place))
+    next_meets : (next : Ahead) → so.after.place ≡ here me next → MeetsShade next (table.at me (suc place))
     next_meets next goes_on =
         let there = so.next (next, goes_on) in
-        let P : Shade → Type 0 = λ it. Meets next it in
+        let P : Shade → Type 0 = λ it. MeetsShade next it in
         subst P (sym (read_off scene first emissions walk.last walk.shaded me (suc place) there.0 there.1))
         (there.2 next goes_on)
 
@@ -213,14 +215,14 @@ op_shaded scene hosts main emissions walk before one behind is me own what what_
         let target = length (emitted_on me (before_landing number (given labelled scene.planned main emissions))) in
         let exit = length (emitted_on me (before_landing number emissions)) in
         let target_is : target ≡ exit = landing_place me labelled scene.planned main number emissions in
-        let P : Ahead → Type 0 = λ it. Meets it there.0 in
-        let Q : Shade → Type 0 = λ it. Meets so_law.1 it in
+        let P : Ahead → Type 0 = λ it. MeetsShade it there.0 in
+        let Q : Shade → Type 0 = λ it. MeetsShade so_law.1 it in
         let meets_exit = subst Q (sym (read_off scene first emissions walk.last walk.shaded me exit there.0 there.1))
         (subst P same (there.2 marked.step.0 comes)) in
-        let R : ℕ → Type 0 = λ at. Meets so_law.1 (table.at me at) in
+        let R : ℕ → Type 0 = λ at. MeetsShade so_law.1 (table.at me at) in
         let S : Shade → Type 0 = λ it. (next : Ahead) × (other : Ahead) × (it.calls ≡ false)
-        × Divides scene it guard it.guard next other
-        × Meets next (table.at me (suc place)) × Meets other (table.at me target)
+        × DividesInShade scene it guard it.guard next other
+        × MeetsShade next (table.at me (suc place)) × MeetsShade other (table.at me target)
         × IfSome it.guard (λ own. target ≡ table.exits me own) in
         subst S (sym here_is) (
           so_law.0,
@@ -232,25 +234,25 @@ op_shaded scene hosts main emissions walk before one behind is me own what what_
           exits_there shade.guard number target (table.exits me) target_is so_law.4,
         )
     by (op.Go there on) it_is so_law =
-        let P : Shade → Type 0 = λ it. Ends scene walk.last.entries it (op.Go there on) in
+        let P : Shade → Type 0 = λ it. EndsInShade scene walk.last.entries it (op.Go there on) in
         subst P (sym here_is) (ends_more scene so.known.entries walk.last.entries kept shade (op.Go there on) so_law.0)
     by (op.Call there on) it_is so_law =
-        let P : Shade → Type 0 = λ it. Ends scene walk.last.entries it (op.Call there on) in
+        let P : Shade → Type 0 = λ it. EndsInShade scene walk.last.entries it (op.Call there on) in
         subst P (sym here_is) (ends_more scene so.known.entries walk.last.entries kept shade (op.Call there on)
         so_law.0)
     by op.Back it_is so_law =
-        let P : Shade → Type 0 = λ it. Ends scene walk.last.entries it op.Back in
+        let P : Shade → Type 0 = λ it. EndsInShade scene walk.last.entries it op.Back in
         subst P (sym here_is) (ends_more scene so.known.entries walk.last.entries kept shade op.Back so_law.0)
     by (op.GoWith there on riders) it_is so_law =
-        let P : Shade → Type 0 = λ it. Ends scene walk.last.entries it (op.GoWith there on riders) in
+        let P : Shade → Type 0 = λ it. EndsInShade scene walk.last.entries it (op.GoWith there on riders) in
         subst P (sym here_is) (ends_more scene so.known.entries walk.last.entries kept shade
         (op.GoWith there on riders) so_law.0)
     by (op.CallWith there on riders) it_is so_law =
-        let P : Shade → Type 0 = λ it. Ends scene walk.last.entries it (op.CallWith there on riders) in
+        let P : Shade → Type 0 = λ it. EndsInShade scene walk.last.entries it (op.CallWith there on riders) in
         subst P (sym here_is) (ends_more scene so.known.entries walk.last.entries kept shade
         (op.CallWith there on riders) so_law.0)
     by other it_is so_law =
-        let P : Shade → Type 0 = λ it. Follows scene walk.last.entries me it other so_law.0 in (
+        let P : Shade → Type 0 = λ it. FollowsInShade scene walk.last.entries me it other so_law.0 in (
           so_law.0,
           subst P (sym here_is)
               (follows_more scene so.known.entries walk.last.entries kept me shade other so_law.0 so_law.1),
@@ -391,14 +393,14 @@ code_tabled scene hosts main emissions walk me place there is =
 -- ---- entries
 
 -- what is known of an entry where it is named
-record NamedShaded (scene : Scene) (entries : List EntryShade) (number : ℕ) (named : Named) : Type 0 where
+record NamedShaded (scene : Scene) (entries : List EntryShade) (number : ℕ) (named : NamedEntry) : Type 0 where
   it : EntryShade
   is : slice_get entries number ≡ Some it
   label_is : it.label ≡ named.label
   is_shade : IsEntryShade scene entries named.host it
 
 -- an entry that is named in the bodies
-later_shaded : (scene : Scene) (first last : Known) (emissions before : List Emission) (named : Named)
+later_shaded : (scene : Scene) (first last : ShadeKnown) (emissions before : List Emission) (named : NamedEntry)
     (behind : List Emission) → emissions ≡ before ++ entry named ∷ behind → AreShaded scene first emissions last →
     NamedShaded scene last.entries (length first.entries + length (entries_in before)) named
 later_shaded scene first last emissions before named behind is so =
@@ -462,7 +464,7 @@ method_many planned number [] = refl
 method_many planned number (method ∷ methods) = ap suc (method_many planned (suc number) methods)
 
 named_shaded : (scene : Scene) (hosts : HostsShape) (main : MethodTree) (emissions : List Emission) →
-    (walk : Walk scene hosts main emissions) → Homes scene main → (number : ℕ) (named : Named) →
+    (walk : Walk scene hosts main emissions) → Homes scene main → (number : ℕ) (named : NamedEntry) →
     slice_get (entries_in (given scene.basis.labelled scene.planned main emissions)) number ≡ Some named →
     NamedShaded scene walk.last.entries number named
 named_shaded scene hosts main emissions walk homes zero named there =
@@ -473,7 +475,7 @@ named_shaded scene hosts main emissions walk homes zero named there =
     let main_there = methods_there scene hosts main emissions walk program.main.0 main homes.main_is in
     let P : Label → Type 0 = λ label. IsEntryShade scene walk.last.entries (home_of planned main)
     (record { level = body program.main; block = label; label = label; pushed = None; begun = None }) in
-    let Q : Named → Type 0 = λ it. NamedShaded scene walk.last.entries 0 it in
+    let Q : NamedEntry → Type 0 = λ it. NamedShaded scene walk.last.entries 0 it in
     let is_named : entry_of planned main ≡ named = cc in
     subst Q is_named (record {
       it = halt_shade program;
@@ -501,7 +503,7 @@ named_shaded scene hosts main emissions walk homes (suc number) named there =
       | inl before ↦
           let so = method_named planned labelled.program.methods number named before in
           let is = methods_there scene hosts main emissions walk number so.0 so.1 in
-          let P : Named → Type 0 = λ it. NamedShaded scene walk.last.entries (suc number) it in
+          let P : NamedEntry → Type 0 = λ it. NamedShaded scene walk.last.entries (suc number) it in
           subst P (sym so.2) (record {
             it = method_shade number so.0;
             is = is;
@@ -546,7 +548,8 @@ entries_shaded scene hosts main emissions walk homes number there is =
 entries_stand : (scene : Scene) (hosts : HostsShape) (main : MethodTree) (emissions : List Emission) →
     (walk : Walk scene hosts main emissions) → (number : ℕ) (there : Entry) (it : EntryShade) →
     slice_get (code_given scene.basis.labelled hosts scene.planned main emissions).entries (suc number) ≡ Some there →
-    slice_get walk.last.entries (suc number) ≡ Some it → Meets (ahead_of it) ((table_in walk).at there.host there.at)
+    slice_get walk.last.entries (suc number) ≡ Some it →
+    MeetsShade (ahead_of it) ((table_in walk).at there.host there.at)
 unfolding table_of
 entries_stand scene hosts main emissions walk number there it is it_is =
     let labelled = scene.basis.labelled in
@@ -571,10 +574,10 @@ entries_stand scene hosts main emissions walk number there it is it_is =
     let next = marked.next (ahead_of marked.step.0, comes) in
     let at = length (emitted_on named.host (before_entry (suc number) emissions)) in
     let place = entry_place named.host labelled planned main number emissions in
-    let P : EntryShade → Type 0 = λ one. Meets (ahead_of one) next.0 in
-    let Q : Shade → Type 0 = λ shade. Meets (ahead_of it) shade in
-    let R : Entry → Type 0 = λ one. Meets (ahead_of it) ((table_in walk).at one.host one.at) in
-    let S : ℕ → Type 0 = λ one. Meets (ahead_of it) ((table_in walk).at named.host one) in
+    let P : EntryShade → Type 0 = λ one. MeetsShade (ahead_of one) next.0 in
+    let Q : Shade → Type 0 = λ shade. MeetsShade (ahead_of it) shade in
+    let R : Entry → Type 0 = λ one. MeetsShade (ahead_of it) ((table_in walk).at one.host one.at) in
+    let S : ℕ → Type 0 = λ one. MeetsShade (ahead_of it) ((table_in walk).at named.host one) in
     subst R (sym made.2) (subst S (sym place)
     (subst Q (sym (read_off scene first emissions walk.last walk.shaded named.host at next.0 next.1))
     (subst P same (next.2 (ahead_of marked.step.0) comes))))
@@ -614,7 +617,7 @@ code_shaded scene hosts main emissions walk homes = record {
 -- The code of a split program has a table of shades, and each instruction releases by its shade what it does by its row
 -- of the table of releases. Where nothing may be released, no row has an operand.
 split_has_table : (placed : PlacedProgram) (may_release : Bool) → IsSplittable placed → IsAllowed placed →
-    IsHeld placed → AreResultsLabelled placed.labelled.program →
+    IsWellHeld placed → AreResultsLabelled placed.labelled.program →
     (may_release ≡ false → ReleasesNothing placed.labelled.program) →
     (shades : Shades) × IsShadedCode (scene_of placed may_release) (split_code placed) shades
     × IsTabled (split_code placed) shades (releases_of placed)
@@ -670,7 +673,7 @@ split_has_table placed may_release splittable allowed held results silent =
         operands_at (releases_by placed.hosts (front ++ emissions)) host place ≡ [])
 
 pub split_is_tabled : (placed : PlacedProgram) (may_release : Bool) → IsSplittable placed → IsAllowed placed →
-    IsHeld placed → AreResultsLabelled placed.labelled.program →
+    IsWellHeld placed → AreResultsLabelled placed.labelled.program →
     (may_release ≡ false → ReleasesNothing placed.labelled.program) →
     (shades : Shades) × IsShadedCode (scene_of placed may_release) (split_code placed) shades
     × IsTabled (split_code placed) shades (releases_of placed)
@@ -679,7 +682,7 @@ split_is_tabled placed may_release splittable allowed held results silent =
     (so.0, so.1, so.2)
 
 -- the table of a program that releases nothing has no operand
-pub split_is_untold : (placed : PlacedProgram) → IsSplittable placed → IsAllowed placed → IsHeld placed →
+pub split_is_untold : (placed : PlacedProgram) → IsSplittable placed → IsAllowed placed → IsWellHeld placed →
     AreResultsLabelled placed.labelled.program → ReleasesNothing placed.labelled.program → (host : HostId)
     (place : ℕ) → operands_at (releases_of placed) host place ≡ []
 split_is_untold placed splittable allowed held results silent =
@@ -687,7 +690,7 @@ split_is_untold placed splittable allowed held results silent =
 
 -- The code of a split program has a table of shades.
 pub split_is_shaded : (placed : PlacedProgram) (may_release : Bool) → IsSplittable placed → IsAllowed placed →
-    IsHeld placed → AreResultsLabelled placed.labelled.program →
+    IsWellHeld placed → AreResultsLabelled placed.labelled.program →
     (may_release ≡ false → ReleasesNothing placed.labelled.program) →
     (shades : Shades) × IsShadedCode (scene_of placed may_release)
     (split_code placed) shades
@@ -696,7 +699,7 @@ split_is_shaded placed may_release splittable allowed held results silent =
     (so.0, so.1)
 
 -- Where the program releases nothing, no instruction does.
-pub split_is_silent : (placed : PlacedProgram) → IsSplittable placed → IsAllowed placed → IsHeld placed →
+pub split_is_silent : (placed : PlacedProgram) → IsSplittable placed → IsAllowed placed → IsWellHeld placed →
     AreResultsLabelled placed.labelled.program → ReleasesNothing placed.labelled.program →
     (shades : Shades) × IsShadedCode (scene_of placed false)
     (split_code placed) shades × ReleaseNothing (split_code placed) shades

@@ -21,7 +21,7 @@ use Rattle.split_rules.proofs.ToldEmissions.{Sees, Affects, PutsWell}
 use Rattle.split_rules.proofs.ToldWalks.{AreReaders}
 use Rattle.split_shades.specs.Flows.{IsSeenOn, ValueFlows, AnswerFlows}
 use Rattle.split_shades.specs.Shades.{EntryShade, Begun, Ahead, calm_ahead}
-use Rattle.split_shades.specs.Shading.{Scene, reads_tell, IsBelow, Keeps, Known, here, known_at, AreShaded}
+use Rattle.split_shades.specs.Shading.{Scene, reads_tell, IsBelow, KeepsInShade, ShadeKnown, here, known_at, AreShaded}
 use Rattle.split_shades.proofs.BasisLabels.{bottom_flows}
 use Rattle.split_shades.proofs.ShadedStates.{shaded_on}
 use Rattle.split_shades.proofs.ShadedValues.{Site, IsSite, MayBegin, shade_at, site_known, one_shaded}
@@ -48,13 +48,13 @@ pub site_is : (scene : Scene) (entries : List EntryShade) (me : HostId) (pc : La
 site_is scene entries me pc id level below = record { under_block = refl; below = below }
 
 -- where a statement of a block may begin
-abbrev pub block_known : HostId → Label → Level → List EntryShade → List Ahead → Known
+abbrev pub block_known : HostId → Label → Level → List EntryShade → List Ahead → ShadeKnown
 block_known me pc level entries branches = known_at (here me (calm_ahead level pc)) entries branches
 
 -- what is read first, and what follows
 pub reads_then : (scene : Scene) (site : Site) (entries : List EntryShade) (branches : List Ahead) →
     IsSite scene entries site → (begun : Option Begun) → MayBegin site begun → (value : ExprTree) →
-    IsRead scene site.me site.pc value → (others : List Emission) (after : Known) →
+    IsRead scene site.me site.pc value → (others : List Emission) (after : ShadeKnown) →
     ((last : Option Begun) → MayBegin site last →
     AreShaded scene (site_known site (reads_tell scene site.pc value) last entries branches) others after) →
     AreShaded scene (site_known site [] begun entries branches)
@@ -68,7 +68,7 @@ reads_then scene site entries branches is begun may value read others after foll
 -- what a value over all temporaries is kept under
 pub value_keeps : (scene : Scene) (site : Site) (value : ExprTree) (label : Label) →
     ValueFlows scene.basis scene.planned site.pc value label →
-    Keeps scene (shade_at site (reads_tell scene site.pc value) (released_by 0 value)) (nodes_of 0 value) label
+    KeepsInShade scene (shade_at site (reads_tell scene site.pc value) (released_by 0 value)) (nodes_of 0 value) label
 value_keeps scene site value label flows = record {
   value = value;
   is_value = record { temps = refl; nodes_are = refl; releases = refl };
@@ -232,7 +232,7 @@ give_back_shaded scene tree me pc id level entries branches below value read flo
     site : Site
     site = site_in me pc id level
 
-    next : Known
+    next : ShadeKnown
     next = block_known me pc level entries branches
 
     by : (result : Option VarId) → tree.result ≡ result → AnswerFlows scene.basis scene.planned pc result value →

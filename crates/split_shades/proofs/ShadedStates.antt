@@ -9,25 +9,25 @@ use Rattle.split_rules.specs.Emissions.{Emission, instruction, entry, stands, la
 use Rattle.split_rules.specs.Emissions.{counts_with, counts_after}
 use Rattle.split_rules.proofs.TypedStates.{one_longer}
 use Rattle.split_shades.specs.Shades.{Shade, EntryShade, Ahead}
-use Rattle.split_shades.specs.Shading.{Scene, Place, Known, known_at, ShadedOp, Shaded, AreShaded}
+use Rattle.split_shades.specs.Shading.{Scene, ShadePlace, ShadeKnown, known_at, ShadedOp, Shaded, AreShaded}
 
 abbrev pub counts_in : List EntryShade → List Ahead → Counts
 counts_in entries branches = record { entries = length entries; branches = length branches }
 
-abbrev pub counts_of : Known → Counts
+abbrev pub counts_of : ShadeKnown → Counts
 counts_of known = counts_in known.entries known.branches
 
-pub shaded_on : (scene : Scene) (first : Known) (xs ys : List Emission) (middle last : Known) →
+pub shaded_on : (scene : Scene) (first : ShadeKnown) (xs ys : List Emission) (middle last : ShadeKnown) →
     AreShaded scene first xs middle → AreShaded scene middle ys last → AreShaded scene first (xs ++ ys) last
 shaded_on scene first [] ys middle last one two =
-    let P : Known → Type 0 = λ known. AreShaded scene known ys last in
+    let P : ShadeKnown → Type 0 = λ known. AreShaded scene known ys last in
     subst P (sym one) two
 shaded_on scene first (x ∷ xs) ys middle last one two =
     (one.0, one.1, shaded_on scene one.0 xs ys middle last one.2 two)
 
 -- ---- counts
 
-counts_op : (scene : Scene) (known : Known) (me : HostId) (shade : Shade) (what : Op) (after : Known) →
+counts_op : (scene : Scene) (known : ShadeKnown) (me : HostId) (shade : Shade) (what : Op) (after : ShadeKnown) →
     ShadedOp scene known me shade what after → counts_of after ≡ one_more_branch what (counts_of known)
 counts_op scene known me shade (op.Read field index) after law = ap counts_of law.2
 counts_op scene known me shade (op.Let x value) after law = ap counts_of law.2
@@ -50,7 +50,7 @@ counts_op scene known me shade (op.Branch guard number) after law =
 counts_op scene known me shade (op.GoWith there on riders) after law = ap counts_of law.1
 counts_op scene known me shade (op.CallWith there on riders) after law = ap counts_of law.1
 
-counts_one : (scene : Scene) (known : Known) (x : Emission) (after : Known) → Shaded scene known x after →
+counts_one : (scene : Scene) (known : ShadeKnown) (x : Emission) (after : ShadeKnown) → Shaded scene known x after →
     counts_of after ≡ counts_with (counts_of known) x
 counts_one scene known (instruction one) after so = counts_op scene known one.host so.shade one.op after so.law
 counts_one scene known (entry named) after so =
@@ -61,7 +61,7 @@ counts_one scene known (entry named) after so =
 counts_one scene known (stands host number) after so = ap counts_of so.3
 counts_one scene known (lands host number) after so = ap counts_of so.3
 
-pub counts_behind : (scene : Scene) (first : Known) (xs : List Emission) (last : Known) →
+pub counts_behind : (scene : Scene) (first : ShadeKnown) (xs : List Emission) (last : ShadeKnown) →
     AreShaded scene first xs last → counts_of last ≡ counts_after (counts_of first) xs
 counts_behind scene first [] last so = ap counts_of (sym so)
 counts_behind scene first (x ∷ xs) last so =
@@ -71,13 +71,13 @@ counts_behind scene first (x ∷ xs) last so =
 -- ---- parts
 
 -- Emissions lead to a place. What was known stays known.
-pub record Leads (scene : Scene) (first : Known) (emissions : List Emission) (place : Place) : Type 0 where
+pub record Leads (scene : Scene) (first : ShadeKnown) (emissions : List Emission) (place : ShadePlace) : Type 0 where
   pub more : List EntryShade
   pub ahead : List Ahead
   pub shaded : AreShaded scene first emissions (known_at place (first.entries ++ more) (first.branches ++ ahead))
 
 -- where nothing is named and no branch begins
-pub leads_still : (scene : Scene) (place behind : Place) (entries : List EntryShade) (branches : List Ahead)
+pub leads_still : (scene : Scene) (place behind : ShadePlace) (entries : List EntryShade) (branches : List Ahead)
     (emissions : List Emission) →
     AreShaded scene (known_at place entries branches) emissions (known_at behind entries branches) →
     Leads scene (known_at place entries branches) emissions behind
@@ -93,7 +93,7 @@ leads_still scene place behind entries branches emissions so =
     }
 
 -- one part and what follows it, which may use what the first part made of the counts
-pub leads_on : (scene : Scene) (first : Known) (xs ys : List Emission) (place behind : Place) →
+pub leads_on : (scene : Scene) (first : ShadeKnown) (xs ys : List Emission) (place behind : ShadePlace) →
     Leads scene first xs place → ((more : List EntryShade) (ahead : List Ahead) →
     counts_in (first.entries ++ more) (first.branches ++ ahead) ≡ counts_after (counts_of first) xs →
     Leads scene (known_at place (first.entries ++ more) (first.branches ++ ahead)) ys behind) →
@@ -115,7 +115,7 @@ leads_on scene first xs ys place behind one follows =
 
 -- a part that names entries and opens no branch, and what follows it
 pub moved_then : (scene : Scene) (entries : List EntryShade) (branches : List Ahead)
-    (more : List EntryShade) (place middle behind : Place) (xs ys : List Emission) →
+    (more : List EntryShade) (place middle behind : ShadePlace) (xs ys : List Emission) →
     AreShaded scene (known_at place entries branches) xs (known_at middle (entries ++ more) branches) →
     Leads scene (known_at middle (entries ++ more) branches) ys behind →
     Leads scene (known_at place entries branches) (xs ++ ys) behind
@@ -130,7 +130,7 @@ moved_then scene entries branches more place middle behind xs ys one two =
     }
 
 -- what is given first, which names an entry and opens a branch, and what follows it
-pub front_then : (scene : Scene) (entries : List EntryShade) (branches : List Ahead) (place middle behind : Place)
+pub front_then : (scene : Scene) (entries : List EntryShade) (branches : List Ahead) (place middle behind : ShadePlace)
     (one : EntryShade) (two : Ahead) (front others : List Emission) →
     AreShaded scene (known_at place entries branches) front
     (known_at middle (entries ++ one ∷ []) (branches ++ two ∷ [])) →

@@ -18,7 +18,7 @@ use Rattle.host_code.specs.declared.instruction.Op.TheVariants as op
 use Rattle.need_labels.specs.Needs.{releases, label_of}
 use Rattle.need_labels.specs.Plan.{field_host}
 use Rattle.split_rules.specs.Emissions.{Emission}
-use Rattle.split_rules.specs.Expressions.{Reading, reads_in, nodes_of, readings_of, first_element, released_by}
+use Rattle.split_rules.specs.Expressions.{ElementReading, reads_in, nodes_of, readings_of, first_element, released_by}
 use Rattle.split_rules.specs.Positions.{Level, FieldRead, field_reads}
 use Rattle.split_rules.specs.Walk.{emitted, read_emissions, expr_emissions, releasing}
 use Rattle.split_rules.proofs.BackedLabels.{all_first, all_second}
@@ -29,7 +29,7 @@ use Rattle.split_rules.proofs.TypedValues.{reads_many}
 use Rattle.split_shades.specs.Basis.{value_label, read_label}
 use Rattle.split_shades.specs.Flows.{IsSeenOn, IsIndexSeen, AreIndexesSeen}
 use Rattle.split_shades.specs.Shades.{Shade, EntryShade, Begun, Ahead}
-use Rattle.split_shades.specs.Shading.{Scene, reads_tell, IsBelow, IsUnderBlock, here, Known}
+use Rattle.split_shades.specs.Shading.{Scene, reads_tell, IsBelow, IsUnderBlock, here, ShadeKnown}
 use Rattle.split_shades.specs.Shading.{known_at, ShadedOp, IsShaded, AreShaded}
 use Rattle.split_shades.proofs.ShadedStates.{shaded_on}
 
@@ -89,14 +89,14 @@ shade_at site temps released = record {
   released = released;
 }
 
-abbrev pub site_known : Site → List Label → Option Begun → List EntryShade → List Ahead → Known
+abbrev pub site_known : Site → List Label → Option Begun → List EntryShade → List Ahead → ShadeKnown
 site_known site temps begun entries branches = known_at (here site.me (ahead_at site temps begun)) entries branches
 
 -- one instruction there
 pub one_shaded : (scene : Scene) (site : Site) (entries : List EntryShade) (branches : List Ahead) →
     IsSite scene entries site → (temps : List Label) (released : List (List Node)) →
     (scene.may_release ≡ false → released ≡ []) → (begun : Option Begun) → MayBegin site begun → (what : Op)
-    (after : Known) →
+    (after : ShadeKnown) →
     ShadedOp scene (site_known site temps begun entries branches) site.me (shade_at site temps released) what after →
     IsShaded scene (site_known site temps begun entries branches)
     (record { host = site.me; label = site.pc; statement = site.id; op = what; released = released }) after
@@ -246,7 +246,7 @@ expr_shaded scene site entries branches is temps begun may (scalar field) read =
 expr_shaded scene site entries branches is temps begun may (element field index) read =
     let tell = read_label scene.basis site.pc in
     let own : FieldRead = record { field = field; index = index } in
-    let own_reading : Reading = record {
+    let own_reading : ElementReading = record {
       field = field;
       index = nodes_of (length temps) index;
       released = released_by (length temps) index;
@@ -327,7 +327,7 @@ none_begun site none =
     subst P (sym none) tt
 
 -- where nothing is read a variable may be sent
-abbrev plain_known : Site → List EntryShade → List Ahead → Known
+abbrev plain_known : Site → List EntryShade → List Ahead → ShadeKnown
 plain_known site entries branches = site_known site [] None entries branches
 
 -- a statement outside of guards, with or without a call

@@ -9,30 +9,30 @@ use Rattle.jif_tree.specs.Trees.{BlockTree, done, branch, scalar, MethodTree}
 use Rattle.host_code.specs.declared.code.Entry.{Entry}
 use Rattle.host_code.specs.Code.{CodeShape}
 use Rattle.entry_check.specs.Checks.{label_at}
-use Rattle.split_rules.specs.Positions.{IsIn}
+use Rattle.split_rules.specs.Positions.{IsStatementOfMethod}
 use Rattle.split_rules.specs.Worked.{field_id, heading, statement_id}
 use Rattle.split_rules.proofs.TypedSplit.{same_there}
-use Rattle.split_shades.specs.Carried.{IsInside, IsBehind, IsPushedFor}
+use Rattle.split_shades.specs.Carried.{IsInside, IsBehindCall, IsPushedFor}
 use Rattle.split_shades.specs.ShadedCode.{Shades, IsShadedCode}
 use Rattle.split_shades.specs.Shades.{Shade, EntryShade, Ahead}
-use Rattle.split_shades.specs.Shading.{Scene, Names, PushesAt, Pushes}
+use Rattle.split_shades.specs.Shading.{Scene, NamesInShade, PushesAt, PushesInShade}
 use Rattle.split_shades.specs.Worked.{branching, branching_basis, elsewhere, outer}
 
 -- whatever pushes an entry names it
 at_names : (entries : List EntryShade) (guard : Option ℕ) (shade : Shade) (number : ℕ) (next : Ahead) →
-    PushesAt guard entries shade number next → Names entries shade number
+    PushesAt guard entries shade number next → NamesInShade entries shade number
 at_names entries None shade number next pushes = pushes.0
 at_names entries (Some guard) shade number next pushes = pushes.0
 
 push_names : (scene : Scene) (entries : List EntryShade) (me : HostId) (calls : Bool) (shade : Shade) (number : ℕ)
-    (next : Ahead) → Pushes scene entries me calls shade number next → Names entries shade number
+    (next : Ahead) → PushesInShade scene entries me calls shade number next → NamesInShade entries shade number
 push_names scene entries me false shade number next pushes = at_names entries shade.guard shade number next pushes
 push_names scene entries me true shade number next pushes = pushes.names
 
 -- it is pushed under the program label of that instruction
 pub pushed_under : (scene : Scene) (shades : Shades) (me : HostId) (place number : ℕ) (next : Ahead)
     (it : EntryShade) → slice_get shades.entries number ≡ Some it →
-    Pushes scene shades.entries me (shades.at me place).calls (shades.at me place) number next →
+    PushesInShade scene shades.entries me (shades.at me place).calls (shades.at me place) number next →
     it.pushed ≡ Some (shades.at me place).pc
 pushed_under scene shades me place number next it is pushes =
     let names = push_names scene shades.entries me (shades.at me place).calls (shades.at me place) number next pushes in
@@ -60,7 +60,7 @@ one_of_both (suc zero) found statement is within same = inr (is ∙ same)
 one_of_both (suc (suc place)) found statement is within same = absurd (omega arith)
 
 branch_or_inside : (method : ℕ) (statement : BlockTree) →
-    IsIn branching.program (record { 0 = method }) statement →
+    IsStatementOfMethod branching.program (record { 0 = method }) statement →
     (branch_there ≡ statement) ⊎ (elsewhere ≡ statement)
 branch_or_inside zero statement there = one_of_both there.0 there.1 statement there.3 there.2 there.4
 branch_or_inside (suc method) statement there = absurd there
@@ -99,4 +99,4 @@ not_pushed pushed = elim pushed [
     P statement = IsInside branching_basis statement outer → ⊥
 
     Q : BlockTree → Type 0
-    Q statement = IsBehind branching_basis statement outer → ⊥
+    Q statement = IsBehindCall branching_basis statement outer → ⊥

@@ -41,23 +41,23 @@ IsBlockOf basis owner label =
 -- ---- instructions and entries
 
 -- the statement stands on the host, and has this program label
-abbrev pub IsOwn : Basis → PlannedShape → HostId → Label → StmtId → Type 0
-IsOwn basis planned host label statement =
+abbrev pub IsOwnStatement : Basis → PlannedShape → HostId → Label → StmtId → Type 0
+IsOwnStatement basis planned host label statement =
     (statement_host planned.plan statement ≡ host) × (pc_of basis.labelled statement ≡ label)
 
 -- Where the right to go on moves, an instruction is for the block. All others are for a statement on their host.
 -- Entries are pushed for either.
-abbrev pub CarriesWell : Basis → PlannedShape → HostId → Label → StmtId → Op → Type 0
-CarriesWell basis planned host label statement (op.Go there on) = IsBlockOf basis statement label
-CarriesWell basis planned host label statement (op.GoWith there on riders) = IsBlockOf basis statement label
-CarriesWell basis planned host label statement (op.Ask there on) = IsBlockOf basis statement label
-CarriesWell basis planned host label statement op.Back = IsBlockOf basis statement label
-CarriesWell basis planned host label statement (op.Push there) =
-    IsOwn basis planned host label statement ⊎ IsBlockOf basis statement label
-CarriesWell basis planned host label statement other = IsOwn basis planned host label statement
+abbrev pub InstructionCarriesWell : Basis → PlannedShape → HostId → Label → StmtId → Op → Type 0
+InstructionCarriesWell basis planned host label statement (op.Go there on) = IsBlockOf basis statement label
+InstructionCarriesWell basis planned host label statement (op.GoWith there on riders) = IsBlockOf basis statement label
+InstructionCarriesWell basis planned host label statement (op.Ask there on) = IsBlockOf basis statement label
+InstructionCarriesWell basis planned host label statement op.Back = IsBlockOf basis statement label
+InstructionCarriesWell basis planned host label statement (op.Push there) =
+    IsOwnStatement basis planned host label statement ⊎ IsBlockOf basis statement label
+InstructionCarriesWell basis planned host label statement other = IsOwnStatement basis planned host label statement
 
 abbrev pub IsCarried : Basis → PlannedShape → Emission → Type 0
-IsCarried basis planned (instruction one) = CarriesWell basis planned one.host one.label one.statement one.op
+IsCarried basis planned (instruction one) = InstructionCarriesWell basis planned one.host one.label one.statement one.op
 IsCarried basis planned (entry named) = (owner : StmtId) × IsBlockOf basis owner named.label
 IsCarried basis planned (stands host number) = ⊤
 IsCarried basis planned (lands host number) = ⊤
@@ -65,16 +65,16 @@ IsCarried basis planned (lands host number) = ⊤
 -- ---- entries that are named
 
 -- The entry behind a call has the program label of the call.
-abbrev pub IsBehind : Basis → BlockTree → Label → Type 0
-IsBehind basis (call heading site method arguments into rest) label = label ≡ pc_of basis.labelled heading.id
-IsBehind basis other label = ⊥
+abbrev pub IsBehindCall : Basis → BlockTree → Label → Type 0
+IsBehindCall basis (call heading site method arguments into rest) label = label ≡ pc_of basis.labelled heading.id
+IsBehindCall basis other label = ⊥
 
 -- An entry that is pushed for a block has the program label of the block: a return point, the join of a branch, whose
 -- blocks have the label inside, and the head of a loop. All others are pushed for a call.
 abbrev pub IsPushedFor : Basis → StmtId → Label → Type 0
 IsPushedFor basis statement label =
     IsBlockOf basis statement label
-    ⊎ ((own : BlockTree) × IsOf basis.labelled.program own × (number_of own ≡ statement) × IsBehind basis own label)
+    ⊎ ((own : BlockTree) × IsOf basis.labelled.program own × (number_of own ≡ statement) × IsBehindCall basis own label)
 
 -- A call enters its method, whose entry has the number behind that of the method.
 abbrev pub EntersWell : EntryId → BlockTree → Type 0
@@ -98,8 +98,8 @@ NamesWell has basis label statement other = ⊤
 -- ---- code
 
 -- the entry of a number has a label
-abbrev pub HasLabel : CodeShape → ℕ → Label → Type 0
-HasLabel code number label =
+abbrev pub EntryHasLabel : CodeShape → ℕ → Label → Type 0
+EntryHasLabel code number label =
     (there : Entry) × (slice_get code.entries number ≡ Some there) × (label_at code there.label ≡ Some label)
 
 -- Each instruction carries the program label of the statement that it is for, which stands on its host, or that of the
@@ -108,12 +108,12 @@ HasLabel code number label =
 pub record AreCarried (basis : Basis) (planned : PlannedShape) (code : CodeShape) : Type 0 where
   pub instructions : (host : HostId) (place : ℕ) (there : Instr) → instruction_at code host place ≡ Some there →
       (label : Label) × (label_at code there.label ≡ Some label)
-      × CarriesWell basis planned host label there.statement there.op
+      × InstructionCarriesWell basis planned host label there.statement there.op
   pub entries : (number : ℕ) (there : Entry) → slice_get code.entries number ≡ Some there →
       (owner : StmtId) × (label : Label) × (label_at code there.label ≡ Some label) × IsBlockOf basis owner label
-  pub halts : HasLabel code 0 (begin_label (method_at basis.labelled.program basis.labelled.program.main))
+  pub halts : EntryHasLabel code 0 (begin_label (method_at basis.labelled.program basis.labelled.program.main))
   pub methods : (place : ℕ) (tree : MethodTree) → slice_get basis.labelled.program.methods place ≡ Some tree →
-      HasLabel code (suc place) tree.begin
+      EntryHasLabel code (suc place) tree.begin
   pub named : (host : HostId) (place : ℕ) (there : Instr) → instruction_at code host place ≡ Some there →
       (label : Label) × (label_at code there.label ≡ Some label)
-      × NamesWell (HasLabel code) basis label there.statement there.op
+      × NamesWell (EntryHasLabel code) basis label there.statement there.op

@@ -18,8 +18,9 @@ use Rattle.msg_cost.specs.Moves.{PlannedShape}
 use Rattle.split_rules.specs.Releases.{ReleasesShape, operands_at}
 use Rattle.split_shades.specs.Basis.{Basis}
 use Rattle.split_shades.specs.Flows.{IsSeenOn}
-use Rattle.split_shades.specs.Shades.{Shade, EntryShade, Ahead, Meets, ahead_of}
-use Rattle.split_shades.specs.Shading.{Scene, IsShade, IsEntryShade, Follows, Divides, Ends, method_shade, halt_shade}
+use Rattle.split_shades.specs.Shades.{Shade, EntryShade, Ahead, MeetsShade, ahead_of}
+use Rattle.split_shades.specs.Shading.{Scene, IsShade, IsEntryShade, FollowsInShade, DividesInShade, EndsInShade}
+use Rattle.split_shades.specs.Shading.{method_shade, halt_shade}
 
 -- the entries, the shade of the instruction at a place of a host, and where the branch of a number leads on its host
 pub record Shades : Type 0 where
@@ -32,21 +33,21 @@ pub record Shades : Type 0 where
 abbrev pub IsShadedOp : Scene → Shades → HostId → ℕ → Op → Type 0
 IsShadedOp scene shades me place (op.Branch guard target) =
     let here = shades.at me place in
-    (next : Ahead) × (other : Ahead) × (here.calls ≡ false) × Divides scene here guard here.guard next other
-    × Meets next (shades.at me (suc place)) × Meets other (shades.at me target)
+    (next : Ahead) × (other : Ahead) × (here.calls ≡ false) × DividesInShade scene here guard here.guard next other
+    × MeetsShade next (shades.at me (suc place)) × MeetsShade other (shades.at me target)
     × IfSome here.guard (λ own. target ≡ shades.exits me own)
 IsShadedOp scene shades me place (op.Go there on) =
-    Ends scene shades.entries (shades.at me place) (op.Go there on)
+    EndsInShade scene shades.entries (shades.at me place) (op.Go there on)
 IsShadedOp scene shades me place (op.Call there on) =
-    Ends scene shades.entries (shades.at me place) (op.Call there on)
+    EndsInShade scene shades.entries (shades.at me place) (op.Call there on)
 IsShadedOp scene shades me place (op.GoWith there on riders) =
-    Ends scene shades.entries (shades.at me place) (op.GoWith there on riders)
+    EndsInShade scene shades.entries (shades.at me place) (op.GoWith there on riders)
 IsShadedOp scene shades me place (op.CallWith there on riders) =
-    Ends scene shades.entries (shades.at me place) (op.CallWith there on riders)
-IsShadedOp scene shades me place op.Back = Ends scene shades.entries (shades.at me place) op.Back
+    EndsInShade scene shades.entries (shades.at me place) (op.CallWith there on riders)
+IsShadedOp scene shades me place op.Back = EndsInShade scene shades.entries (shades.at me place) op.Back
 IsShadedOp scene shades me place other =
-    (next : Ahead) × Follows scene shades.entries me (shades.at me place) other next
-    × Meets next (shades.at me (suc place))
+    (next : Ahead) × FollowsInShade scene shades.entries me (shades.at me place) other next
+    × MeetsShade next (shades.at me (suc place))
 
 -- The code has the program label of the instruction. The branch of a loop leads behind all of its guard.
 pub record IsShadedAt (scene : Scene) (code : CodeShape) (shades : Shades) (me : HostId) (place : ℕ) (there : Instr) :
@@ -74,7 +75,7 @@ pub record IsShadedCode (scene : Scene) (code : CodeShape) (shades : Shades) : T
   pub entries : (number : ℕ) (entry : Entry) → slice_get code.entries number ≡ Some entry →
       IsShadedEntry scene code shades number entry
   pub stands : (number : ℕ) (entry : Entry) (it : EntryShade) → slice_get code.entries (suc number) ≡ Some entry →
-      slice_get shades.entries (suc number) ≡ Some it → Meets (ahead_of it) (shades.at entry.host entry.at)
+      slice_get shades.entries (suc number) ≡ Some it → MeetsShade (ahead_of it) (shades.at entry.host entry.at)
   pub instructions : (host : HostId) (place : ℕ) (there : Instr) → instruction_at code host place ≡ Some there →
       IsShadedAt scene code shades host place there
 

@@ -41,7 +41,7 @@ abbrev pub calm_ahead : Level → Label → Ahead
 calm_ahead level block = record { level = level; block = block; temps = []; calls = false; begun = None }
 
 -- this may be at a place that is ahead
-pub record Meets (ahead : Ahead) (shade : Shade) : Type 0 where
+pub record MeetsShade (ahead : Ahead) (shade : Shade) : Type 0 where
   pub level : shade.level ≡ ahead.level
   pub block : shade.block ≡ ahead.block
   pub temps : shade.temps ≡ ahead.temps

@@ -22,7 +22,7 @@ use Rattle.split_rules.specs.Expressions.{reads_in, nodes_of, released_by}
 use Rattle.split_rules.specs.Positions.{Level, body, under, field_reads}
 use Rattle.split_shades.specs.Basis.{Basis, value_label, read_label}
 use Rattle.split_shades.specs.Flows.{IsSeenOn, ValueFlows}
-use Rattle.split_shades.specs.Shades.{Shade, EntryShade, Ahead, calm_ahead, Meets, ahead_of}
+use Rattle.split_shades.specs.Shades.{Shade, EntryShade, Ahead, calm_ahead, MeetsShade, ahead_of}
 use Rattle.split_shades.specs.Shades.{level_entry}
 use Rattle.split_shades.specs.Steps.{AreSteps}
 
@@ -53,37 +53,38 @@ IsBelow entries level block = (label : Label) × IsLevelOf entries level label �
 -- ---- values
 
 -- the nodes of a value over all temporaries, which hold what it reads
-pub record IsValue (scene : Scene) (here : Shade) (value : ExprTree) (nodes : List Node) : Type 0 where
+pub record IsValueInShade (scene : Scene) (here : Shade) (value : ExprTree) (nodes : List Node) : Type 0 where
   pub temps : here.temps ≡ reads_tell scene here.pc value
   pub nodes_are : nodes ≡ nodes_of 0 value
   pub releases : here.released ≡ released_by 0 value
 
 -- a value is kept under a label
-pub record Keeps (scene : Scene) (here : Shade) (nodes : List Node) (label : Label) : Type 0 where
+pub record KeepsInShade (scene : Scene) (here : Shade) (nodes : List Node) (label : Label) : Type 0 where
   pub value : ExprTree
-  pub is_value : IsValue scene here value nodes
+  pub is_value : IsValueInShade scene here value nodes
   pub flows : ValueFlows scene.basis scene.planned here.pc value label
 
 -- an element is read by an index over the last temporaries
-pub record Reads (scene : Scene) (here : Shade) (field : FieldId) (nodes : List Node) (next : Ahead) : Type 0 where
-  pub index : ExprTree
-  pub before : List Label
-  pub temps : here.temps ≡ before ++ reads_tell scene here.pc index
-  pub nodes_are : nodes ≡ nodes_of (length before) index
-  pub releases : here.released ≡ released_by (length before) index
-  pub told : IsSeenOn scene.planned (field_host scene.planned.plan field) here.pc
-  pub index_told : IsSeenOn scene.planned (field_host scene.planned.plan field)
-      (value_label scene.basis here.pc index)
-  pub goes : next ≡ record {
-    level = here.level;
-    block = here.block;
-    temps = here.temps ++ read_label scene.basis here.pc (record { field = field; index = index }) ∷ [];
-    calls = here.calls;
-    begun = Some (record { pc = here.pc; guard = here.guard });
-  }
+pub record ReadsInShade (scene : Scene) (here : Shade) (field : FieldId) (nodes : List Node) (next : Ahead) : Type 0
+  where
+    pub index : ExprTree
+    pub before : List Label
+    pub temps : here.temps ≡ before ++ reads_tell scene here.pc index
+    pub nodes_are : nodes ≡ nodes_of (length before) index
+    pub releases : here.released ≡ released_by (length before) index
+    pub told : IsSeenOn scene.planned (field_host scene.planned.plan field) here.pc
+    pub index_told : IsSeenOn scene.planned (field_host scene.planned.plan field)
+        (value_label scene.basis here.pc index)
+    pub goes : next ≡ record {
+      level = here.level;
+      block = here.block;
+      temps = here.temps ++ read_label scene.basis here.pc (record { field = field; index = index }) ∷ [];
+      calls = here.calls;
+      begun = Some (record { pc = here.pc; guard = here.guard });
+    }
 
 -- the index is over the first temporaries, and the value over those behind them
-pub record Stores (scene : Scene) (here : Shade) (field : FieldId) (at nodes : List Node) : Type 0 where
+pub record StoresInShade (scene : Scene) (here : Shade) (field : FieldId) (at nodes : List Node) : Type 0 where
   pub index : ExprTree
   pub value : ExprTree
   pub temps : here.temps ≡ reads_tell scene here.pc index ++ reads_tell scene here.pc value
@@ -105,14 +106,14 @@ MayTell scene pc x to =
     ConfFlows pc (label_of scene.basis.labelled x) × IsSeenOn scene.planned to (label_of scene.basis.labelled x)
 
 -- a variable is sent to a host
-abbrev pub Sends : Scene → Shade → VarId → HostId → Type 0
-Sends scene here x to = IsPlain here × (here.guard ≡ None) × MayTell scene here.pc x to
+abbrev pub SendsInShade : Scene → Shade → VarId → HostId → Type 0
+SendsInShade scene here x to = IsPlain here × (here.guard ≡ None) × MayTell scene here.pc x to
 
 -- ---- pushes
 
 -- An entry is pushed by instructions of one program label. It stands in the block of the instruction that pushes it,
 -- and under the same token.
-pub record Names (entries : List EntryShade) (here : Shade) (number : ℕ) : Type 0 where
+pub record NamesInShade (entries : List EntryShade) (here : Shade) (number : ℕ) : Type 0 where
   pub it : EntryShade
   pub is : slice_get entries number ≡ Some it
   pub level : it.level ≡ here.level
@@ -123,17 +124,17 @@ pub record Names (entries : List EntryShade) (here : Shade) (number : ℕ) : Typ
 -- has the program label of the guard.
 abbrev pub PushesAt : Option ℕ → List EntryShade → Shade → ℕ → Ahead → Type 0
 PushesAt None entries here number next =
-    Names entries here number × (next ≡ calm_ahead (under number) here.block)
+    NamesInShade entries here number × (next ≡ calm_ahead (under number) here.block)
 PushesAt (Some guard) entries here number next =
-    (names : Names entries here number)
+    (names : NamesInShade entries here number)
     × (names.it.begun ≡ Some (record { pc = here.pc; guard = Some guard }))
     × (next ≡ calm_ahead (under number) here.pc)
 
 -- The entry behind a call is pushed by a host that may see the begin label of the method, with whose token it then goes
 -- on until the method is entered.
-pub record PushesCall (scene : Scene) (entries : List EntryShade) (me : HostId) (here : Shade) (number : ℕ)
+pub record PushesCallInShade (scene : Scene) (entries : List EntryShade) (me : HostId) (here : Shade) (number : ℕ)
     (next : Ahead) : Type 0 where
-  pub names : Names entries here number
+  pub names : NamesInShade entries here number
   pub method : MethodId
   pub begin : Label
   pub is_begin : IsLevelOf entries (body method) begin
@@ -141,9 +142,9 @@ pub record PushesCall (scene : Scene) (entries : List EntryShade) (me : HostId) 
   pub no_guard : here.guard ≡ None
   pub goes : next ≡ record { level = body method; block = here.block; temps = []; calls = true; begun = None }
 
-abbrev pub Pushes : Scene → List EntryShade → HostId → Bool → Shade → ℕ → Ahead → Type 0
-Pushes scene entries me false here number next = PushesAt here.guard entries here number next
-Pushes scene entries me true here number next = PushesCall scene entries me here number next
+abbrev pub PushesInShade : Scene → List EntryShade → HostId → Bool → Shade → ℕ → Ahead → Type 0
+PushesInShade scene entries me false here number next = PushesAt here.guard entries here number next
+PushesInShade scene entries me true here number next = PushesCallInShade scene entries me here number next
 
 -- ---- instructions
 
@@ -153,40 +154,40 @@ behind here calls =
     record { level = here.level; block = here.block; temps = []; calls = calls; begun = None }
 
 -- An instruction of a host behind which the host goes on.
-abbrev pub Follows : Scene → List EntryShade → HostId → Shade → Op → Ahead → Type 0
-Follows scene entries me here (op.Read field index) next = Reads scene here field index next
-Follows scene entries me here (op.Let x value) next =
-    (here.calls ≡ false) × (here.guard ≡ None) × Keeps scene here value (label_of scene.basis.labelled x)
+abbrev pub FollowsInShade : Scene → List EntryShade → HostId → Shade → Op → Ahead → Type 0
+FollowsInShade scene entries me here (op.Read field index) next = ReadsInShade scene here field index next
+FollowsInShade scene entries me here (op.Let x value) next =
+    (here.calls ≡ false) × (here.guard ≡ None) × KeepsInShade scene here value (label_of scene.basis.labelled x)
     × (next ≡ behind here false)
-Follows scene entries me here (op.Put field index value) next =
-    (here.calls ≡ false) × (here.guard ≡ None) × Stores scene here field index value × (next ≡ behind here false)
-Follows scene entries me here (op.Send x to) next =
-    (here.calls ≡ false) × Sends scene here x to × (next ≡ behind here false)
-Follows scene entries me here (op.Frame site) next =
+FollowsInShade scene entries me here (op.Put field index value) next =
+    (here.calls ≡ false) × (here.guard ≡ None) × StoresInShade scene here field index value × (next ≡ behind here false)
+FollowsInShade scene entries me here (op.Send x to) next =
+    (here.calls ≡ false) × SendsInShade scene here x to × (next ≡ behind here false)
+FollowsInShade scene entries me here (op.Frame site) next =
     (here.calls ≡ false) × (here.guard ≡ None) × IsPlain here × (slice_get scene.sites site.0 ≡ Some here.pc)
     × (next ≡ behind here true)
-Follows scene entries me here (op.Arg x value) next =
-    (here.calls ≡ true) × (here.guard ≡ None) × Keeps scene here value (label_of scene.basis.labelled x)
+FollowsInShade scene entries me here (op.Arg x value) next =
+    (here.calls ≡ true) × (here.guard ≡ None) × KeepsInShade scene here value (label_of scene.basis.labelled x)
     × (next ≡ behind here true)
-Follows scene entries me here (op.Pass x to) next =
-    (here.calls ≡ true) × Sends scene here x to × (next ≡ behind here true)
-Follows scene entries me here (op.Push there) next =
-    IsPlain here × Pushes scene entries me here.calls here there.0 next
-Follows scene entries me here (op.Ask there on) next =
+FollowsInShade scene entries me here (op.Pass x to) next =
+    (here.calls ≡ true) × SendsInShade scene here x to × (next ≡ behind here true)
+FollowsInShade scene entries me here (op.Push there) next =
+    IsPlain here × PushesInShade scene entries me here.calls here there.0 next
+FollowsInShade scene entries me here (op.Ask there on) next =
     IsPlain here × (here.calls ≡ false) × (here.guard ≡ None) × PushesAt None entries here there.0 next
     × IsSeenOn scene.planned on here.pc
-Follows scene entries me here (op.Ret x value) next =
-    (here.calls ≡ false) × (here.guard ≡ None) × Keeps scene here value (label_of scene.basis.labelled x)
+FollowsInShade scene entries me here (op.Ret x value) next =
+    (here.calls ≡ false) × (here.guard ≡ None) × KeepsInShade scene here value (label_of scene.basis.labelled x)
     × (next ≡ behind here false)
-Follows scene entries me here other next = ⊥
+FollowsInShade scene entries me here other next = ⊥
 
 -- A branch goes on at the next place where its guard holds, and otherwise at its target. Both blocks of a branch have
 -- the program label to which its guard flows. The guard of a loop flows to its own program label.
-abbrev pub Divides : Scene → Shade → List Node → Option ℕ → Ahead → Ahead → Type 0
-Divides scene here nodes None next target =
-    Keeps scene here nodes next.block × (next ≡ calm_ahead here.level next.block) × (target ≡ next)
-Divides scene here nodes (Some guard) next target =
-    Keeps scene here nodes here.pc × (next ≡ record {
+abbrev pub DividesInShade : Scene → Shade → List Node → Option ℕ → Ahead → Ahead → Type 0
+DividesInShade scene here nodes None next target =
+    KeepsInShade scene here nodes next.block × (next ≡ calm_ahead here.level next.block) × (target ≡ next)
+DividesInShade scene here nodes (Some guard) next target =
+    KeepsInShade scene here nodes here.pc × (next ≡ record {
       level = here.level;
       block = here.block;
       temps = [];
@@ -202,7 +203,7 @@ pub record HandsOn (entries : List EntryShade) (here : Shade) (number : ℕ) : T
   pub block : it.block ≡ here.block
 
 -- A method is entered with whose token it goes on since the push of what is behind the call.
-pub record Enters (entries : List EntryShade) (here : Shade) (number : ℕ) : Type 0 where
+pub record EntersInShade (entries : List EntryShade) (here : Shade) (number : ℕ) : Type 0 where
   pub method : MethodId
   pub is_level : here.level ≡ body method
   pub is_number : number ≡ level_entry (body method)
@@ -213,15 +214,15 @@ pub record Enters (entries : List EntryShade) (here : Shade) (number : ℕ) : Ty
   pub below : ConfFlows here.block it.block
 
 -- The thread goes on at an entry of the block on a host that may see the program label.
-abbrev pub GoesTo : Scene → List EntryShade → Shade → ℕ → HostId → Type 0
-GoesTo scene entries here number on =
+abbrev pub GoesToInShade : Scene → List EntryShade → Shade → ℕ → HostId → Type 0
+GoesToInShade scene entries here number on =
     IsPlain here × (here.calls ≡ false) × (here.guard ≡ None) × HandsOn entries here number
     × IsSeenOn scene.planned on here.pc
 
 -- A method is called on such a host.
 abbrev pub CallsOn : Scene → List EntryShade → Shade → ℕ → HostId → Type 0
 CallsOn scene entries here number on =
-    IsPlain here × (here.calls ≡ true) × (here.guard ≡ None) × Enters entries here number
+    IsPlain here × (here.calls ≡ true) × (here.guard ≡ None) × EntersInShade entries here number
     × IsSeenOn scene.planned on here.pc
 
 -- The values of these variables ride to a host.
@@ -229,15 +230,15 @@ abbrev pub Rides : Scene → Shade → List VarId → HostId → Type 0
 Rides scene here riders on = AllByRecursion (λ x. MayTell scene here.pc x on) riders
 
 -- An instruction behind which the thread ends.
-abbrev pub Ends : Scene → List EntryShade → Shade → Op → Type 0
-Ends scene entries here (op.Go there on) = GoesTo scene entries here there.0 on
-Ends scene entries here (op.Call there on) = CallsOn scene entries here there.0 on
-Ends scene entries here (op.GoWith there on riders) =
-    GoesTo scene entries here there.0 on × Rides scene here riders on
-Ends scene entries here (op.CallWith there on riders) =
+abbrev pub EndsInShade : Scene → List EntryShade → Shade → Op → Type 0
+EndsInShade scene entries here (op.Go there on) = GoesToInShade scene entries here there.0 on
+EndsInShade scene entries here (op.Call there on) = CallsOn scene entries here there.0 on
+EndsInShade scene entries here (op.GoWith there on riders) =
+    GoesToInShade scene entries here there.0 on × Rides scene here riders on
+EndsInShade scene entries here (op.CallWith there on riders) =
     CallsOn scene entries here there.0 on × Rides scene here riders on
-Ends scene entries here op.Back = IsPlain here × (here.calls ≡ false) × (here.guard ≡ None)
-Ends scene entries here other = ⊥
+EndsInShade scene entries here op.Back = IsPlain here × (here.calls ≡ false) × (here.guard ≡ None)
+EndsInShade scene entries here other = ⊥
 
 -- ---- each place
 
@@ -261,47 +262,47 @@ pub record IsEntryShade (scene : Scene) (entries : List EntryShade) (host : Host
 -- ---- emissions
 
 -- Where a walk goes on.
-pub data Place : Type 0 where
-  nowhere : Place
-  here : HostId → Ahead → Place
+pub data ShadePlace : Type 0 where
+  nowhere : ShadePlace
+  here : HostId → Ahead → ShadePlace
 
 -- what is known at a place of a walk: the entries so far, by their numbers, and what is ahead where branches lead
-pub record Known : Type 0 where
-  pub place : Place
+pub record ShadeKnown : Type 0 where
+  pub place : ShadePlace
   pub entries : List EntryShade
   pub branches : List Ahead
 
-abbrev pub known_at : Place → List EntryShade → List Ahead → Known
+abbrev pub known_at : ShadePlace → List EntryShade → List Ahead → ShadeKnown
 known_at place entries branches = record { place = place; entries = entries; branches = branches }
 
-abbrev pub with_place : Known → Place → Known
+abbrev pub with_place : ShadeKnown → ShadePlace → ShadeKnown
 with_place known place = known_at place known.entries known.branches
 
-abbrev pub ShadedOp : Scene → Known → HostId → Shade → Op → Known → Type 0
+abbrev pub ShadedOp : Scene → ShadeKnown → HostId → Shade → Op → ShadeKnown → Type 0
 ShadedOp scene known me shade (op.Branch guard number) after =
     (next : Ahead) × (target : Ahead) × (number ≡ length known.branches) × (shade.calls ≡ false)
     × IfSome shade.guard (λ own. own ≡ number)
-    × Divides scene shade guard shade.guard next target
+    × DividesInShade scene shade guard shade.guard next target
     × (after ≡ known_at (here me next) known.entries (known.branches ++ target ∷ []))
 ShadedOp scene known me shade (op.Go there on) after =
-    Ends scene known.entries shade (op.Go there on) × (after ≡ with_place known nowhere)
+    EndsInShade scene known.entries shade (op.Go there on) × (after ≡ with_place known nowhere)
 ShadedOp scene known me shade (op.Call there on) after =
-    Ends scene known.entries shade (op.Call there on) × (after ≡ with_place known nowhere)
+    EndsInShade scene known.entries shade (op.Call there on) × (after ≡ with_place known nowhere)
 ShadedOp scene known me shade (op.GoWith there on riders) after =
-    Ends scene known.entries shade (op.GoWith there on riders) × (after ≡ with_place known nowhere)
+    EndsInShade scene known.entries shade (op.GoWith there on riders) × (after ≡ with_place known nowhere)
 ShadedOp scene known me shade (op.CallWith there on riders) after =
-    Ends scene known.entries shade (op.CallWith there on riders) × (after ≡ with_place known nowhere)
+    EndsInShade scene known.entries shade (op.CallWith there on riders) × (after ≡ with_place known nowhere)
 ShadedOp scene known me shade op.Back after =
-    Ends scene known.entries shade op.Back × (after ≡ with_place known nowhere)
+    EndsInShade scene known.entries shade op.Back × (after ≡ with_place known nowhere)
 ShadedOp scene known me shade other after =
-    (next : Ahead) × Follows scene known.entries me shade other next × (after ≡ with_place known (here me next))
+    (next : Ahead) × FollowsInShade scene known.entries me shade other next × (after ≡ with_place known (here me next))
 
 -- the shade of the place of an instruction
-pub record IsShaded (scene : Scene) (known : Known) (one : Emitted) (after : Known) : Type 0 where
+pub record IsShaded (scene : Scene) (known : ShadeKnown) (one : Emitted) (after : ShadeKnown) : Type 0 where
   pub shade : Shade
   pub ahead : Ahead
   pub is_here : known.place ≡ here one.host ahead
-  pub meets : Meets ahead shade
+  pub meets : MeetsShade ahead shade
   pub label_is : shade.pc ≡ one.label
   pub released_is : shade.released ≡ one.released
   pub is_shade : IsShade scene known.entries shade
@@ -319,7 +320,7 @@ no_begun ahead = record {
   begun = None;
 }
 
-abbrev pub Shaded : Scene → Known → Emission → Known → Type 0
+abbrev pub Shaded : Scene → ShadeKnown → Emission → ShadeKnown → Type 0
 Shaded scene known (instruction one) after = IsShaded scene known one after
 Shaded scene known (entry named) after =
     (own : EntryShade) × (own.label ≡ named.label) × IsEntryShade scene known.entries named.host own
@@ -335,7 +336,7 @@ Shaded scene known (lands host number) after =
     × ((known.place ≡ nowhere) × (target.begun ≡ None)) × (after ≡ with_place known (here host target))
 
 -- emissions from one place of a walk to another
-abbrev pub AreShaded : Scene → Known → List Emission → Known → Type 0
+abbrev pub AreShaded : Scene → ShadeKnown → List Emission → ShadeKnown → Type 0
 AreShaded scene first emissions last = AreSteps (Shaded scene) first emissions last
 
 -- ---- programs
@@ -362,7 +363,7 @@ halt_shade program =
     record { level = body program.main; block = begin; label = begin; pushed = None; begun = None }
 
 -- what is known of all entries before the bodies of the methods
-abbrev pub shades_start : ProgramTree → Known
+abbrev pub shades_start : ProgramTree → ShadeKnown
 shades_start program = record {
   place = nowhere;
   entries = halt_shade program ∷ method_shades 0 program.methods;

@@ -3,12 +3,12 @@
 ghost use Rattle.split_rules.specs.Placed.{PlacedProgram, planned_from};
 ghost use Rattle.split_rules.specs.Splittable.{IsSplittable};
 ghost use Rattle.split_rules.specs.Allowed.{IsAllowed};
-ghost use Rattle.split_rules.specs.Held.{IsHeld};
+ghost use Rattle.split_rules.specs.Held.{IsWellHeld};
 ghost use Rattle.split_rules.specs.Emissions.{counts_after};
 ghost use Rattle.split_rules.specs.Walk.{methods_emissions};
 ghost use Rattle.split_rules.specs.WalkStart.{front_emissions};
 ghost use Rattle.split_shades.specs.Flows.{AreResultsLabelled, AllFlow};
-ghost use Rattle.split_shades.specs.Shading.{Known, nowhere, AreShaded, shades_start, Rides, Ends};
+ghost use Rattle.split_shades.specs.Shading.{ShadeKnown, nowhere, AreShaded, shades_start, Rides, EndsInShade};
 ghost use Rattle.split_shades.specs.Sites.{ReleasesNothing, scene_of};
 ghost use Rattle.split_shades.specs.Carried.{AreCarried, IsPushedFor};
 ghost use Rattle.split_shades.specs.ShadedCode.{Shades, IsShadedCode, ReleaseNothing, IsTabled, AreKnownInCode};
@@ -32,7 +32,7 @@ ghost use Rattle.std.specs.Prelude.{◌≡◌, ℕ, Bool, false, List, [], ◌�
 /// In a program that was checked and placed, each value flows to where its statement keeps it, and so does the program
 /// label under which it is evaluated. Whoever answers a read may see which element is asked for.
 pub fn flow_laws()
-    ensures flows { (placed : PlacedProgram) → IsSplittable placed → IsAllowed placed → IsHeld placed →
+    ensures flows { (placed : PlacedProgram) → IsSplittable placed → IsAllowed placed → IsWellHeld placed →
         AreResultsLabelled placed.labelled.program →
         AllFlow (record { principals = placed.hosts.principals; labelled = placed.labelled }) (planned_from placed) }
 {}
@@ -42,11 +42,11 @@ pub fn flow_laws()
 /// under a token whose labels flow to its own. Where the program releases nothing, no instruction does.
 pub fn walk_laws()
     ensures shaded { (placed : PlacedProgram) (may_release : Bool) →
-        IsSplittable placed → IsAllowed placed → IsHeld placed →
+        IsSplittable placed → IsAllowed placed → IsWellHeld placed →
         AreResultsLabelled placed.labelled.program → (may_release ≡ false → ReleasesNothing placed.labelled.program) →
         let planned = planned_from placed in
         let counts = counts_after (record { entries = 0; branches = 0 }) (front_emissions placed.labelled planned) in
-        (last : Known) × (last.place ≡ nowhere) × AreShaded (scene_of placed may_release)
+        (last : ShadeKnown) × (last.place ≡ nowhere) × AreShaded (scene_of placed may_release)
         (shades_start placed.labelled.program)
         (methods_emissions placed.hosts.principals placed.labelled planned counts 0 placed.labelled.program.methods)
         last }
@@ -57,33 +57,33 @@ pub fn walk_laws()
 /// Each instruction keeps the law of its kind, and where the program releases nothing, no instruction does.
 pub fn shade_laws()
     ensures shaded { (placed : PlacedProgram) (may_release : Bool) →
-        IsSplittable placed → IsAllowed placed → IsHeld placed →
+        IsSplittable placed → IsAllowed placed → IsWellHeld placed →
         AreResultsLabelled placed.labelled.program → (may_release ≡ false → ReleasesNothing placed.labelled.program) →
         (shades : Shades) × IsShadedCode (scene_of placed may_release)
         (split_code placed) shades }
     // What an instruction releases by its shade is its row of the table of releases.
     ensures tabled { (placed : PlacedProgram) (may_release : Bool) →
-        IsSplittable placed → IsAllowed placed → IsHeld placed →
+        IsSplittable placed → IsAllowed placed → IsWellHeld placed →
         AreResultsLabelled placed.labelled.program → (may_release ≡ false → ReleasesNothing placed.labelled.program) →
         (shades : Shades) × IsShadedCode (scene_of placed may_release) (split_code placed) shades
         × IsTabled (split_code placed) shades (releases_of placed) }
-    ensures silent { (placed : PlacedProgram) → IsSplittable placed → IsAllowed placed → IsHeld placed →
+    ensures silent { (placed : PlacedProgram) → IsSplittable placed → IsAllowed placed → IsWellHeld placed →
         AreResultsLabelled placed.labelled.program → ReleasesNothing placed.labelled.program →
         (shades : Shades) × IsShadedCode (scene_of placed false)
         (split_code placed) shades × ReleaseNothing (split_code placed) shades }
     // The table of releases of a program that releases nothing has no operand at any place.
-    ensures untold { (placed : PlacedProgram) → IsSplittable placed → IsAllowed placed → IsHeld placed →
+    ensures untold { (placed : PlacedProgram) → IsSplittable placed → IsAllowed placed → IsWellHeld placed →
         AreResultsLabelled placed.labelled.program → ReleasesNothing placed.labelled.program → (host : HostId)
         (place : ℕ) → operands_at (releases_of placed) host place ≡ [] }
     // Each instruction carries the program label of the statement that it is for, which stands on its host, or that of
     // a block where the right to go on moves. Each entry carries the label of what it is named for: its method, its
     // block, the blocks inside its branch or loop, or its call. A call enters its method.
-    ensures carried { (placed : PlacedProgram) → IsSplittable placed → IsAllowed placed → IsHeld placed →
+    ensures carried { (placed : PlacedProgram) → IsSplittable placed → IsAllowed placed → IsWellHeld placed →
         AreCarried (record { principals = placed.hosts.principals; labelled = placed.labelled })
         (planned_from placed) (split_code placed) }
     // The code has the labels of fields and variables that shades speak of, each field stands on a host that may see
     // it, and a host may see by the code what it may see by the plan.
-    ensures known { (placed : PlacedProgram) → IsSplittable placed → IsAllowed placed → IsHeld placed →
+    ensures known { (placed : PlacedProgram) → IsSplittable placed → IsAllowed placed → IsWellHeld placed →
         AreKnownInCode (record { principals = placed.hosts.principals; labelled = placed.labelled })
         (planned_from placed) (split_code placed) }
 {}
@@ -124,13 +124,13 @@ pub fn worked_laws()
     ensures by_read { released_by 0 released_field ≡ (node.Temp 0 ∷ []) ∷ [] }
     // A value rides to a host that may see its variable.
     ensures rides { (there : EntryId) → there.0 ≡ 0 →
-        Ends (scene_with outer) (entry_under outer ∷ []) (shade_under outer)
+        EndsInShade (scene_with outer) (entry_under outer ∷ []) (shade_under outer)
         (op.GoWith there (host_id 0) (var_id 0 ∷ [])) }
     // None rides to one that may not.
     ensures rides_unseen { (entries : List EntryShade) (there : EntryId) →
-        ¬ (Ends (scene_with secret) entries (shade_under outer) (op.GoWith there (host_id 0) (var_id 0 ∷ []))) }
-    ensures rides_unseen_there { (entries : List EntryShade) (there : EntryId) →
-        ¬ (Ends (scene_with secret) entries (shade_under outer) (op.CallWith there (host_id 0) (var_id 0 ∷ []))) }
+        ¬ (EndsInShade (scene_with secret) entries (shade_under outer) (op.GoWith there (host_id 0) (var_id 0 ∷ []))) }
+    ensures rides_unseen_there { (entries : List EntryShade) (to : EntryId) →
+        ¬ (EndsInShade (scene_with secret) entries (shade_under outer) (op.CallWith to (host_id 0) (var_id 0 ∷ []))) }
     // What all may see does not ride where the program label is secret.
     ensures rides_low { ¬ (Rides (scene_with outer) (shade_under secret) (var_id 0 ∷ []) (host_id 0)) }
 {}

@@ -11,7 +11,7 @@ use Rattle.js_base.specs.declared.ids.RequestId.{RequestId}
 use Rattle.host_code.specs.declared.message.Message.{Message}
 use Rattle.host_code.specs.Code.{CodeShape}
 use Rattle.host_code.specs.Thread.{WaitingShape}
-use Rattle.host_core.specs.Host.{HostShape, Outcome, next_request}
+use Rattle.host_core.specs.Host.{HostState, Outcome, next_request}
 use Rattle.host_core.specs.Turn.{label_of_turn}
 use Rattle.event_text.specs.declared.event.Event.{Event}
 use Rattle.event_text.specs.declared.event.Event.TheVariants.{Take, Turn, Act}
@@ -34,7 +34,7 @@ use Rattle.token_laws.proofs.WorldTokens.{the_state}
 use Rattle.token_laws.proofs.Tests.{parts_same, number_same, itself, different, either_way}
 
 -- what holds of the requests of a host, where this is in flight
-pub record IsAsked (flying : Flying) (host : HostId) (state : HostShape) : Type 0 where
+pub record IsAsked (flying : Flying) (host : HostId) (state : HostState) : Type 0 where
   pub from_asked : (request : RequestId) (other : HostId) →
       between (asks request) flying host other + between (answers request) flying other host
       ≤ waiting_for_from request other state.waiting
@@ -48,7 +48,7 @@ IsCutOff world bad =
     (other : HostId) → (between any world.flying bad other ≡ 0) × (between any world.flying other bad ≡ 0)
 
 pub record AreAsked (world : WorldShape) : Type 0 where
-  pub hosts : (host : HostId) (state : HostShape) → state_at world host ≡ Some state →
+  pub hosts : (host : HostId) (state : HostState) → state_at world host ≡ Some state →
       IsAsked world.flying host state
   pub cut_off : (bad : HostId) → IsTrue (misbehaves world bad) → IsCutOff world bad
 
@@ -112,7 +112,7 @@ record IsTaken (before after : Flying) (from to : HostId) (m : Message) (sent : 
   back : IfSome sent (λ (letter : HostId × Message). letter.0 ≡ from)
 
 -- the host that took it
-taken_own : (before after : Flying) (from to : HostId) (m : Message) (old : HostShape) (outcome : Outcome) →
+taken_own : (before after : Flying) (from to : HostId) (m : Message) (old : HostState) (outcome : Outcome) →
     IsTaken before after from to m outcome.sent → Replies old from m outcome → IsAsked before to old →
     IsAsked after to outcome.state
 taken_own before after from to m old outcome taken replies asked = record {
@@ -137,7 +137,7 @@ taken_own before after from to m old outcome taken replies asked = record {
 }
 
 -- any other host
-taken_other : (before after : Flying) (from to host : HostId) (m : Message) (old state : HostShape)
+taken_other : (before after : Flying) (from to host : HostId) (m : Message) (old state : HostState)
     (outcome : Outcome) → IsTaken before after from to m outcome.sent → Replies old from m outcome →
     IsAsked before host state → IsAsked after host state
 taken_other before after from to host m old state outcome taken replies asked = record {
@@ -155,7 +155,7 @@ taken_other before after from to host m old state outcome taken replies asked = 
 -- ---- a misbehaving host sends a message
 
 -- what is in flight stays, and nothing of it is to or from that host
-acted_own : (before after : Flying) (from me : HostId) (m : Message) (old : HostShape) (outcome : Outcome) →
+acted_own : (before after : Flying) (from me : HostId) (m : Message) (old : HostState) (outcome : Outcome) →
     after ≡ before →
     ((other : HostId) → (between any before from other ≡ 0) × (between any before other from ≡ 0)) →
     Replies old from m outcome → IsAsked before me old → IsAsked after me outcome.state
@@ -189,7 +189,7 @@ acted_own before after from me m old outcome same cut replies asked = record {
       omega arith;
 }
 
-still_asked : (before after : Flying) (host : HostId) (state : HostShape) → after ≡ before →
+still_asked : (before after : Flying) (host : HostId) (state : HostState) → after ≡ before →
     IsAsked before host state → IsAsked after host state
 still_asked before after host state same asked = subst (λ (f : Flying). IsAsked f host state) (sym same) asked
 
@@ -200,7 +200,7 @@ abbrev IsSentOn : Flying → Flying → HostId → Option (HostId × Message) �
 IsSentOn before after me letter = (kind : Message → Bool) (one other : HostId) →
     between kind after one other ≤ between kind before one other + posted kind one other me letter
 
-quiet_own : (before after : Flying) (me : HostId) (old : HostShape) (outcome : Outcome) →
+quiet_own : (before after : Flying) (me : HostId) (old : HostState) (outcome : Outcome) →
     IsSentOn before after me outcome.sent → IsQuiet old outcome → IsAsked before me old →
     IsAsked after me outcome.state
 quiet_own before after me old outcome moved quiet asked = record {
@@ -224,7 +224,7 @@ quiet_own before after me old outcome moved quiet asked = record {
 }
 
 -- what a request that is sent is
-sent_request : (old : HostShape) (outcome : Outcome) (one : Requests old outcome) (request : RequestId)
+sent_request : (old : HostState) (outcome : Outcome) (one : Requests old outcome) (request : RequestId)
     (me other : HostId) →
     posted (asks request) me other me outcome.sent
     ≤ one_if (is_request (next_request old one.at) request && one.to.0 == other.0)
@@ -240,12 +240,12 @@ sent_request old outcome one request me other =
     (is_request (next_request old one.at) request) (either_way other.0 one.to.0) in
     omega arith
 
-sent_no_answer : (old : HostShape) (outcome : Outcome) (one : Requests old outcome) (request : RequestId) →
+sent_no_answer : (old : HostState) (outcome : Outcome) (one : Requests old outcome) (request : RequestId) →
     letters (answers request) outcome.sent ≡ 0
 sent_no_answer old outcome one request = ap (letters (answers request)) one.sent ∙ ap one_if (one.answers request)
 
 -- one thread more waits for the number
-one_more_for : (old : HostShape) (outcome : Outcome) (one : Requests old outcome) (request : RequestId) →
+one_more_for : (old : HostState) (outcome : Outcome) (one : Requests old outcome) (request : RequestId) →
     waiting_for request outcome.state.waiting
     ≡ waiting_for request old.waiting + one_if (is_request (next_request old one.at) request)
 one_more_for old outcome one request =
@@ -256,7 +256,7 @@ one_more_for old outcome one request =
     ap (λ (r : RequestId). one_if (is_request r request)) one.number in
     omega arith
 
-one_more_from : (old : HostShape) (outcome : Outcome) (one : Requests old outcome) (request : RequestId)
+one_more_from : (old : HostState) (outcome : Outcome) (one : Requests old outcome) (request : RequestId)
     (other : HostId) →
     waiting_for_from request other outcome.state.waiting
     ≡ waiting_for_from request other old.waiting
@@ -271,7 +271,7 @@ one_more_from old outcome one request other =
     omega arith
 
 -- the number of a new request was not given before, and is given then
-new_number : (old : HostShape) (outcome : Outcome) (one : Requests old outcome) (request : RequestId) (is : Bool) →
+new_number : (old : HostState) (outcome : Outcome) (one : Requests old outcome) (request : RequestId) (is : Bool) →
     is_request (next_request old one.at) request ≡ is →
     (waiting_for request old.waiting ≤ 1) →
     (slice_index old.requests request.at ≤ request.count → waiting_for request old.waiting ≡ 0) →
@@ -297,7 +297,7 @@ new_number old outcome one request false is most none =
     (sym one.requests) (grows old.requests one.at request.at one.within) in
     (omega arith, λ past. let nobody = none (omega arith) in omega arith)
 
-requests_own : (before after : Flying) (me : HostId) (old : HostShape) (outcome : Outcome) →
+requests_own : (before after : Flying) (me : HostId) (old : HostState) (outcome : Outcome) →
     IsSentOn before after me outcome.sent → Requests old outcome → IsAsked before me old →
     IsAsked after me outcome.state
 requests_own before after me old outcome moved one asked = record {
@@ -326,7 +326,7 @@ requests_own before after me old outcome moved one asked = record {
       omega arith;
 }
 
-sent_other : (before after : Flying) (me host : HostId) (state : HostShape) (letter : Option (HostId × Message)) →
+sent_other : (before after : Flying) (me host : HostId) (state : HostState) (letter : Option (HostId × Message)) →
     IsSentOn before after me letter → host.0 ≢ me.0 →
     ((request : RequestId) → letters (answers request) letter ≡ 0) → IsAsked before host state →
     IsAsked after host state
@@ -345,21 +345,21 @@ sent_other before after me host state letter moved apart no_answer asked = recor
 -- ---- the events
 
 -- a host that obeys is no misbehaving one
-obeys_apart : (world : WorldShape) (bad host : HostId) (state : HostShape) → IsTrue (misbehaves world bad) →
+obeys_apart : (world : WorldShape) (bad host : HostId) (state : HostState) → IsTrue (misbehaves world bad) →
     state_at world host ≡ Some state → bad.0 ≢ host.0
 obeys_apart world bad host state is obeys same =
     bad_differs world bad host state is obeys (same_id bad host same)
 
 -- the host that made a step, and all others
-all_hosts : (world after : WorldShape) (me : HostId) (old state : HostShape) → state_at world me ≡ Some old →
+all_hosts : (world after : WorldShape) (me : HostId) (old state : HostState) → state_at world me ≡ Some old →
     after.hosts ≡ slice_set world.hosts me.0 (Some state) → IsAsked after.flying me state →
-    ((host : HostId) (there : HostShape) → host.0 ≢ me.0 → IsAsked world.flying host there →
-    IsAsked after.flying host there) → AreAsked world → (host : HostId) (there : HostShape) →
+    ((host : HostId) (there : HostState) → host.0 ≢ me.0 → IsAsked world.flying host there →
+    IsAsked after.flying host there) → AreAsked world → (host : HostId) (there : HostState) →
     state_at after host ≡ Some there → IsAsked after.flying host there
 all_hosts world after me old state obeys puts own others asked host there is =
     elim (either world after me old state after.flying obeys (record { hosts = puts; flying = refl }) host there is) [
       | inl mover ↦
-          subst (λ (s : HostShape). IsAsked after.flying host s) (sym mover.is)
+          subst (λ (s : HostState). IsAsked after.flying host s) (sym mover.is)
           (subst (λ (h : HostId). IsAsked after.flying h state) (sym mover.same) own)
       | inr other ↦ others host there other.apart (asked.hosts host there other.obeys)
     ]

@@ -24,7 +24,7 @@ use Rattle.net_world.proofs.Fitting.{flight_fits}
 use Rattle.net_world.proofs.Present.{same_id}
 use Rattle.net_world.proofs.StepsOf.{has_some}
 use Rattle.token_laws.specs.Reached.{IsReached}
-use Rattle.token_laws.specs.Requests.{Spot, IsNumberedAt, IsUnderWay, WaitsFor, number_asked, number_answered}
+use Rattle.token_laws.specs.Requests.{FlightSpot, IsNumberedAt, IsUnderWay, WaitsFor, number_asked, number_answered}
 use Rattle.token_laws.proofs.Counting.{any, one_if, is_request, is_number, asks, answers, between, waiting_for}
 use Rattle.token_laws.proofs.Counting.{waiting_for_from}
 use Rattle.token_laws.proofs.Asked.{AreAsked, IsAsked, asked_step}
@@ -38,23 +38,23 @@ use Rattle.token_laws.proofs.Walks.{reached}
 idle_waiting : (code : CodeShape) (store : List (List ℤ)) (key : List ℕ) (me : HostId) (root : Bool) →
     (if root then root_host code (idle_host code store key me) else idle_host code store key me).waiting ≡ []
 idle_waiting code store key me true =
-    let idle : host_state.HostShape = idle_host code store key me in
+    let idle : host_state.HostState = idle_host code store key me in
     (entering_same (after_push idle halt main_frame (last_token me)) (entry_at code code.main) main_frame
     (new_token idle halt main_frame)).waiting
 idle_waiting code store key me false = refl
 
 none_of : (code : CodeShape) (store : List (List ℤ)) (key : List ℕ) (me : HostId) (misbehaves root : Bool)
-    (state : host_state.HostShape) → (if misbehaves then None else Some (if root
+    (state : host_state.HostState) → (if misbehaves then None else Some (if root
     then root_host code (idle_host code store key me)
     else idle_host code store key me)) ≡ Some state → state.waiting ≡ []
 none_of code store key me true root state is = absurd (cc)
 none_of code store key me false root state is =
     let same : (if root then root_host code (idle_host code store key me) else idle_host code store key me)
     ≡ state = cc in
-    ap (λ (s : host_state.HostShape). s.waiting) (sym same) ∙ idle_waiting code store key me root
+    ap (λ (s : host_state.HostState). s.waiting) (sym same) ∙ idle_waiting code store key me root
 
 none_waits : (code : CodeShape) (store : List (List ℤ)) (bad number : ℕ) (rows : List declared_hosts.HostShape)
-    (place : ℕ) (state : host_state.HostShape) →
+    (place : ℕ) (state : host_state.HostState) →
     given (slice_get (hosts_before code store bad number rows) place) ≡ Some state → state.waiting ≡ []
 none_waits code store bad number [] place state is = absurd (cc)
 none_waits code store bad number (row ∷ rows) zero state is =
@@ -97,20 +97,20 @@ record Found (flying : Flying) (kind : Message → Bool) (from to : HostId) (pla
   is_there : slice_get (flying from to) place ≡ Some flight
   one : one_if (kind flight.message) ≡ 1
 
-abbrev spot_at : HostId → HostId → ℕ → Spot
+abbrev spot_at : HostId → HostId → ℕ → FlightSpot
 spot_at from to place = record { from = from; to = to; place = place }
 
-spot_is : (spot : Spot) (from to : HostId) → spot.from ≡ from → spot.to ≡ to → spot ≡ spot_at from to spot.place
+spot_is : (spot : FlightSpot) (from to : HostId) → spot.from ≡ from → spot.to ≡ to → spot ≡ spot_at from to spot.place
 spot_is spot from to first second =
     ap (λ (h : HostId). spot_at h spot.to spot.place) first ∙ ap (λ (h : HostId). spot_at from h spot.place) second
 
-found : (world : WorldShape) (spot : Spot) (from to : HostId) (number_of : Message → Option RequestId)
+found : (world : WorldShape) (spot : FlightSpot) (from to : HostId) (number_of : Message → Option RequestId)
     (request : RequestId) → spot.from ≡ from → spot.to ≡ to → IsNumberedAt world spot number_of request →
     Found world.flying (λ m. is_number request (number_of m)) from to spot.place
 found world spot from to number_of request first second has =
     let at =
     has_some (slice_get (world.flying from to) spot.place) (λ flight. number_of flight.message ≡ Some request)
-    (subst (λ (s : Spot). IsNumberedAt world s number_of request) (spot_is spot from to first second) has) in
+    (subst (λ (s : FlightSpot). IsNumberedAt world s number_of request) (spot_is spot from to first second) has) in
     record {
       flight = at.0;
       is_there = at.1;
@@ -141,7 +141,7 @@ found_two flying kind from to first second at also most = elim (eqb_tells first 
 ]
 
 -- what is under way is some of what is counted
-under_way_one : (world : WorldShape) (host other : HostId) (request : RequestId) (spot : Spot) →
+under_way_one : (world : WorldShape) (host other : HostId) (request : RequestId) (spot : FlightSpot) →
     IsUnderWay world host other request spot →
     1 ≤ between (asks request) world.flying host other + between (answers request) world.flying other host
 under_way_one world host other request spot (inl asking) =
@@ -153,7 +153,7 @@ under_way_one world host other request spot (inr answering) =
     let one = found_one world.flying (answers request) other host spot.place at in
     omega arith
 
-same_spot : (world : WorldShape) (host other : HostId) (request : RequestId) (first second : Spot) →
+same_spot : (world : WorldShape) (host other : HostId) (request : RequestId) (first second : FlightSpot) →
     between (asks request) world.flying host other + between (answers request) world.flying other host ≤ 1 →
     IsUnderWay world host other request first → IsUnderWay world host other request second → first ≡ second
 same_spot world host other request first second most (inl asking) (inl also) =
@@ -232,7 +232,7 @@ two_from request first second (one ∷ threads) apart =
     let rest = two_from request first second threads apart in
     omega arith
 
-waits_for : (state : host_state.HostShape) (request : RequestId) (other : HostId) →
+waits_for : (state : host_state.HostState) (request : RequestId) (other : HostId) →
     0 < waiting_for_from request other state.waiting → WaitsFor state request other
 waits_for state request other more =
     let at =
@@ -248,8 +248,8 @@ waits_for state request other more =
 
 -- ---- the laws
 
-pub one_under_way : (world : WorldShape) (host one other : HostId) (state : host_state.HostShape)
-    (request : RequestId) (first second : Spot) → IsAsked world.flying host state →
+pub one_under_way : (world : WorldShape) (host one other : HostId) (state : host_state.HostState)
+    (request : RequestId) (first second : FlightSpot) → IsAsked world.flying host state →
     IsUnderWay world host one request first → IsUnderWay world host other request second → first ≡ second
 one_under_way world host one other state request first second asked under also =
     let most = asked.apart request in
@@ -269,15 +269,15 @@ one_under_way world host one other state request first second asked under also =
           absurd (omega arith)
     ]
 
-pub under_way_awaited : (world : WorldShape) (host other : HostId) (state : host_state.HostShape)
-    (request : RequestId) (spot : Spot) → IsAsked world.flying host state →
+pub under_way_awaited : (world : WorldShape) (host other : HostId) (state : host_state.HostState)
+    (request : RequestId) (spot : FlightSpot) → IsAsked world.flying host state →
     IsUnderWay world host other request spot → WaitsFor state request other
 under_way_awaited world host other state request spot asked under =
     let one = under_way_one world host other request spot under in
     let few = asked.from_asked request other in
     waits_for state request other (omega arith)
 
-pub waits_once : (flying : Flying) (host : HostId) (state : host_state.HostShape) (first second : ℕ)
+pub waits_once : (flying : Flying) (host : HostId) (state : host_state.HostState) (first second : ℕ)
     (one other : WaitingShape) → IsAsked flying host state → slice_get state.waiting first ≡ Some one →
     slice_get state.waiting second ≡ Some other → one.request ≡ other.request → first ≡ second
 waits_once flying host state first second one other asked there also same = elim (eqb_tells first second) [
@@ -291,7 +291,7 @@ waits_once flying host state first second one other asked there also same = elim
       absurd (omega arith)
 ]
 
-pub all_counted : (flying : Flying) (host : HostId) (state : host_state.HostShape) → IsAsked flying host state →
+pub all_counted : (flying : Flying) (host : HostId) (state : host_state.HostState) → IsAsked flying host state →
     All (λ waiting. waiting.request.count < slice_index state.requests waiting.request.at) state.waiting
 all_counted flying host state asked k d lt =
     let waiting : WaitingShape = get_or state.waiting k d in
@@ -309,7 +309,7 @@ all_counted flying host state asked k d lt =
 -- ---- both ends of a message
 
 -- a host of the code obeys where it does not misbehave
-obeys_if : (hosts : List (Option host_state.HostShape)) (place : ℕ) → place < length hosts →
+obeys_if : (hosts : List (Option host_state.HostState)) (place : ℕ) → place < length hosts →
     (is_absent (slice_get hosts place) ≡ true → ⊥) → IsSome (given (slice_get hosts place))
 obeys_if [] place within obeys = absurd (omega arith)
 obeys_if (None ∷ hosts) zero within obeys = absurd (obeys refl)

@@ -5,7 +5,7 @@ use Rattle.std.specs.Prelude.{slice_set, remove, All, IfSome, if◌then◌else�
 use Rattle.std.proofs.lemmas.List.Elements.{All-push}
 use Rattle.js_base.specs.declared.ids.HostId.{HostId}
 use Rattle.host_code.specs.declared.message.Message.{Message}
-use Rattle.host_core.specs.Host.{HostShape, Letter}
+use Rattle.host_core.specs.Host.{HostState, Letter}
 use Rattle.net_world.specs.Flying.{Flight, Flying, with_flights}
 use Rattle.net_world.specs.World.{WorldShape, state_at, misbehaves, without_flight, after_sending, after_telling}
 use Rattle.net_world.specs.World.{after_posting, letter_of}
@@ -55,17 +55,17 @@ fly_sent P world from (Some label) (Some sent) has said =
 -- ---- the states
 
 -- each obeying host has it
-abbrev pub StatesHave : (HostShape → Type 0) → WorldShape → Type 0
+abbrev pub StatesHave : (HostState → Type 0) → WorldShape → Type 0
 StatesHave P world = (host : HostId) → IfSome (state_at world host) P
 
-pub of_state : (P : HostShape → Type 0) (world : WorldShape) (host : HostId) (state : HostShape) → StatesHave P world →
+pub of_state : (P : HostState → Type 0) (world : WorldShape) (host : HostId) (state : HostState) → StatesHave P world →
     state_at world host ≡ Some state → P state
-of_state P world host state has obeys = subst (λ (o : Option HostShape). IfSome o P) obeys (has host)
+of_state P world host state has obeys = subst (λ (o : Option HostState). IfSome o P) obeys (has host)
 
 -- one host has changed
-states_with : (P : HostShape → Type 0) (world after : WorldShape) (me : HostId) (old state : HostShape) →
+states_with : (P : HostState → Type 0) (world after : WorldShape) (me : HostId) (old state : HostState) →
     state_at world me ≡ Some old → after.hosts ≡ slice_set world.hosts me.0 (Some state) → StatesHave P world →
-    P state → (host : HostId) (o : Option HostShape) → state_at after host ≡ o → IfSome o P
+    P state → (host : HostId) (o : Option HostState) → state_at after host ≡ o → IfSome o P
 states_with P world after me old state obeys puts has also host None is = tt
 states_with P world after me old state obeys puts has also host (Some there) is =
     elim (either world after me old state after.flying obeys (record { hosts = puts; flying = refl }) host there is) [
@@ -73,7 +73,7 @@ states_with P world after me old state obeys puts has also host (Some there) is 
       | inr other ↦ of_state P world host there has other.obeys
     ]
 
-pub states_after : (P : HostShape → Type 0) (world after : WorldShape) (me : HostId) (old state : HostShape) →
+pub states_after : (P : HostState → Type 0) (world after : WorldShape) (me : HostId) (old state : HostState) →
     state_at world me ≡ Some old → after.hosts ≡ slice_set world.hosts me.0 (Some state) → StatesHave P world →
     P state → StatesHave P after
 states_after P world after me old state obeys puts has also host =

@@ -15,7 +15,7 @@ use Rattle.capability.specs.declared.token.Token.{Token}
 use Rattle.host_decl.specs.Hosts as declared_hosts
 use Rattle.host_code.specs.Code.{CodeShape, halt, entry_at}
 use Rattle.host_code.specs.Sound.{IsSoundCode}
-use Rattle.host_core.specs.Host.{HostShape, after_push, new_token}
+use Rattle.host_core.specs.Host.{HostState, after_push, new_token}
 use Rattle.host_core.specs.Start.{idle_host, root_host, main_frame, last_token}
 use Rattle.event_text.specs.declared.event.Event.{Event}
 use Rattle.net_world.specs.Fits.{ShapeFits, HasOwnToken}
@@ -41,10 +41,10 @@ IsOnly worth host entry serial =
 
 -- Nobody has a token with a serial that its host has not given, and what was not sent is held once.
 pub record AreHeld (world : WorldShape) : Type 0 where
-  pub old : (worth : Token → ℕ) (host : HostId) (entry : EntryId) (serial : ℕ) (state : HostShape) →
+  pub old : (worth : Token → ℕ) (host : HostId) (entry : EntryId) (serial : ℕ) (state : HostState) →
       IsOnly worth host entry serial → entry ≢ halt → state_at world host ≡ Some state →
       slice_index state.serials entry.0 ≤ serial → worth_world worth world + worth_sent worth world ≡ 0
-  pub one : (worth : Token → ℕ) (token : Token) (state : HostShape) → IsOf worth token →
+  pub one : (worth : Token → ℕ) (token : Token) (state : HostState) → IsOf worth token →
       state_at world token.host ≡ Some state → worth_sent worth world ≡ 0 → worth_world worth world ≤ 1
 
 -- ---- the count of a host
@@ -54,13 +54,13 @@ none_worth zero never = refl
 none_worth (suc n) never = absurd (never (omega arith))
 
 -- a token that was just made
-pub record IsFresh (old : HostShape) (serials : List ℕ) (token : Token) : Type 0 where
+pub record IsFresh (old : HostState) (serials : List ℕ) (token : Token) : Type 0 where
   pub host : token.host ≡ old.me
   pub entry : token.entry ≢ halt
   pub serial : token.serial ≡ slice_index old.serials token.entry.0
   pub passed : token.serial < slice_index serials token.entry.0
 
-pub fresh_is : (old : HostShape) (serials : List ℕ) (token : Token) → Counts old serials (Some token) →
+pub fresh_is : (old : HostState) (serials : List ℕ) (token : Token) → Counts old serials (Some token) →
     IsFresh old serials token
 fresh_is old serials token counts =
     let entry : token.entry ≡ counts.0 = ap (λ (t : Token). t.entry) counts.4 in
@@ -75,7 +75,7 @@ fresh_is old serials token counts =
       passed = subst (λ (e : EntryId). token.serial < slice_index serials e.0) (sym entry) (omega arith);
     }
 
-counts_grow : (old : HostShape) (serials : List ℕ) (fresh : Option Token) (place : ℕ) → Counts old serials fresh →
+counts_grow : (old : HostState) (serials : List ℕ) (fresh : Option Token) (place : ℕ) → Counts old serials fresh →
     slice_index old.serials place ≤ slice_index serials place
 counts_grow old serials None place counts =
     let same : slice_index serials place ≡ slice_index old.serials place =
@@ -88,7 +88,7 @@ counts_grow old serials (Some token) place counts =
 -- ---- what is presented
 
 -- it is worth nothing, where only tokens of an obeying host are, and none of these was sent
-pub presented_none : (world : WorldShape) (worth : Token → ℕ) (host : HostId) (state : HostShape) (o : Option Token) →
+pub presented_none : (world : WorldShape) (worth : Token → ℕ) (host : HostId) (state : HostState) (o : Option Token) →
     IfSome o (IsPresented world) → ((token : Token) → 0 < worth token → token.host ≡ host) →
     state_at world host ≡ Some state → worth_sent worth world ≡ 0 → worth_held worth o ≡ 0
 presented_none world worth host state None is_presented of obeys none = refl
@@ -100,7 +100,7 @@ presented_none world worth host state (Some token) (inr sent) of obeys none =
 -- ---- a step
 
 -- an obeying host obeyed before
-before : (world after : WorldShape) (step : Accounts world after) (host : HostId) (now : HostShape) →
+before : (world after : WorldShape) (step : Accounts world after) (host : HostId) (now : HostState) →
     state_at after host ≡ Some now →
     Mover step.host host step.state now ⊎ Other world step.host host now
 before world after step host now is =
@@ -133,14 +133,14 @@ fresh_other world after step worth host entry serial (Some token) counts only ap
     apart (ap (λ (h : HostId). h.0) (sym (only token more).0 ∙ is.host ∙ step.me)))
 
 old_step : (world after : WorldShape) (step : Accounts world after) → AreHeld world → (worth : Token → ℕ)
-    (host : HostId) (entry : EntryId) (serial : ℕ) (now : HostShape) → IsOnly worth host entry serial → entry ≢ halt →
+    (host : HostId) (entry : EntryId) (serial : ℕ) (now : HostState) → IsOnly worth host entry serial → entry ≢ halt →
     state_at after host ≡ Some now → slice_index now.serials entry.0 ≤ serial →
     worth_world worth after + worth_sent worth after ≡ 0
 old_step world after step held worth host entry serial now only named is past =
     elim (before world after step host now is) [
       | inl mover ↦
           let le : slice_index step.state.serials entry.0 ≤ serial =
-          subst (λ (s : HostShape). slice_index s.serials entry.0 ≤ serial) mover.is past in
+          subst (λ (s : HostState). slice_index s.serials entry.0 ≤ serial) mover.is past in
           let grow = counts_grow step.old step.state.serials step.fresh entry.0 step.counts in
           let own : IsOnly worth step.host entry serial =
           subst (λ (h : HostId). IsOnly worth h entry serial) mover.same only in
@@ -164,7 +164,7 @@ old_step world after step held worth host entry serial now only named is past =
 
 -- what is held of one token, and what is made of it, is one at most
 fresh_one : (world after : WorldShape) (step : Accounts world after) → AreHeld world → (worth : Token → ℕ)
-    (token : Token) (state : HostShape) → IsOf worth token → state_at world token.host ≡ Some state →
+    (token : Token) (state : HostState) → IsOf worth token → state_at world token.host ≡ Some state →
     worth_sent worth world ≡ 0 → (fresh : Option Token) → Counts step.old step.state.serials fresh →
     worth_world worth world + worth_held worth fresh ≤ 1
 fresh_one world after step held worth token state of obeys none None counts =
@@ -190,7 +190,7 @@ fresh_one world after step held worth token state of obeys none (Some made) coun
     ]
 
 one_step : (world after : WorldShape) (step : Accounts world after) → AreHeld world → (worth : Token → ℕ)
-    (token : Token) (state : HostShape) → IsOf worth token → state_at world token.host ≡ Some state →
+    (token : Token) (state : HostState) → IsOf worth token → state_at world token.host ≡ Some state →
     worth_sent worth world ≡ 0 → worth_world worth after ≤ 1
 one_step world after step held worth token state of obeys none =
     let presented =
@@ -218,10 +218,10 @@ held_step code world after event sound fits own step held =
 -- ---- the start
 
 root_worth : (code : CodeShape) (store : List (List ℤ)) (key : List ℕ) (me : HostId) (worth : Token → ℕ) →
-    let idle : HostShape = idle_host code store key me in
+    let idle : HostState = idle_host code store key me in
     worth_state worth (root_host code idle) ≤ worth (new_token idle halt main_frame) + worth (last_token me)
 root_worth code store key me worth =
-    let idle : HostShape = idle_host code store key me in
+    let idle : HostState = idle_host code store key me in
     let le =
     entering_worth (after_push idle halt main_frame (last_token me)) (entry_at code code.main) main_frame
     (new_token idle halt main_frame) worth in
@@ -302,7 +302,7 @@ world_worth code rows bad store worth most within =
 none_at_start : (code : CodeShape) (worth : Token → ℕ) (host : HostId) (entry : EntryId) (serial : ℕ) →
     IsOnly worth host entry serial → entry ≢ halt → StartsWithin code worth 0
 none_at_start code worth host entry serial only named store key me =
-    let idle : HostShape = idle_host code store key me in
+    let idle : HostState = idle_host code store key me in
     let le = root_worth code store key me worth in
     let new =
     none_worth (worth (new_token idle halt main_frame))
@@ -328,7 +328,7 @@ serials_differ (suc count) same = absurd (omega arith)
 
 one_at_start : (code : CodeShape) (worth : Token → ℕ) (token : Token) → IsOf worth token → StartsWithin code worth 1
 one_at_start code worth token of store key me =
-    let idle : HostShape = idle_host code store key me in
+    let idle : HostState = idle_host code store key me in
     let le = root_worth code store key me worth in
     let both =
     one_of_two worth token (new_token idle halt main_frame) (last_token me) of (λ same.

@@ -21,7 +21,7 @@ use Rattle.net_world.specs.Fits.{ShapeFits}
 use Rattle.net_world.specs.World.{WorldShape, state_at, tokens_sent}
 use Rattle.token_laws.proofs.Worth.{worth_sent, one_of, worth_held, worth_world}
 use Rattle.token_laws.proofs.Counting.{one_if}
-use Rattle.token_laws.specs.Holders.{Place, HoldsAt, IsHeld, IsSent, IsOld}
+use Rattle.token_laws.specs.Holders.{TokenPlace, HoldsAt, IsTokenHeld, IsTokenSent, IsOld}
 use Rattle.token_laws.specs.Reached.{IsReached}
 use Rattle.token_laws.proofs.HostTokens.{Counts}
 use Rattle.token_laws.proofs.WorldTokens.{the_state, Accounts}
@@ -33,7 +33,7 @@ use Rattle.token_laws.proofs.Tests.{some_found}
 
 -- ---- what was sent
 
-pub unsent_none : (world : WorldShape) (token : Token) → ¬ IsSent world token → worth_sent (one_of token) world ≡ 0
+pub unsent_none : (world : WorldShape) (token : Token) → ¬ IsTokenSent world token → worth_sent (one_of token) world ≡ 0
 unsent_none world token unsent =
     let le =
     sum_by-le (one_of token) 0 (tokens_sent world) (λ k d lt.
@@ -48,7 +48,7 @@ unsent_none world token unsent =
     omega arith) in
     omega arith
 
-pub sent_some : (world : WorldShape) (token : Token) → IsSent world token → 0 < worth_sent (one_of token) world
+pub sent_some : (world : WorldShape) (token : Token) → IsTokenSent world token → 0 < worth_sent (one_of token) world
 sent_some world token sent =
     let le = get_or-le-sum_by (one_of token) (tokens_sent world) sent.0 token sent.1 in
     let is : one_of token (get_or (tokens_sent world) sent.0 token) ≡ 1 =
@@ -57,10 +57,10 @@ sent_some world token sent =
 
 -- ---- the laws
 
-is_old : (world : WorldShape) (token : Token) (state : host_state.HostShape) → state_at world token.host ≡ Some state →
+is_old : (world : WorldShape) (token : Token) (state : host_state.HostState) → state_at world token.host ≡ Some state →
     token.serial < slice_index state.serials token.entry.0 → IsOld world token
 is_old world token state obeys passed =
-    subst (λ (o : Option host_state.HostShape).
+    subst (λ (o : Option host_state.HostState).
     IsSomeAnd o (λ s. token.serial < slice_index s.serials token.entry.0)) (sym obeys) passed
 
 -- what is known of a world that events lead to
@@ -77,8 +77,9 @@ known code rows bad store events world reach =
     (held_start code rows bad store) in
     record { fits = is.0; held = is.1 }
 
-pub held_once : (code : CodeShape) (world : WorldShape) (token : Token) (first second : Place) → IsKnown code world →
-    IsSome (state_at world token.host) → ¬ IsSent world token → HoldsAt world token first →
+pub held_once : (code : CodeShape) (world : WorldShape) (token : Token) (first second : TokenPlace) →
+    IsKnown code world →
+    IsSome (state_at world token.host) → ¬ IsTokenSent world token → HoldsAt world token first →
     HoldsAt world token second → first ≡ second
 held_once code world token first second is obeys unsent holds also =
     let state = some_found (state_at world token.host) obeys in
@@ -100,13 +101,13 @@ made_before world token held obeys named some =
     ]
 
 pub held_before : (code : CodeShape) (world : WorldShape) (token : Token) → IsKnown code world →
-    IsSome (state_at world token.host) → token.entry ≢ halt → IsHeld world token → IsOld world token
+    IsSome (state_at world token.host) → token.entry ≢ halt → IsTokenHeld world token → IsOld world token
 held_before code world token is obeys named held =
     let some = held_once_or_more code world token is.fits held in
     made_before world token is.held obeys named (omega arith)
 
 pub sent_before : (world : WorldShape) (token : Token) → AreHeld world → IsSome (state_at world token.host) →
-    token.entry ≢ halt → IsSent world token → IsOld world token
+    token.entry ≢ halt → IsTokenSent world token → IsOld world token
 sent_before world token held obeys named sent =
     let some = sent_some world token sent in made_before world token held obeys named (omega arith)
 
@@ -114,7 +115,7 @@ pub all_at : {X : Type 0} (P : X → Type 0) (xs : List X) (i : ℕ) (x : X) →
 all_at P xs i x all there =
     subst P (get_or_from_slice_get xs i x x there) (all i x (slice_get_within xs i x there))
 
-pub own_before : (code : CodeShape) (world : WorldShape) (host : HostId) (state : host_state.HostShape) (place : ℕ)
+pub own_before : (code : CodeShape) (world : WorldShape) (host : HostId) (state : host_state.HostState) (place : ℕ)
     (on_stack : StackEntry) → ShapeFits code world → state_at world host ≡ Some state →
     slice_get state.entries place ≡ Some on_stack → IsOld world on_stack.token
 own_before code world host state place on_stack fits obeys there =
@@ -137,7 +138,7 @@ apart_at entries first second one other distinct there also lt same =
     (ap (λ (e : StackEntry). e.token) (get_or_from_slice_get entries first one one there) ∙ same
     ∙ sym (ap (λ (e : StackEntry). e.token) (get_or_from_slice_get entries second other one also)))
 
-pub same_place : (code : CodeShape) (world : WorldShape) (host : HostId) (state : host_state.HostShape)
+pub same_place : (code : CodeShape) (world : WorldShape) (host : HostId) (state : host_state.HostState)
     (first second : ℕ) (one other : StackEntry) → ShapeFits code world → state_at world host ≡ Some state →
     slice_get state.entries first ≡ Some one → slice_get state.entries second ≡ Some other →
     one.token ≡ other.token → first ≡ second
@@ -154,7 +155,7 @@ same_place code world host state first second one other fits obeys there also sa
     ]
 
 -- a new token is none that was made before
-pub fresh_none : (world : WorldShape) (token : Token) (old : host_state.HostShape) (host : HostId) (serials : List ℕ)
+pub fresh_none : (world : WorldShape) (token : Token) (old : host_state.HostState) (host : HostId) (serials : List ℕ)
     (fresh : Option Token) → old.me ≡ host → state_at world host ≡ Some old → Counts old serials fresh →
     IsOld world token → worth_held (one_of token) fresh ≡ 0
 fresh_none world token old host serials None me obeys counts before = refl
@@ -164,25 +165,25 @@ fresh_none world token old host serials (Some fresh) me obeys counts before =
     let same : fresh ≡ token = (only_one token fresh).1 more in
     let at : state_at world fresh.host ≡ Some old = ap (state_at world) (is.host ∙ me) ∙ obeys in
     let passed : fresh.serial < slice_index old.serials fresh.entry.0 =
-    subst (λ (o : Option host_state.HostShape).
+    subst (λ (o : Option host_state.HostState).
     IsSomeAnd o (λ s. fresh.serial < slice_index s.serials fresh.entry.0)) at
     (subst (IsOld world) (sym same) before) in
     let serial = is.serial in
     let never : ⊥ = omega arith in
     never)
 
-some_state : (o : Option host_state.HostShape) (P : host_state.HostShape → Type 0) → IsSomeAnd o P →
-    (state : host_state.HostShape) × (o ≡ Some state)
+some_state : (o : Option host_state.HostState) (P : host_state.HostState → Type 0) → IsSomeAnd o P →
+    (state : host_state.HostState) × (o ≡ Some state)
 some_state None P is = absurd is
 some_state (Some state) P is = (state, refl)
 
 old_state : (world : WorldShape) (token : Token) → IsOld world token →
-    (state : host_state.HostShape) × (state_at world token.host ≡ Some state)
+    (state : host_state.HostState) × (state_at world token.host ≡ Some state)
 old_state world token before = some_state (state_at world token.host) _ before
 
 pub stays_gone : (code : CodeShape) (world after : WorldShape) (token : Token) → ShapeFits code after →
-    Accounts world after → IsOld world token → ¬ IsHeld world token → ¬ IsSent world token →
-    (¬ IsHeld after token) × ¬ IsSent after token
+    Accounts world after → IsOld world token → ¬ IsTokenHeld world token → ¬ IsTokenSent world token →
+    (¬ IsTokenHeld after token) × ¬ IsTokenSent after token
 stays_gone code world after token fits step before nobody unsent =
     let state = old_state world token before in
     let none = none_worth (worth_world (one_of token) world) (λ more. nobody (some_place world token more)) in

@@ -24,7 +24,7 @@ use Rattle.host_code.specs.Thread.{ThreadShape, WaitingShape, Awaited}
 use Rattle.host_code.specs.Thread.Awaited.{value_of_field, acknowledgement, token_of_entry}
 use Rattle.host_code.specs.Code.{CodeShape, CodeFieldShape, halt, field_at, entry_at, instruction_at}
 use Rattle.host_stores.specs.Stores.{is_same_variable}
-use Rattle.host_core.specs.Host.{HostShape, Outcome, with_running, with_one_ignored, with_token, with_temporary}
+use Rattle.host_core.specs.Host.{HostState, Outcome, with_running, with_one_ignored, with_token, with_temporary}
 use Rattle.host_core.specs.Host.{after_pop, after_entering, after_asking, value_in_thread, without_message}
 use Rattle.host_core.specs.Host.{with_row_written, with_variable_set, with_variables_set}
 use Rattle.host_core.specs.Taking.{IsTaking, after_taking, after_answer}
@@ -40,7 +40,7 @@ pub record OutcomeHasNumbers (outcome : Outcome) : Type 0 where
   pub state : StateHasNumbers outcome.state
   pub sent : IfSome outcome.sent (λ letter. MessageHasNumbers letter.1)
 
-silent : (state : HostShape) → StateHasNumbers state → OutcomeHasNumbers (without_message state)
+silent : (state : HostState) → StateHasNumbers state → OutcomeHasNumbers (without_message state)
 silent state fits = record { state = fits; sent = tt }
 
 either : (b : Bool) (first second : Outcome) → OutcomeHasNumbers first → OutcomeHasNumbers second →
@@ -50,7 +50,7 @@ either false first second one other = other
 
 -- ---- the changes
 
-runs : (host : HostShape) (running : Option ThreadShape) → StateHasNumbers host → IfSome running ThreadHasNumbers →
+runs : (host : HostState) (running : Option ThreadShape) → StateHasNumbers host → IfSome running ThreadHasNumbers →
     StateHasNumbers (with_running host running)
 runs host running fits also = record {
   rows = fits.rows;
@@ -59,11 +59,11 @@ runs host running fits also = record {
   waiting = fits.waiting;
 }
 
-goes_on : (host : HostShape) (thread : ThreadShape) → StateHasNumbers host → ThreadHasNumbers thread →
+goes_on : (host : HostState) (thread : ThreadShape) → StateHasNumbers host → ThreadHasNumbers thread →
     OutcomeHasNumbers (with_thread host thread)
 goes_on host thread fits also = silent (with_running host (Some thread)) (runs host (Some thread) fits also)
 
-waits : (host : HostShape) (at : ℕ) (thread : ThreadShape) (awaited : Awaited) (to : HostId) (m : Message) →
+waits : (host : HostState) (at : ℕ) (thread : ThreadShape) (awaited : Awaited) (to : HostId) (m : Message) →
     StateHasNumbers host → ThreadHasNumbers thread → MessageHasNumbers m →
     OutcomeHasNumbers (record { state = after_asking host at thread awaited to; sent = Some (to, m) })
 waits host at thread awaited to m fits also message_fits = record {
@@ -76,7 +76,7 @@ waits host at thread awaited to m fits also message_fits = record {
   sent = message_fits;
 }
 
-writes : (host : HostShape) (field : FieldId) (index value : ℤ) → StateHasNumbers host → IsNumber value →
+writes : (host : HostState) (field : FieldId) (index value : ℤ) → StateHasNumbers host → IsNumber value →
     StateHasNumbers (with_row_written host field index value)
 writes host field index value fits also = record {
   rows = written_fits host.rows field.0 index value fits.rows also;
@@ -89,7 +89,7 @@ set_if : (b : Bool) (value other : ℤ) → IsNumber value → IsNumber other �
 set_if true value other fits also = fits
 set_if false value other fits also = also
 
-sets : (host : HostShape) (frame : FrameId) (variable : VarId) (value : ℤ) → StateHasNumbers host → IsNumber value →
+sets : (host : HostState) (frame : FrameId) (variable : VarId) (value : ℤ) → StateHasNumbers host → IsNumber value →
     StateHasNumbers (with_variable_set host frame variable value)
 sets host frame variable value fits also = record {
   rows = fits.rows;
@@ -101,7 +101,7 @@ sets host frame variable value fits also = record {
 }
 
 -- so does each value that rides
-rides : (host : HostShape) (frame : FrameId) (riders : List Rider) → StateHasNumbers host →
+rides : (host : HostState) (frame : FrameId) (riders : List Rider) → StateHasNumbers host →
     RidersHaveNumbers riders → StateHasNumbers (with_variables_set host frame riders)
 rides host frame [] fits all = fits
 rides host frame (rider ∷ riders) fits all =
@@ -109,7 +109,7 @@ rides host frame (rider ∷ riders) fits all =
     all.1
 
 -- what other parts of the state are is nothing to its numbers
-pub same_parts : (old state : HostShape) → StateHasNumbers old → state.rows ≡ old.rows →
+pub same_parts : (old state : HostState) → StateHasNumbers old → state.rows ≡ old.rows →
     state.variables ≡ old.variables → state.waiting ≡ old.waiting → IfSome state.running ThreadHasNumbers →
     StateHasNumbers state
 same_parts old state fits rows variables waiting running = record {
@@ -123,18 +123,18 @@ same_parts old state fits rows variables waiting running = record {
 no_temporaries : All IsNumber []
 no_temporaries = All-nil IsNumber
 
-pub enters : (host : HostShape) (there : Option Entry) (frame : FrameId) (token : Token) → StateHasNumbers host →
+pub enters : (host : HostState) (there : Option Entry) (frame : FrameId) (token : Token) → StateHasNumbers host →
     StateHasNumbers (after_entering host there frame token)
 enters host None frame token fits = runs host None fits tt
 enters host (Some entry) frame token fits = runs host _ fits no_temporaries
 
-popped : (code : CodeShape) (host : HostShape) (entry : EntryId) (frame : FrameId) (kept : Token) (halts : Bool) →
+popped : (code : CodeShape) (host : HostState) (entry : EntryId) (frame : FrameId) (kept : Token) (halts : Bool) →
     StateHasNumbers host → StateHasNumbers (if halts then record host { running = None; halted = true }
     else after_entering host (entry_at code entry) frame kept)
 popped code host entry frame kept true fits = same_parts host _ fits refl refl refl tt
 popped code host entry frame kept false fits = enters host (entry_at code entry) frame kept fits
 
-pops : (code : CodeShape) (host : HostShape) (entries : List StackEntry) → StateHasNumbers host →
+pops : (code : CodeShape) (host : HostState) (entries : List StackEntry) → StateHasNumbers host →
     StateHasNumbers (after_pop code host entries)
 pops code host [] fits = fits
 pops code host (top ∷ below) fits =
@@ -143,12 +143,12 @@ pops code host (top ∷ below) fits =
 
 -- ---- the instructions
 
-value : (host : HostShape) (thread : ThreadShape) (nodes : List Node) → StateHasNumbers host →
+value : (host : HostState) (thread : ThreadShape) (nodes : List Node) → StateHasNumbers host →
     ThreadHasNumbers thread → HaveNumbers nodes → IsNumber (value_in_thread host thread nodes)
 value host thread nodes fits also named =
     value_fits (host.variables thread.frame) thread.temporaries nodes (fits.variables thread.frame) also named
 
-reads : (host : HostShape) (thread : ThreadShape) (field : FieldId) (index : List Node)
+reads : (host : HostState) (thread : ThreadShape) (field : FieldId) (index : List Node)
     (there : Option CodeFieldShape) → StateHasNumbers host → ThreadHasNumbers thread → HaveNumbers index →
     OutcomeHasNumbers (after_read host thread field index there)
 reads host thread field index None fits also named = goes_on host thread fits also
@@ -158,7 +158,7 @@ reads host thread field index (Some there) fits also named =
     (All-push IsNumber thread.temporaries _ also (element_fits _ _ (row_fits host.rows field.0 fits.rows))))
     (waits host thread.at _ value_of_field there.host _ fits also (value host thread index fits also named))
 
-puts : (host : HostShape) (thread : ThreadShape) (field : FieldId) (index number : List Node)
+puts : (host : HostState) (thread : ThreadShape) (field : FieldId) (index number : List Node)
     (there : Option CodeFieldShape) → StateHasNumbers host → ThreadHasNumbers thread → HaveNumbers index →
     HaveNumbers number → OutcomeHasNumbers (after_put host thread field index number there)
 puts host thread field index number None fits also named written = goes_on host thread fits also
@@ -171,7 +171,7 @@ puts host thread field index number (Some there) fits also named written =
     no_temporaries)
     (waits host thread.at _ acknowledgement there.host _ fits no_temporaries (place, put))
 
-lets : (host : HostShape) (thread : ThreadShape) (frame : FrameId) (variable : VarId) (number : List Node) →
+lets : (host : HostState) (thread : ThreadShape) (frame : FrameId) (variable : VarId) (number : List Node) →
     StateHasNumbers host → ThreadHasNumbers thread → HaveNumbers number →
     OutcomeHasNumbers (after_let host thread frame variable number)
 lets host thread frame variable number fits also named =
@@ -179,42 +179,42 @@ lets host thread frame variable number fits also named =
     (sets host frame variable (value_in_thread host thread number) fits (value host thread number fits also named))
     no_temporaries
 
-pushes : (host : HostShape) (thread : ThreadShape) (entry : EntryId) (held : Option Token) → StateHasNumbers host →
+pushes : (host : HostState) (thread : ThreadShape) (entry : EntryId) (held : Option Token) → StateHasNumbers host →
     ThreadHasNumbers thread → OutcomeHasNumbers (after_own_push host thread entry held)
 pushes host thread entry None fits also = goes_on host thread fits also
 pushes host thread entry (Some held) fits also = silent _ (same_parts host _ fits refl refl refl also)
 
-asks_for : (host : HostShape) (thread : ThreadShape) (entry : EntryId) (on : HostId) (held : Option Token) →
+asks_for : (host : HostState) (thread : ThreadShape) (entry : EntryId) (on : HostId) (held : Option Token) →
     StateHasNumbers host → ThreadHasNumbers thread → OutcomeHasNumbers (after_ask host thread entry on held)
 asks_for host thread entry on None fits also = goes_on host thread fits also
 asks_for host thread entry on (Some held) fits also = waits host thread.at _ token_of_entry on _ fits also tt
 
-goes : (host : HostShape) (thread : ThreadShape) (frame : FrameId) (entry : EntryId) (on : HostId)
+goes : (host : HostState) (thread : ThreadShape) (frame : FrameId) (entry : EntryId) (on : HostId)
     (held : Option Token) → StateHasNumbers host → ThreadHasNumbers thread →
     OutcomeHasNumbers (after_go host thread frame entry on held)
 goes host thread frame entry on None fits also = goes_on host thread fits also
 goes host thread frame entry on (Some held) fits also = record { state = runs host None fits tt; sent = tt }
 
 -- the values that ride are those of the host's variables
-riders_fit : (host : HostShape) (frame : FrameId) (variables : List VarId) → StateHasNumbers host →
+riders_fit : (host : HostState) (frame : FrameId) (variables : List VarId) → StateHasNumbers host →
     RidersHaveNumbers (riders_of host frame variables)
 riders_fit host frame [] fits = tt
 riders_fit host frame (variable ∷ variables) fits =
     (fits.variables frame variable, riders_fit host frame variables fits)
 
-goes_with : (host : HostShape) (thread : ThreadShape) (frame : FrameId) (entry : EntryId) (on : HostId)
+goes_with : (host : HostState) (thread : ThreadShape) (frame : FrameId) (entry : EntryId) (on : HostId)
     (riders : List VarId) (held : Option Token) → StateHasNumbers host → ThreadHasNumbers thread →
     OutcomeHasNumbers (after_go_with host thread frame entry on riders held)
 goes_with host thread frame entry on riders None fits also = goes_on host thread fits also
 goes_with host thread frame entry on riders (Some held) fits also =
     record { state = runs host None fits tt; sent = riders_fit host frame riders fits }
 
-calls_own : (host : HostShape) (thread : ThreadShape) (there : Option Entry) → StateHasNumbers host →
+calls_own : (host : HostState) (thread : ThreadShape) (there : Option Entry) → StateHasNumbers host →
     ThreadHasNumbers thread → OutcomeHasNumbers (after_own_call host thread there)
 calls_own host thread None fits also = goes_on host thread fits also
 calls_own host thread (Some there) fits also = goes_on host _ fits also
 
-gives_result : (host : HostShape) (thread : ThreadShape) (variable : VarId) (number : List Node)
+gives_result : (host : HostState) (thread : ThreadShape) (variable : VarId) (number : List Node)
     (held : Option Token) (passes : Bool) → StateHasNumbers host → ThreadHasNumbers thread → HaveNumbers number →
     OutcomeHasNumbers (after_return host thread variable number held passes)
 gives_result host thread variable number None passes fits also named = goes_on host thread fits also
@@ -227,7 +227,7 @@ gives_result host thread variable number (Some held) passes fits also named =
     (waits host thread.at _ acknowledgement held.host _ fits no_temporaries result)
     (goes_on host _ fits no_temporaries))
 
-gives_back_here : (code : CodeShape) (host : HostShape) (passes : Bool) → StateHasNumbers host →
+gives_back_here : (code : CodeShape) (host : HostState) (passes : Bool) → StateHasNumbers host →
     OutcomeHasNumbers (without_message (if passes
     then after_pop code (with_running host None) host.entries
     else with_one_ignored (with_running host None)))
@@ -235,14 +235,14 @@ gives_back_here code host true fits =
     silent _ (pops code (with_running host None) host.entries (runs host None fits tt))
 gives_back_here code host false fits = silent _ (same_parts host _ fits refl refl refl tt)
 
-gives_back : (code : CodeShape) (host : HostShape) (thread : ThreadShape) (held : Option Token) (passes : Bool) →
+gives_back : (code : CodeShape) (host : HostState) (thread : ThreadShape) (held : Option Token) (passes : Bool) →
     StateHasNumbers host → ThreadHasNumbers thread → OutcomeHasNumbers (after_back code host thread held passes)
 gives_back code host thread None passes fits also = goes_on host thread fits also
 gives_back code host thread (Some held) passes fits also =
     either (held.host.0 == host.me.0) _ _ (gives_back_here code host passes fits)
     (record { state = runs host None fits tt; sent = tt })
 
-operation : (code : CodeShape) (host : HostShape) (thread : ThreadShape) (operation : Op) (passes : Bool) →
+operation : (code : CodeShape) (host : HostState) (thread : ThreadShape) (operation : Op) (passes : Bool) →
     StateHasNumbers host → ThreadHasNumbers thread → OperationHasNumbers operation →
     OutcomeHasNumbers (after_operation code host thread operation passes)
 operation code host thread (op.Read field index) passes fits also named =
@@ -277,7 +277,7 @@ operation code host thread (op.GoWith entry on riders) passes fits also named =
 operation code host thread (op.CallWith entry on riders) passes fits also named =
     goes_with host thread thread.new_frame entry on riders thread.held fits also
 
-running_fits : (code : CodeShape) (host : HostShape) (thread : ThreadShape) (there : Option Instr)
+running_fits : (code : CodeShape) (host : HostState) (thread : ThreadShape) (there : Option Instr)
     (outcome : Outcome) → CodeHasNumbers code → StateHasNumbers host → ThreadHasNumbers thread →
     instruction_at code host.me thread.at ≡ there → IsRunning code host thread there outcome →
     OutcomeHasNumbers outcome
@@ -287,7 +287,7 @@ running_fits code host thread (Some instruction) outcome named fits also is step
     subst OutcomeHasNumbers step.2
     (operation code host thread instruction.op step.0 fits also (named host.me thread.at instruction is))
 
-turn_of : (code : CodeShape) (host : HostShape) (running : Option ThreadShape) (outcome : Outcome) →
+turn_of : (code : CodeShape) (host : HostState) (running : Option ThreadShape) (outcome : Outcome) →
     CodeHasNumbers code → StateHasNumbers host → IfSome running ThreadHasNumbers →
     IsTurnOf code host running outcome → OutcomeHasNumbers outcome
 turn_of code host None outcome named fits also step = subst OutcomeHasNumbers step (silent host fits)
@@ -295,7 +295,7 @@ turn_of code host (Some thread) outcome named fits also step =
     running_fits code (with_running host None) thread (instruction_at code host.me thread.at) outcome named
     (runs host None fits tt) also refl step
 
-pub turn_numbers : (code : CodeShape) (host : HostShape) (outcome : Outcome) → CodeHasNumbers code →
+pub turn_numbers : (code : CodeShape) (host : HostState) (outcome : Outcome) → CodeHasNumbers code →
     StateHasNumbers host → IsTurn code host outcome → OutcomeHasNumbers outcome
 turn_numbers code host outcome named fits step = turn_of code host host.running outcome named fits fits.running step
 
@@ -314,7 +314,7 @@ found (first ∷ threads) zero answered keeps all = keeps first.thread (all 0 fi
 found (first ∷ threads) (suc place) answered keeps all =
     found threads place answered keeps (λ k d lt. all (suc k) d (omega arith))
 
-wakes : (host : HostShape) (place : Option ℕ) (answered : ThreadShape → ThreadShape) → StateHasNumbers host →
+wakes : (host : HostState) (place : Option ℕ) (answered : ThreadShape → ThreadShape) → StateHasNumbers host →
     ((thread : ThreadShape) → ThreadHasNumbers thread → ThreadHasNumbers (answered thread)) →
     OutcomeHasNumbers (without_message (after_answer host place answered))
 wakes host None answered fits keeps = silent host fits
@@ -326,7 +326,7 @@ wakes host (Some place) answered fits keeps =
       waiting = all_but (λ waiting. ThreadHasNumbers waiting.thread) host.waiting place fits.waiting;
     })
 
-takes : (code : CodeShape) (host : HostShape) (from : HostId) (m : Message) (passes : Bool) → StateHasNumbers host →
+takes : (code : CodeShape) (host : HostState) (from : HostId) (m : Message) (passes : Bool) → StateHasNumbers host →
     MessageHasNumbers m → OutcomeHasNumbers (after_taking code host from m passes)
 takes code host from m false fits named = silent _ (same_parts host _ fits refl refl refl fits.running)
 takes code host from (message.Get request field index) true fits named =
@@ -350,7 +350,7 @@ takes code host from (message.Ack request) true fits named = wakes host _ (λ th
 takes code host from (message.Token request token) true fits named =
     wakes host _ (with_token (Some token)) fits (λ thread all. all)
 
-pub taking_numbers : (code : CodeShape) (host : HostShape) (from : HostId) (m : Message) (outcome : Outcome) →
+pub taking_numbers : (code : CodeShape) (host : HostState) (from : HostId) (m : Message) (outcome : Outcome) →
     StateHasNumbers host → MessageHasNumbers m → IsTaking code host from m outcome → OutcomeHasNumbers outcome
 taking_numbers code host from m outcome fits named step =
     subst OutcomeHasNumbers step.2 (takes code host from m step.0 fits named)

@@ -27,7 +27,7 @@ use Rattle.host_code.specs.Code.{CodeShape, CodeFieldShape, halt, field_at, entr
 use Rattle.host_core.specs.Awaiting.{awaits}
 use Rattle.host_core.specs.Fits.{StateFits}
 use Rattle.host_core.proofs.Kept.{kept_at_rest}
-use Rattle.host_core.specs.Host.{HostShape, Outcome, with_running, with_one_ignored, with_token, with_temporary}
+use Rattle.host_core.specs.Host.{HostState, Outcome, with_running, with_one_ignored, with_token, with_temporary}
 use Rattle.host_core.specs.Host.{after_pop, after_entering, after_asking, next_request, without_message}
 use Rattle.host_core.specs.Host.{with_variables_set}
 use Rattle.host_core.specs.Taking.{IsTaking, after_taking, after_answer, place_of_awaiting}
@@ -48,14 +48,14 @@ letters kind (Some letter) = one_if (kind letter.1)
 -- ---- a turn
 
 -- nothing is asked
-pub record IsQuiet (old : HostShape) (outcome : Outcome) : Type 0 where
+pub record IsQuiet (old : HostState) (outcome : Outcome) : Type 0 where
   pub waiting : outcome.state.waiting ≡ old.waiting
   pub requests : outcome.state.requests ≡ old.requests
   pub asks : (request : RequestId) → letters (asks request) outcome.sent ≡ 0
   pub answers : (request : RequestId) → letters (answers request) outcome.sent ≡ 0
 
 -- the instruction at a place sends its next request, and its thread waits for the answer
-pub record Requests (old : HostShape) (outcome : Outcome) : Type 0 where
+pub record Requests (old : HostState) (outcome : Outcome) : Type 0 where
   pub at : ℕ
   pub within : at < length old.requests
   pub to : HostId
@@ -69,19 +69,19 @@ pub record Requests (old : HostShape) (outcome : Outcome) : Type 0 where
   pub asks : (request : RequestId) → asks request message ≡ is_request (next_request old at) request
   pub answers : (request : RequestId) → answers request message ≡ false
 
-abbrev pub Turns : HostShape → Outcome → Type 0
+abbrev pub Turns : HostState → Outcome → Type 0
 Turns old outcome = IsQuiet old outcome ⊎ Requests old outcome
 
-either : (b : Bool) (old : HostShape) (first second : Outcome) → Turns old first → Turns old second →
+either : (b : Bool) (old : HostState) (first second : Outcome) → Turns old first → Turns old second →
     Turns old (if b then first else second)
 either true old first second one other = one
 either false old first second one other = other
 
-goes_on : (host : HostShape) (thread : ThreadShape) → Turns host (with_thread host thread)
+goes_on : (host : HostState) (thread : ThreadShape) → Turns host (with_thread host thread)
 goes_on host thread =
     inl (record { waiting = refl; requests = refl; asks = λ request. refl; answers = λ request. refl })
 
-requests : (host : HostShape) (at : ℕ) (thread : ThreadShape) (awaited : Awaited) (to : HostId) (m : Message) →
+requests : (host : HostState) (at : ℕ) (thread : ThreadShape) (awaited : Awaited) (to : HostId) (m : Message) →
     at < length host.requests →
     ((request : RequestId) → asks request m ≡ is_request (next_request host at) request) →
     ((request : RequestId) → answers request m ≡ false) →
@@ -103,22 +103,22 @@ requests host at thread awaited to m within is_asked no_answer =
     })
 
 -- an entry that is taken off changes neither
-pub record IsSame (old state : HostShape) : Type 0 where
+pub record IsSame (old state : HostState) : Type 0 where
   pub waiting : state.waiting ≡ old.waiting
   pub requests : state.requests ≡ old.requests
 
-pub entering_same : (host : HostShape) (there : Option Entry) (frame : FrameId) (token : Token) →
+pub entering_same : (host : HostState) (there : Option Entry) (frame : FrameId) (token : Token) →
     IsSame host (after_entering host there frame token)
 entering_same host None frame token = record { waiting = refl; requests = refl }
 entering_same host (Some entry) frame token = record { waiting = refl; requests = refl }
 
-popped_same : (code : CodeShape) (host : HostShape) (entry : EntryId) (frame : FrameId) (kept : Token)
+popped_same : (code : CodeShape) (host : HostState) (entry : EntryId) (frame : FrameId) (kept : Token)
     (halts : Bool) → IsSame host (if halts then record host { running = None; halted = true }
     else after_entering host (entry_at code entry) frame kept)
 popped_same code host entry frame kept true = record { waiting = refl; requests = refl }
 popped_same code host entry frame kept false = entering_same host (entry_at code entry) frame kept
 
-pop_same : (code : CodeShape) (host : HostShape) (entries : List StackEntry) →
+pop_same : (code : CodeShape) (host : HostState) (entries : List StackEntry) →
     IsSame host (after_pop code host entries)
 pop_same code host [] = record { waiting = refl; requests = refl }
 pop_same code host (top ∷ below) =
@@ -126,7 +126,7 @@ pop_same code host (top ∷ below) =
     popped_same code (record host { entries = below }) top.entry top.frame top.kept (top.entry.0 == halt.0) in
     record { waiting = same.waiting; requests = same.requests }
 
-reads : (host : HostShape) (thread : ThreadShape) (field : FieldId) (index : List Node)
+reads : (host : HostState) (thread : ThreadShape) (field : FieldId) (index : List Node)
     (there : Option CodeFieldShape) →
     thread.at < length host.requests → Turns host (after_read host thread field index there)
 reads host thread field index None within = goes_on host thread
@@ -134,7 +134,7 @@ reads host thread field index (Some there) within =
     either (there.host.0 == host.me.0) host _ _ (goes_on host _)
     (requests host thread.at _ value_of_field there.host _ within (λ request. refl) (λ request. refl))
 
-puts : (host : HostShape) (thread : ThreadShape) (field : FieldId) (index value : List Node)
+puts : (host : HostState) (thread : ThreadShape) (field : FieldId) (index value : List Node)
     (there : Option CodeFieldShape) → thread.at < length host.requests →
     Turns host (after_put host thread field index value there)
 puts host thread field index value None within = goes_on host thread
@@ -143,36 +143,36 @@ puts host thread field index value (Some there) within =
     (inl (record { waiting = refl; requests = refl; asks = λ request. refl; answers = λ request. refl }))
     (requests host thread.at _ acknowledgement there.host _ within (λ request. refl) (λ request. refl))
 
-pushes : (host : HostShape) (thread : ThreadShape) (entry : EntryId) (held : Option Token) →
+pushes : (host : HostState) (thread : ThreadShape) (entry : EntryId) (held : Option Token) →
     Turns host (after_own_push host thread entry held)
 pushes host thread entry None = goes_on host thread
 pushes host thread entry (Some held) =
     inl (record { waiting = refl; requests = refl; asks = λ request. refl; answers = λ request. refl })
 
-asks_for : (host : HostShape) (thread : ThreadShape) (entry : EntryId) (on : HostId) (held : Option Token) →
+asks_for : (host : HostState) (thread : ThreadShape) (entry : EntryId) (on : HostId) (held : Option Token) →
     thread.at < length host.requests → Turns host (after_ask host thread entry on held)
 asks_for host thread entry on None within = goes_on host thread
 asks_for host thread entry on (Some held) within =
     requests host thread.at _ token_of_entry on _ within (λ request. refl) (λ request. refl)
 
-goes : (host : HostShape) (thread : ThreadShape) (frame : FrameId) (entry : EntryId) (on : HostId)
+goes : (host : HostState) (thread : ThreadShape) (frame : FrameId) (entry : EntryId) (on : HostId)
     (held : Option Token) → Turns host (after_go host thread frame entry on held)
 goes host thread frame entry on None = goes_on host thread
 goes host thread frame entry on (Some held) =
     inl (record { waiting = refl; requests = refl; asks = λ request. refl; answers = λ request. refl })
 
-goes_with : (host : HostShape) (thread : ThreadShape) (frame : FrameId) (entry : EntryId) (on : HostId)
+goes_with : (host : HostState) (thread : ThreadShape) (frame : FrameId) (entry : EntryId) (on : HostId)
     (riders : List VarId) (held : Option Token) → Turns host (after_go_with host thread frame entry on riders held)
 goes_with host thread frame entry on riders None = goes_on host thread
 goes_with host thread frame entry on riders (Some held) =
     inl (record { waiting = refl; requests = refl; asks = λ request. refl; answers = λ request. refl })
 
-calls_own : (host : HostShape) (thread : ThreadShape) (there : Option Entry) →
+calls_own : (host : HostState) (thread : ThreadShape) (there : Option Entry) →
     Turns host (after_own_call host thread there)
 calls_own host thread None = goes_on host thread
 calls_own host thread (Some there) = goes_on host _
 
-gives_result : (host : HostShape) (thread : ThreadShape) (variable : VarId) (value : List Node) (held : Option Token)
+gives_result : (host : HostState) (thread : ThreadShape) (variable : VarId) (value : List Node) (held : Option Token)
     (passes : Bool) → thread.at < length host.requests →
     Turns host (after_return host thread variable value held passes)
 gives_result host thread variable value None passes within = goes_on host thread
@@ -183,7 +183,7 @@ gives_result host thread variable value (Some held) passes within =
     (requests host thread.at _ acknowledgement held.host _ within (λ request. refl) (λ request. refl))
     (goes_on host _))
 
-gives_back_here : (code : CodeShape) (host : HostShape) (passes : Bool) →
+gives_back_here : (code : CodeShape) (host : HostState) (passes : Bool) →
     Turns host (without_message (if passes
     then after_pop code (with_running host None) host.entries
     else with_one_ignored (with_running host None)))
@@ -198,14 +198,14 @@ gives_back_here code host true =
 gives_back_here code host false =
     inl (record { waiting = refl; requests = refl; asks = λ request. refl; answers = λ request. refl })
 
-gives_back : (code : CodeShape) (host : HostShape) (thread : ThreadShape) (held : Option Token) (passes : Bool) →
+gives_back : (code : CodeShape) (host : HostState) (thread : ThreadShape) (held : Option Token) (passes : Bool) →
     Turns host (after_back code host thread held passes)
 gives_back code host thread None passes = goes_on host thread
 gives_back code host thread (Some held) passes =
     either (held.host.0 == host.me.0) host _ _ (gives_back_here code host passes)
     (inl (record { waiting = refl; requests = refl; asks = λ request. refl; answers = λ request. refl }))
 
-operation : (code : CodeShape) (host : HostShape) (thread : ThreadShape) (operation : Op) (passes : Bool) →
+operation : (code : CodeShape) (host : HostState) (thread : ThreadShape) (operation : Op) (passes : Bool) →
     thread.at < length host.requests → Turns host (after_operation code host thread operation passes)
 operation code host thread (op.Read field index) passes within =
     reads host thread field index (field_at code field) within
@@ -237,7 +237,7 @@ operation code host thread (op.GoWith entry on riders) passes within =
 operation code host thread (op.CallWith entry on riders) passes within =
     goes_with host thread thread.new_frame entry on riders thread.held
 
-running_turns : (code : CodeShape) (host : HostShape) (thread : ThreadShape) (there : Option Instr)
+running_turns : (code : CodeShape) (host : HostState) (thread : ThreadShape) (there : Option Instr)
     (outcome : Outcome) → StateFits code host → instruction_at code host.me thread.at ≡ there →
     IsRunning code host thread there outcome → Turns host outcome
 running_turns code host thread None outcome fits is runs = subst (Turns host) runs (goes_on host thread)
@@ -247,7 +247,7 @@ running_turns code host thread (Some instruction) outcome fits is runs =
     (subst (λ (n : ℕ). thread.at < n) (sym fits.requests) (slice_get_within _ thread.at instruction is)))
 
 -- what a host at rest has of requests, the host has
-rested : (host : HostShape) (outcome : Outcome) → Turns (with_running host None) outcome → Turns host outcome
+rested : (host : HostState) (outcome : Outcome) → Turns (with_running host None) outcome → Turns host outcome
 rested host outcome (inl quiet) =
     inl (record {
       waiting = quiet.waiting;
@@ -271,7 +271,7 @@ rested host outcome (inr one) =
       answers = one.answers;
     })
 
-turn_of : (code : CodeShape) (host : HostShape) (running : Option ThreadShape) (outcome : Outcome) →
+turn_of : (code : CodeShape) (host : HostState) (running : Option ThreadShape) (outcome : Outcome) →
     StateFits code host → IsTurnOf code host running outcome → Turns host outcome
 turn_of code host None outcome fits turns =
     subst (Turns host) turns
@@ -281,14 +281,14 @@ turn_of code host (Some thread) outcome fits turns =
     (running_turns code (with_running host None) thread (instruction_at code host.me thread.at) outcome
     (kept_at_rest code host fits) refl turns)
 
-pub turn_requests : (code : CodeShape) (host : HostShape) (outcome : Outcome) → StateFits code host →
+pub turn_requests : (code : CodeShape) (host : HostState) (outcome : Outcome) → StateFits code host →
     IsTurn code host outcome → Turns host outcome
 turn_requests code host outcome fits turns = turn_of code host host.running outcome fits turns
 
 -- ---- a message
 
 -- what taking a message of another host makes of requests
-pub record Replies (old : HostShape) (from : HostId) (m : Message) (outcome : Outcome) : Type 0 where
+pub record Replies (old : HostState) (from : HostId) (m : Message) (outcome : Outcome) : Type 0 where
   pub requests : outcome.state.requests ≡ old.requests
   pub fewer : (f : WaitingShape → ℕ) → sum_by f outcome.state.waiting ≤ sum_by f old.waiting
   pub ends : (request : RequestId) (other : HostId) → waiting_for_from request other old.waiting
@@ -297,7 +297,7 @@ pub record Replies (old : HostShape) (from : HostId) (m : Message) (outcome : Ou
   pub answered : (request : RequestId) → letters (answers request) outcome.sent ≤ one_if (asks request m)
 
 -- no wait ends, and what is sent is an answer
-keeps : (old : HostShape) (from : HostId) (m : Message) (outcome : Outcome) → outcome.state.requests ≡ old.requests →
+keeps : (old : HostState) (from : HostId) (m : Message) (outcome : Outcome) → outcome.state.requests ≡ old.requests →
     outcome.state.waiting ≡ old.waiting → ((request : RequestId) → letters (asks request) outcome.sent ≡ 0) →
     ((request : RequestId) → letters (answers request) outcome.sent ≤ one_if (asks request m)) →
     Replies old from m outcome
@@ -362,7 +362,7 @@ woken threads place (Some found) awaited number request from other is there =
     let le = ends_one (is_request number request) found.asked.0 from.0 other.0 its.1 in
     omega arith
 
-wakes : (old : HostShape) (from : HostId) (m : Message) (number : RequestId) (awaited : Awaited) (place : Option ℕ)
+wakes : (old : HostState) (from : HostId) (m : Message) (number : RequestId) (awaited : Awaited) (place : Option ℕ)
     (answered : ThreadShape → ThreadShape) → place_of_awaiting old awaited number from ≡ place →
     ((request : RequestId) → answers request m ≡ is_request number request) →
     Replies old from m (without_message (after_answer old place answered))
@@ -382,7 +382,7 @@ wakes old from m number awaited (Some place) answered is answer = record {
   answered = λ request. omega arith;
 }
 
-takes : (code : CodeShape) (host : HostShape) (from : HostId) (m : Message) (passes : Bool) →
+takes : (code : CodeShape) (host : HostState) (from : HostId) (m : Message) (passes : Bool) →
     Replies host from m (after_taking code host from m passes)
 takes code host from m false = keeps host from m _ refl refl (λ request. refl) (λ request. omega arith)
 takes code host from (message.Get request field index) true =
@@ -399,8 +399,8 @@ takes code host from (message.Rgoto frame entry token) true =
 takes code host from (message.RgotoWith frame entry token riders) true =
     let same = entering_same (with_variables_set host frame riders) (entry_at code entry) frame token in
     let rode = riding_is host frame riders in
-    keeps host from _ _ (same.requests ∙ ap (λ (h : HostShape). h.requests) (sym rode))
-    (same.waiting ∙ ap (λ (h : HostShape). h.waiting) (sym rode)) (λ number. refl) (λ number. omega arith)
+    keeps host from _ _ (same.requests ∙ ap (λ (h : HostState). h.requests) (sym rode))
+    (same.waiting ∙ ap (λ (h : HostState). h.waiting) (sym rode)) (λ number. refl) (λ number. omega arith)
 takes code host from (message.Lgoto token) true =
     let same = pop_same code host host.entries in
     keeps host from _ _ same.requests same.waiting (λ number. refl) (λ number. omega arith)
@@ -411,6 +411,6 @@ takes code host from (message.Ack request) true =
 takes code host from (message.Token request token) true =
     wakes host from _ request token_of_entry _ (with_token (Some token)) refl (λ number. refl)
 
-pub taking_requests : (code : CodeShape) (host : HostShape) (from : HostId) (m : Message) (outcome : Outcome) →
+pub taking_requests : (code : CodeShape) (host : HostState) (from : HostId) (m : Message) (outcome : Outcome) →
     IsTaking code host from m outcome → Replies host from m outcome
 taking_requests code host from m outcome step = subst (Replies host from m) step.2 (takes code host from m step.0)

@@ -25,10 +25,10 @@ use Rattle.host_code.specs.Thread.Awaited.{value_of_field, acknowledgement, toke
 use Rattle.host_code.specs.Code.{CodeShape, CodeFieldShape, halt, field_at, entry_at, instruction_at, part_of}
 use Rattle.host_code.specs.Sound.{IsSoundCode, IsEntryOn, OperationFits, temporaries_at}
 use Rattle.host_core.specs.Fits.{StateFits}
-use Rattle.host_core.specs.Host.{HostShape, Outcome, with_running, with_one_ignored, with_token, with_temporary}
+use Rattle.host_core.specs.Host.{HostState, Outcome, with_running, with_one_ignored, with_token, with_temporary}
 use Rattle.host_core.specs.Host.{new_token, stack_of, after_pop, after_entering, after_asking}
 use Rattle.host_core.specs.Host.{without_message, with_variables_set}
-use Rattle.host_core.specs.Taking.{IsTaking, Passes, after_taking, after_answer}
+use Rattle.host_core.specs.Taking.{IsTaking, PassesCheck, after_taking, after_answer}
 use Rattle.host_core.specs.Turn.{IsTurn, IsTurnOf, IsRunning, after_operation, after_read, after_put, after_own_push}
 use Rattle.host_core.specs.Turn.{after_ask, after_go, after_go_with, after_own_call, after_return, after_back}
 use Rattle.host_core.specs.Turn.{with_thread}
@@ -45,14 +45,14 @@ worth_letter worth None = 0
 worth_letter worth (Some letter) = worth_held worth (token_in letter.1)
 
 -- the counts are as they were, or one entry was pushed, which is not the one that ends the program
-abbrev pub Counts : HostShape → List ℕ → Option Token → Type 0
+abbrev pub Counts : HostState → List ℕ → Option Token → Type 0
 Counts old serials None = serials ≡ old.serials
 Counts old serials (Some token) =
     (entry : EntryId) × (frame : FrameId) × (entry ≢ halt) × (entry.0 < length old.serials)
     × (token ≡ new_token old entry frame) × (serials ≡ serials_after_push (stack_of old) entry)
 
 -- A host steps from a state, with the token of the thread that runs or of the message that it takes.
-pub record Handles (old : HostShape) (taken : Option Token) (outcome : Outcome) : Type 0 where
+pub record Handles (old : HostState) (taken : Option Token) (outcome : Outcome) : Type 0 where
   pub fresh : Option Token
   pub held : (worth : Token → ℕ) →
       worth_state worth outcome.state + worth_letter worth outcome.sent
@@ -60,7 +60,7 @@ pub record Handles (old : HostShape) (taken : Option Token) (outcome : Outcome) 
   pub counts : Counts old outcome.state.serials fresh
 
 -- nothing is made
-makes_none : (old : HostShape) (taken : Option Token) (outcome : Outcome) → outcome.state.serials ≡ old.serials →
+makes_none : (old : HostState) (taken : Option Token) (outcome : Outcome) → outcome.state.serials ≡ old.serials →
     ((worth : Token → ℕ) → worth_state worth outcome.state + worth_letter worth outcome.sent
     ≤ worth_state worth old + worth_held worth taken) → Handles old taken outcome
 makes_none old taken outcome same held = record {
@@ -69,7 +69,7 @@ makes_none old taken outcome same held = record {
   counts = same;
 }
 
-either : (b : Bool) (old : HostShape) (taken : Option Token) (first second : Outcome) → Handles old taken first →
+either : (b : Bool) (old : HostState) (taken : Option Token) (first second : Outcome) → Handles old taken first →
     Handles old taken second → Handles old taken (if b then first else second)
 either true old taken first second one other = one
 either false old taken first second one other = other
@@ -77,14 +77,14 @@ either false old taken first second one other = other
 -- ---- the changes
 
 -- the thread goes on with its token
-goes_on : (host : HostShape) (thread : ThreadShape) (held : Option Token) → thread.held ≡ held →
+goes_on : (host : HostState) (thread : ThreadShape) (held : Option Token) → thread.held ≡ held →
     Handles host held (with_thread host thread)
 goes_on host thread held same = makes_none host held (with_thread host thread) refl (λ worth.
     let is : worth_held worth thread.held ≡ worth_held worth held = ap (worth_held worth) same in
     omega arith)
 
 -- it waits with the token, or without it where the message has it
-asks : (host : HostShape) (at : ℕ) (thread : ThreadShape) (awaited : Awaited) (to : HostId) (m : Message)
+asks : (host : HostState) (at : ℕ) (thread : ThreadShape) (awaited : Awaited) (to : HostId) (m : Message)
     (held : Option Token) → ((worth : Token → ℕ) →
     worth_held worth thread.held + worth_held worth (token_in m) ≤ worth_held worth held) →
     Handles host held (record { state = after_asking host at thread awaited to; sent = Some (to, m) })
@@ -103,7 +103,7 @@ asks host at thread awaited to m held le =
     omega arith)
 
 -- the entry is pushed with the token, and another is made
-pushes : (code : CodeShape) (host : HostShape) (entry : EntryId) (frame : FrameId) (kept : Token) (outcome : Outcome) →
+pushes : (code : CodeShape) (host : HostState) (entry : EntryId) (frame : FrameId) (kept : Token) (outcome : Outcome) →
     StateFits code host → entry ≢ halt → (P : Entry → Type 0) → IsSomeAnd (entry_at code entry) P →
     outcome.state.serials ≡ serials_after_push (stack_of host) entry →
     ((worth : Token → ℕ) → worth_state worth outcome.state + worth_letter worth outcome.sent
@@ -123,7 +123,7 @@ pushes code host entry frame kept outcome fits named P there counted held = reco
 }
 
 -- a thread starts, whatever the host's variables are by then
-enters : (host : HostShape) (variables : FrameId → VarId → ℤ) (there : Option Entry) (frame : FrameId)
+enters : (host : HostState) (variables : FrameId → VarId → ℤ) (there : Option Entry) (frame : FrameId)
     (token : Token) →
     Handles host (Some token)
     (without_message (after_entering (record host { variables = variables }) there frame token))
@@ -131,30 +131,30 @@ enters host variables None frame token = makes_none host (Some token) _ refl (λ
 enters host variables (Some entry) frame token = makes_none host (Some token) _ refl (λ worth. omega arith)
 
 -- it starts where values ride with it
-enters_with : (host : HostShape) (there : Option Entry) (frame : FrameId) (token : Token) (riders : List Rider) →
+enters_with : (host : HostState) (there : Option Entry) (frame : FrameId) (token : Token) (riders : List Rider) →
     Handles host (Some token)
     (without_message (after_entering (with_variables_set host frame riders) there frame token))
 enters_with host there frame token riders =
-    subst (λ (h : HostShape). Handles host (Some token) (without_message (after_entering h there frame token)))
+    subst (λ (h : HostState). Handles host (Some token) (without_message (after_entering h there frame token)))
     (riding_is host frame riders)
     (enters host (with_variables_set host frame riders).variables there frame token)
 
 -- ---- an entry that is taken off
 
-pub entering_worth : (host : HostShape) (there : Option Entry) (frame : FrameId) (token : Token) (worth : Token → ℕ) →
+pub entering_worth : (host : HostState) (there : Option Entry) (frame : FrameId) (token : Token) (worth : Token → ℕ) →
     worth_state worth (after_entering host there frame token)
     ≤ worth token + worth_state worth (with_running host None)
 entering_worth host None frame token worth = omega arith
 entering_worth host (Some entry) frame token worth = omega arith
 
-popped_worth : (code : CodeShape) (host : HostShape) (entry : EntryId) (frame : FrameId) (kept : Token) (halts : Bool)
+popped_worth : (code : CodeShape) (host : HostState) (entry : EntryId) (frame : FrameId) (kept : Token) (halts : Bool)
     (worth : Token → ℕ) → worth_state worth (if halts then record host { running = None; halted = true }
     else after_entering host (entry_at code entry) frame kept) ≤ worth kept + worth_state worth (with_running host None)
 popped_worth code host entry frame kept true worth = omega arith
 popped_worth code host entry frame kept false worth =
     entering_worth host (entry_at code entry) frame kept worth
 
-pop_worth : (code : CodeShape) (host : HostShape) (entries : List StackEntry) (worth : Token → ℕ) →
+pop_worth : (code : CodeShape) (host : HostState) (entries : List StackEntry) (worth : Token → ℕ) →
     host.entries ≡ entries → worth_state worth (after_pop code host entries) ≤ worth_state worth host
 pop_worth code host [] worth are = omega arith
 pop_worth code host (top ∷ below) worth are =
@@ -165,24 +165,24 @@ pop_worth code host (top ∷ below) worth are =
     popped_worth code (record host { entries = below }) top.entry top.frame top.kept (top.entry.0 == halt.0) worth in
     omega arith
 
-entering_serials : (host : HostShape) (there : Option Entry) (frame : FrameId) (token : Token) →
+entering_serials : (host : HostState) (there : Option Entry) (frame : FrameId) (token : Token) →
     (after_entering host there frame token).serials ≡ host.serials
 entering_serials host None frame token = refl
 entering_serials host (Some entry) frame token = refl
 
-popped_serials : (code : CodeShape) (host : HostShape) (entry : EntryId) (frame : FrameId) (kept : Token)
+popped_serials : (code : CodeShape) (host : HostState) (entry : EntryId) (frame : FrameId) (kept : Token)
     (halts : Bool) → (if halts then record host { running = None; halted = true }
     else after_entering host (entry_at code entry) frame kept).serials ≡ host.serials
 popped_serials code host entry frame kept true = refl
 popped_serials code host entry frame kept false = entering_serials host (entry_at code entry) frame kept
 
-pop_serials : (code : CodeShape) (host : HostShape) (entries : List StackEntry) →
+pop_serials : (code : CodeShape) (host : HostState) (entries : List StackEntry) →
     (after_pop code host entries).serials ≡ host.serials
 pop_serials code host [] = refl
 pop_serials code host (top ∷ below) =
     popped_serials code (record host { entries = below }) top.entry top.frame top.kept (top.entry.0 == halt.0)
 
-pops : (code : CodeShape) (host : HostShape) (taken : Option Token) →
+pops : (code : CodeShape) (host : HostState) (taken : Option Token) →
     Handles host taken (without_message (after_pop code host host.entries))
 pops code host taken =
     makes_none host taken (without_message (after_pop code host host.entries)) (pop_serials code host host.entries)
@@ -190,7 +190,7 @@ pops code host taken =
 
 -- ---- the instructions
 
-reads : (host : HostShape) (thread : ThreadShape) (field : FieldId) (index : List Node)
+reads : (host : HostState) (thread : ThreadShape) (field : FieldId) (index : List Node)
     (there : Option CodeFieldShape) →
     Handles host thread.held (after_read host thread field index there)
 reads host thread field index None = goes_on host thread thread.held refl
@@ -198,7 +198,7 @@ reads host thread field index (Some there) =
     either (there.host.0 == host.me.0) host thread.held _ _ (goes_on host _ thread.held refl)
     (asks host thread.at _ value_of_field there.host _ thread.held (λ worth. omega arith))
 
-puts : (host : HostShape) (thread : ThreadShape) (field : FieldId) (index value : List Node)
+puts : (host : HostState) (thread : ThreadShape) (field : FieldId) (index value : List Node)
     (there : Option CodeFieldShape) → Handles host thread.held (after_put host thread field index value there)
 puts host thread field index value None = goes_on host thread thread.held refl
 puts host thread field index value (Some there) =
@@ -206,7 +206,7 @@ puts host thread field index value (Some there) =
     (makes_none host thread.held _ refl (λ worth. omega arith))
     (asks host thread.at _ acknowledgement there.host _ thread.held (λ worth. omega arith))
 
-pushes_own : (code : CodeShape) (host : HostShape) (thread : ThreadShape) (entry : EntryId) (held : Option Token) →
+pushes_own : (code : CodeShape) (host : HostState) (thread : ThreadShape) (entry : EntryId) (held : Option Token) →
     StateFits code host → IsEntryOn code host.me entry → thread.held ≡ held →
     Handles host held (after_own_push host thread entry held)
 pushes_own code host thread entry None fits on same = goes_on host thread None same
@@ -223,19 +223,19 @@ pushes_own code host thread entry (Some held) fits on same =
     }) host.entries in
     omega arith)
 
-asks_for : (host : HostShape) (thread : ThreadShape) (entry : EntryId) (on : HostId) (held : Option Token) →
+asks_for : (host : HostState) (thread : ThreadShape) (entry : EntryId) (on : HostId) (held : Option Token) →
     thread.held ≡ held → Handles host held (after_ask host thread entry on held)
 asks_for host thread entry on None same = goes_on host thread None same
 asks_for host thread entry on (Some held) same =
     asks host thread.at _ token_of_entry on _ (Some held) (λ worth. omega arith)
 
-goes : (host : HostShape) (thread : ThreadShape) (frame : FrameId) (entry : EntryId) (on : HostId)
+goes : (host : HostState) (thread : ThreadShape) (frame : FrameId) (entry : EntryId) (on : HostId)
     (held : Option Token) → thread.held ≡ held → Handles host held (after_go host thread frame entry on held)
 goes host thread frame entry on None same = goes_on host thread None same
 goes host thread frame entry on (Some held) same =
     makes_none host (Some held) (after_go host thread frame entry on (Some held)) refl (λ worth. omega arith)
 
-goes_with : (host : HostShape) (thread : ThreadShape) (frame : FrameId) (entry : EntryId) (on : HostId)
+goes_with : (host : HostState) (thread : ThreadShape) (frame : FrameId) (entry : EntryId) (on : HostId)
     (riders : List VarId) (held : Option Token) → thread.held ≡ held →
     Handles host held (after_go_with host thread frame entry on riders held)
 goes_with host thread frame entry on riders None same = goes_on host thread None same
@@ -243,12 +243,12 @@ goes_with host thread frame entry on riders (Some held) same =
     makes_none host (Some held) (after_go_with host thread frame entry on riders (Some held)) refl
     (λ worth. omega arith)
 
-calls_own : (host : HostShape) (thread : ThreadShape) (there : Option Entry) →
+calls_own : (host : HostState) (thread : ThreadShape) (there : Option Entry) →
     Handles host thread.held (after_own_call host thread there)
 calls_own host thread None = goes_on host thread thread.held refl
 calls_own host thread (Some there) = goes_on host _ thread.held refl
 
-gives_result : (host : HostShape) (thread : ThreadShape) (variable : VarId) (value : List Node) (held : Option Token)
+gives_result : (host : HostState) (thread : ThreadShape) (variable : VarId) (value : List Node) (held : Option Token)
     (passes : Bool) → thread.held ≡ held → Handles host held (after_return host thread variable value held passes)
 gives_result host thread variable value None passes same = goes_on host thread None same
 gives_result host thread variable value (Some held) passes same =
@@ -260,7 +260,7 @@ gives_result host thread variable value (Some held) passes same =
     (asks host thread.at _ acknowledgement held.host _ (Some held) (λ worth. let is = worth_same worth in omega arith))
     (goes_on host _ (Some held) same))
 
-pops_if : (code : CodeShape) (host : HostShape) (taken : Option Token) (passes : Bool) →
+pops_if : (code : CodeShape) (host : HostState) (taken : Option Token) (passes : Bool) →
     Handles host taken (without_message (if passes
     then after_pop code (with_running host None) host.entries
     else with_one_ignored (with_running host None)))
@@ -272,14 +272,14 @@ pops_if code host taken true =
 pops_if code host taken false =
     makes_none host taken (without_message (with_one_ignored (with_running host None))) refl (λ worth. omega arith)
 
-gives_back : (code : CodeShape) (host : HostShape) (thread : ThreadShape) (held : Option Token) (passes : Bool) →
+gives_back : (code : CodeShape) (host : HostState) (thread : ThreadShape) (held : Option Token) (passes : Bool) →
     thread.held ≡ held → Handles host held (after_back code host thread held passes)
 gives_back code host thread None passes same = goes_on host thread None same
 gives_back code host thread (Some held) passes same =
     either (held.host.0 == host.me.0) host (Some held) _ _ (pops_if code host (Some held) passes)
     (makes_none host (Some held) _ refl (λ worth. omega arith))
 
-operation : (code : CodeShape) (host : HostShape) (thread : ThreadShape) (operation : Op) (count : ℕ) (passes : Bool) →
+operation : (code : CodeShape) (host : HostState) (thread : ThreadShape) (operation : Op) (count : ℕ) (passes : Bool) →
     StateFits code host → OperationFits code host.me count operation →
     Handles host thread.held (after_operation code host thread operation passes)
 operation code host thread (op.Read field index) count passes fits names =
@@ -318,7 +318,7 @@ operation code host thread (op.CallWith entry on riders) count passes fits names
 
 -- ---- a turn
 
-running_handles : (code : CodeShape) (host : HostShape) (thread : ThreadShape) (there : Option Instr)
+running_handles : (code : CodeShape) (host : HostState) (thread : ThreadShape) (there : Option Instr)
     (outcome : Outcome) → IsSoundCode code → StateFits code host → instruction_at code host.me thread.at ≡ there →
     IsRunning code host thread there outcome → Handles host thread.held outcome
 running_handles code host thread None outcome sound fits is runs =
@@ -330,7 +330,7 @@ running_handles code host thread (Some instruction) outcome sound fits is runs =
     ((sound.parts host.me fits.me).instructions thread.at instruction is).operation)
 
 -- a thread's token is one of its host's
-whole : (host : HostShape) (thread : ThreadShape) (outcome : Outcome) → host.running ≡ Some thread →
+whole : (host : HostState) (thread : ThreadShape) (outcome : Outcome) → host.running ≡ Some thread →
     Handles (with_running host None) thread.held outcome → Handles host None outcome
 whole host thread outcome runs part = record {
   fresh = part.fresh;
@@ -341,7 +341,7 @@ whole host thread outcome runs part = record {
   counts = part.counts;
 }
 
-turn_of : (code : CodeShape) (host : HostShape) (running : Option ThreadShape) (outcome : Outcome) →
+turn_of : (code : CodeShape) (host : HostState) (running : Option ThreadShape) (outcome : Outcome) →
     IsSoundCode code → StateFits code host → host.running ≡ running → IsTurnOf code host running outcome →
     Handles host None outcome
 turn_of code host None outcome sound fits is turns =
@@ -351,7 +351,7 @@ turn_of code host (Some thread) outcome sound fits is turns =
     (running_handles code (with_running host None) thread (instruction_at code host.me thread.at) outcome sound
     (kept_at_rest code host fits) refl turns)
 
-pub turn_handles : (code : CodeShape) (host : HostShape) (outcome : Outcome) → IsSoundCode code →
+pub turn_handles : (code : CodeShape) (host : HostState) (outcome : Outcome) → IsSoundCode code →
     StateFits code host → IsTurn code host outcome → Handles host None outcome
 turn_handles code host outcome sound fits turns = turn_of code host host.running outcome sound fits refl turns
 
@@ -372,7 +372,7 @@ woken waiting place (Some found) answered worth more is le =
     let goes = le found.thread in
     omega arith
 
-wakes : (host : HostShape) (place : Option ℕ) (answered : ThreadShape → ThreadShape) (taken : Option Token) →
+wakes : (host : HostState) (place : Option ℕ) (answered : ThreadShape → ThreadShape) (taken : Option Token) →
     ((worth : Token → ℕ) (thread : ThreadShape) →
     worth_held worth (answered thread).held ≤ worth_held worth thread.held + worth_held worth taken) →
     Handles host taken (without_message (after_answer host place answered))
@@ -383,8 +383,8 @@ wakes host (Some place) answered taken le =
     woken host.waiting place (slice_get host.waiting place) answered worth (worth_held worth taken) refl (le worth) in
     omega arith)
 
-takes : (code : CodeShape) (host : HostShape) (from : HostId) (m : Message) (passes : Bool) → StateFits code host →
-    (IsTrue passes → Passes code host from m) → Handles host (token_in m) (after_taking code host from m passes)
+takes : (code : CodeShape) (host : HostState) (from : HostId) (m : Message) (passes : Bool) → StateFits code host →
+    (IsTrue passes → PassesCheck code host from m) → Handles host (token_in m) (after_taking code host from m passes)
 takes code host from m false fits check = makes_none host (token_in m) _ refl (λ worth. omega arith)
 takes code host from (message.Get request field index) true fits check =
     makes_none host None _ refl (λ worth. omega arith)
@@ -410,7 +410,7 @@ takes code host from (message.Ack request) true fits check =
 takes code host from (message.Token request token) true fits check =
     wakes host _ (with_token (Some token)) (Some token) (λ worth thread. omega arith)
 
-pub taking_handles : (code : CodeShape) (host : HostShape) (from : HostId) (m : Message) (outcome : Outcome) →
+pub taking_handles : (code : CodeShape) (host : HostState) (from : HostId) (m : Message) (outcome : Outcome) →
     StateFits code host → IsTaking code host from m outcome → Handles host (token_in m) outcome
 taking_handles code host from m outcome fits step =
     subst (Handles host (token_in m)) step.2 (takes code host from m step.0 fits step.1.0)

@@ -10,7 +10,7 @@ use Rattle.capability.specs.declared.token.Token.{Token}
 use Rattle.ics_stack.specs.declared.stack.StackEntry.{StackEntry}
 use Rattle.host_code.specs.Code.{CodeShape}
 use Rattle.host_code.specs.Thread.{ThreadShape, WaitingShape}
-use Rattle.host_core.specs.Host.{HostShape}
+use Rattle.host_core.specs.Host.{HostState}
 use Rattle.net_world.specs.Fits.{ShapeFits}
 use Rattle.net_world.specs.Flying.{Flight}
 use Rattle.net_world.specs.Told.{token_in}
@@ -18,7 +18,7 @@ use Rattle.net_world.specs.World.{WorldShape, given, state_at}
 use Rattle.net_world.proofs.Fitting.{flight_fits}
 use Rattle.net_world.proofs.Present.{same_id}
 use Rattle.net_world.proofs.StepsOf.{has_some}
-use Rattle.token_laws.specs.Holders.{Place, running_on, waiting_on, kept_on, in_flight, HoldsAt, IsHeld}
+use Rattle.token_laws.specs.Holders.{TokenPlace, running_on, waiting_on, kept_on, in_flight, HoldsAt, IsTokenHeld}
 use Rattle.token_laws.proofs.Counting.{sum_below, host_of, one_if}
 use Rattle.token_laws.proofs.OneToken.{only_one, token_itself}
 use Rattle.token_laws.proofs.Sums.{one_in, two_in, SomeIn, some_in}
@@ -88,13 +88,13 @@ data Local : Type 0 where
   waiting : ℕ → Local
   kept : ℕ → Local
 
-abbrev HoldsIn : HostShape → Token → Local → Type 0
+abbrev HoldsIn : HostState → Token → Local → Type 0
 HoldsIn state token running = IsSomeAnd state.running (λ thread. thread.held ≡ Some token)
 HoldsIn state token (waiting place) =
     IsSomeAnd (slice_get state.waiting place) (λ one. one.thread.held ≡ Some token)
 HoldsIn state token (kept place) = IsSomeAnd (slice_get state.entries place) (λ on_stack. on_stack.kept ≡ token)
 
-abbrev on : HostId → Local → Place
+abbrev on : HostId → Local → TokenPlace
 on host running = running_on host
 on host (waiting place) = waiting_on host place
 on host (kept place) = kept_on host place
@@ -116,19 +116,19 @@ record Known {X : Type 0} (xs : List X) (place : ℕ) (f : X → ℕ) : Type 0 w
   is_there : slice_get xs place ≡ Some item
   one : f item ≡ 1
 
-waits_one : (state : HostShape) (token : Token) (place : ℕ) → HoldsIn state token (waiting place) →
+waits_one : (state : HostState) (token : Token) (place : ℕ) → HoldsIn state token (waiting place) →
     Known state.waiting place (wait_worth token)
 waits_one state token place holds =
     let at = has_some (slice_get state.waiting place) (λ one. one.thread.held ≡ Some token) holds in
     record { item = at.0; is_there = at.1; one = held_worth token at.0.thread.held at.2 }
 
-keeps_one : (state : HostShape) (token : Token) (place : ℕ) → HoldsIn state token (kept place) →
+keeps_one : (state : HostState) (token : Token) (place : ℕ) → HoldsIn state token (kept place) →
     Known state.entries place (kept_worth token)
 keeps_one state token place holds =
     let at = has_some (slice_get state.entries place) (λ on_stack. on_stack.kept ≡ token) holds in
     record { item = at.0; is_there = at.1; one = its_worth token at.0.kept at.2 }
 
-state_one : (state : HostShape) (token : Token) (place : Local) → HoldsIn state token place →
+state_one : (state : HostState) (token : Token) (place : Local) → HoldsIn state token place →
     1 ≤ worth_state (one_of token) state
 state_one state token running holds = let one = runs_one token state.running holds in omega arith
 state_one state token (waiting place) holds =
@@ -143,7 +143,7 @@ state_one state token (kept place) holds =
     omega arith
 
 -- two places are the same, or the token is held twice
-state_two : (state : HostShape) (token : Token) (first second : Local) → HoldsIn state token first →
+state_two : (state : HostState) (token : Token) (first second : Local) → HoldsIn state token first →
     HoldsIn state token second → (first ≡ second) ⊎ (2 ≤ worth_state (one_of token) state)
 state_two state token running running holds also = inl refl
 state_two state token running (waiting j) holds also =
@@ -215,19 +215,19 @@ running_some : (token : Token) (thread : Option ThreadShape) → 0 < worth_runni
 running_some token None more = absurd (omega arith)
 running_some token (Some thread) more = is_held token thread.held more
 
-waits_at : (state : HostShape) (token : Token) (at : SomeIn (wait_worth token) state.waiting) →
+waits_at : (state : HostState) (token : Token) (at : SomeIn (wait_worth token) state.waiting) →
     HoldsIn state token (waiting at.place)
 waits_at state token at =
     subst (λ (o : Option WaitingShape). IsSomeAnd o (λ one. one.thread.held ≡ Some token)) (sym at.is_there)
     (is_held token at.item.thread.held at.more)
 
-kept_at : (state : HostShape) (token : Token) (at : SomeIn (kept_worth token) state.entries) →
+kept_at : (state : HostState) (token : Token) (at : SomeIn (kept_worth token) state.entries) →
     HoldsIn state token (kept at.place)
 kept_at state token at =
     subst (λ (o : Option StackEntry). IsSomeAnd o (λ on_stack. on_stack.kept ≡ token)) (sym at.is_there)
     ((only_one token at.item.kept).1 at.more)
 
-state_some : (state : HostShape) (token : Token) → 0 < worth_state (one_of token) state →
+state_some : (state : HostState) (token : Token) → 0 < worth_state (one_of token) state →
     (place : Local) × HoldsIn state token place
 state_some state token more = elim (cases_lt 0 (worth_running (one_of token) state.running)) [
   | inl runs ↦ (running, running_some token state.running runs)
@@ -249,7 +249,7 @@ state_some state token more = elim (cases_lt 0 (worth_running (one_of token) sta
 
 -- a host that holds the token at a place
 record Holder (world : WorldShape) (token : Token) (host : HostId) (place : Local) : Type 0 where
-  state : HostShape
+  state : HostState
   obeys : state_at world host ≡ Some state
   holds : HoldsIn state token place
 
@@ -268,12 +268,12 @@ holder world token host (kept place) holds =
 held_on : (world : WorldShape) (token : Token) (host : HostId) (place : Local) → Holder world token host place →
     HoldsAt world token (on host place)
 held_on world token host running one =
-    subst (λ (o : Option HostShape). IsSomeAnd o (λ state. HoldsIn state token running)) (sym one.obeys) one.holds
+    subst (λ (o : Option HostState). IsSomeAnd o (λ state. HoldsIn state token running)) (sym one.obeys) one.holds
 held_on world token host (waiting place) one =
-    subst (λ (o : Option HostShape). IsSomeAnd o (λ state. HoldsIn state token (waiting place))) (sym one.obeys)
+    subst (λ (o : Option HostState). IsSomeAnd o (λ state. HoldsIn state token (waiting place))) (sym one.obeys)
     one.holds
 held_on world token host (kept place) one =
-    subst (λ (o : Option HostShape). IsSomeAnd o (λ state. HoldsIn state token (kept place))) (sym one.obeys) one.holds
+    subst (λ (o : Option HostState). IsSomeAnd o (λ state. HoldsIn state token (kept place))) (sym one.obeys) one.holds
 
 host_one : (world : WorldShape) (token : Token) (host : HostId) (place : Local) →
     HoldsAt world token (on host place) → 1 ≤ sum_by (worth_host (one_of token)) world.hosts
@@ -298,7 +298,7 @@ hosts_two world token host other first second holds also =
           let equal : to.state ≡ at.state =
           some_same (state_at world other) to.state at.state to.obeys (ap (state_at world) (sym one) ∙ at.obeys) in
           elim (state_two at.state token first second at.holds
-          (subst (λ (s : HostShape). HoldsIn s token second) equal to.holds)) [
+          (subst (λ (s : HostState). HoldsIn s token second) equal to.holds)) [
             | inl place ↦ inl (ap (λ (h : HostId). on h first) one ∙ ap (on other) place)
             | inr twice ↦
                 let all = one_in (worth_host (one_of token)) world.hosts host.0 (Some at.state) is in
@@ -416,17 +416,17 @@ flights_two world token from to sender other first second at also =
 
 -- ---- all places
 
-data Kind (place : Place) : Type 0 where
+data Kind (place : TokenPlace) : Type 0 where
   local : (host : HostId) (at : Local) → place ≡ on host at → Kind place
   flight : (from to : HostId) (at : ℕ) → place ≡ in_flight from to at → Kind place
 
-kind_of : (place : Place) → Kind place
+kind_of : (place : TokenPlace) → Kind place
 kind_of (running_on host) = local host running refl
 kind_of (waiting_on host at) = local host (waiting at) refl
 kind_of (kept_on host at) = local host (kept at) refl
 kind_of (in_flight from to at) = flight from to at refl
 
-twice : (code : CodeShape) (world : WorldShape) (token : Token) (first second : Place) → ShapeFits code world →
+twice : (code : CodeShape) (world : WorldShape) (token : Token) (first second : TokenPlace) → ShapeFits code world →
     HoldsAt world token first → HoldsAt world token second → Kind first → Kind second →
     (first ≡ second) ⊎ (2 ≤ worth_world (one_of token) world)
 twice code world token first second fits holds also (local host at is) (local other to same) =
@@ -456,7 +456,7 @@ twice code world token first second fits holds also (flight from to place is) (f
     ]
 
 -- what is held at most once is held at one place
-pub one_place : (code : CodeShape) (world : WorldShape) (token : Token) (first second : Place) →
+pub one_place : (code : CodeShape) (world : WorldShape) (token : Token) (first second : TokenPlace) →
     ShapeFits code world → worth_world (one_of token) world ≤ 1 → HoldsAt world token first →
     HoldsAt world token second → first ≡ second
 one_place code world token first second fits most holds also =
@@ -466,7 +466,7 @@ one_place code world token first second fits most holds also =
     ]
 
 pub held_once_or_more : (code : CodeShape) (world : WorldShape) (token : Token) → ShapeFits code world →
-    IsHeld world token → 0 < worth_world (one_of token) world
+    IsTokenHeld world token → 0 < worth_world (one_of token) world
 held_once_or_more code world token fits held = elim (kind_of held.0) [
   | local host at is ↦ (
       let one = host_one world token host at (subst (HoldsAt world token) is held.1) in omega arith)
@@ -479,8 +479,8 @@ held_once_or_more code world token fits held = elim (kind_of held.0) [
 
 -- ---- some place
 
-given_some : (o : Option HostShape) (token : Token) → 0 < worth_host (one_of token) o →
-    (state : HostShape) × (o ≡ Some state) × (0 < worth_state (one_of token) state)
+given_some : (o : Option HostState) (token : Token) → 0 < worth_host (one_of token) o →
+    (state : HostState) × (o ≡ Some state) × (0 < worth_state (one_of token) state)
 given_some None token more = absurd (omega arith)
 given_some (Some state) token more = (state, refl, more)
 
@@ -490,7 +490,7 @@ flying_at world token from to at =
     subst (λ (o : Option Flight). IsSomeAnd o (λ f. token_in f.message ≡ Some token)) (sym at.is_there)
     (is_held token (token_in at.item.message) at.more)
 
-pub some_place : (world : WorldShape) (token : Token) → 0 < worth_world (one_of token) world → IsHeld world token
+pub some_place : (world : WorldShape) (token : Token) → 0 < worth_world (one_of token) world → IsTokenHeld world token
 some_place world token more = elim (cases_lt 0 (sum_by (worth_host (one_of token)) world.hosts)) [
   | inl hosts ↦
       let at = some_in (worth_host (one_of token)) world.hosts hosts in

@@ -13,7 +13,7 @@ use Rattle.host_code.specs.declared.message.Message.{Message}
 use Rattle.host_code.specs.declared.message.Message.TheVariants as message
 use Rattle.host_code.specs.Code.{CodeShape, CodeFieldShape, entry_at, halt}
 use Rattle.host_stores.specs.Stores.{own_rows}
-use Rattle.host_core.specs.Host.{HostShape, after_push, new_token}
+use Rattle.host_core.specs.Host.{HostState, after_push, new_token}
 use Rattle.host_core.specs.Start.{idle_host, root_host, main_frame, last_token}
 use Rattle.host_core.specs.Turn.{label_of_turn}
 use Rattle.event_text.specs.declared.event.Event.{Event}
@@ -132,7 +132,7 @@ own_rows_fit me store number (field ∷ fields) fits =
     All-cons (All IsNumber) _ _ (own_row_fits _ (field.host.0 == me.0) (row_fits store number fits))
     (own_rows_fit me store (number + 1) fields fits)
 
-root_or : (root : Bool) (first second : HostShape) → StateHasNumbers first → StateHasNumbers second →
+root_or : (root : Bool) (first second : HostState) → StateHasNumbers first → StateHasNumbers second →
     StateHasNumbers (if root then first else second)
 root_or true first second fits also = fits
 root_or false first second fits also = also
@@ -143,7 +143,7 @@ start_fits : (code : CodeShape) (store : List (List ℤ)) (key : List ℕ) (me :
     else idle_host code store key me)) StateHasNumbers
 start_fits code store key me true root fits = tt
 start_fits code store key me false root fits =
-    let idle : HostShape = idle_host code store key me in
+    let idle : HostState = idle_host code store key me in
     let idle_fits : StateHasNumbers idle =
     record {
       rows = own_rows_fit me store 0 code.fields fits;

@@ -19,7 +19,7 @@ use Rattle.host_code.specs.declared.message.Message.TheVariants as message
 use Rattle.host_code.specs.Code.{CodeShape}
 use Rattle.host_code.specs.Sound.{IsHost, IsSoundCode}
 use Rattle.host_core.specs.Fits.{SentFits}
-use Rattle.host_core.specs.Host.{HostShape, Letter}
+use Rattle.host_core.specs.Host.{HostState, Letter}
 use Rattle.host_core.specs.Turn.{label_of_turn}
 use Rattle.host_core.proofs.TurnKept.{turn_kept}
 use Rattle.net_world.specs.Fits.{ShapeFits, IsStateOf, HasOwnToken, OwnToken, OwnTokenIn}
@@ -38,15 +38,15 @@ use Rattle.token_laws.proofs.Sums.{changed_at, removed_at, flying_changed}
 
 -- ---- one host changed
 
-present_is : (o : Option (Option HostShape)) (state : HostShape) → given o ≡ Some state → o ≡ Some (Some state)
+present_is : (o : Option (Option HostState)) (state : HostState) → given o ≡ Some state → o ≡ Some (Some state)
 present_is None state is = absurd (cc)
 present_is (Some there) state is = ap Some is
 
-pub there : (hosts : List (Option HostShape)) (i : ℕ) (state : HostShape) → given (slice_get hosts i) ≡ Some state →
+pub there : (hosts : List (Option HostState)) (i : ℕ) (state : HostState) → given (slice_get hosts i) ≡ Some state →
     slice_get hosts i ≡ Some (Some state)
 there hosts i state is = present_is (slice_get hosts i) state is
 
-state_changed : (worth : Token → ℕ) (world : WorldShape) (host : HostId) (old state : HostShape) →
+state_changed : (worth : Token → ℕ) (world : WorldShape) (host : HostId) (old state : HostState) →
     state_at world host ≡ Some old →
     worth_world worth (with_state world host state) + worth_state worth old
     ≡ worth_world worth world + worth_state worth state
@@ -135,8 +135,8 @@ IsPresented world token =
 -- to it.
 pub record Accounts (world after : WorldShape) : Type 0 where
   pub host : HostId
-  pub old : HostShape
-  pub state : HostShape
+  pub old : HostState
+  pub state : HostState
   pub me : old.me ≡ host
   pub obeys : state_at world host ≡ Some old
   pub puts : after.hosts ≡ slice_set world.hosts host.0 (Some state)
@@ -147,10 +147,10 @@ pub record Accounts (world after : WorldShape) : Type 0 where
   pub worth : (worth : Token → ℕ) → worth_world worth after + worth_sent worth after
       ≤ worth_world worth world + worth_sent worth world + worth_held worth presented + worth_held worth fresh
 
-pub the_state : (code : CodeShape) (world : WorldShape) (host : HostId) (state : HostShape) → ShapeFits code world →
+pub the_state : (code : CodeShape) (world : WorldShape) (host : HostId) (state : HostState) → ShapeFits code world →
     state_at world host ≡ Some state → IsStateOf code host state
 the_state code world host state fits obeys =
-    subst (λ (o : Option HostShape). IfSome o (IsStateOf code host)) obeys (fits.states host)
+    subst (λ (o : Option HostState). IfSome o (IsStateOf code host)) obeys (fits.states host)
 
 targets : (code : CodeShape) (me : HostId) (sent : Option (HostId × Message)) (count : ℕ) → count ≡ length code.hosts →
     SentFits code me sent → IfSome sent (λ (letter : HostId × Message). letter.0.0 < count)

@@ -4,7 +4,7 @@ use Rattle.std.specs.Prelude.{◌==◌, ◌&&◌, Option, Some, None, Bool, sum_
 use Rattle.std.specs.Str.{bytes_eq}
 use Rattle.capability.specs.declared.token.Token.{Token}
 use Rattle.host_code.specs.Thread.{ThreadShape}
-use Rattle.host_core.specs.Host.{HostShape}
+use Rattle.host_core.specs.Host.{HostState}
 use Rattle.net_world.specs.Flying.{Flying}
 use Rattle.net_world.specs.Told.{token_in}
 use Rattle.net_world.specs.World.{WorldShape, tokens_sent}
@@ -19,12 +19,12 @@ worth_running worth None = 0
 worth_running worth (Some thread) = worth_held worth thread.held
 
 -- what a host holds: the tokens of its running thread and of those that wait, and those that are kept with entries
-abbrev pub worth_state : (Token → ℕ) → HostShape → ℕ
+abbrev pub worth_state : (Token → ℕ) → HostState → ℕ
 worth_state worth state =
     worth_running worth state.running + sum_by (λ waiting. worth_held worth waiting.thread.held) state.waiting
     + sum_by (λ on_stack. worth on_stack.kept) state.entries
 
-abbrev pub worth_host : (Token → ℕ) → Option HostShape → ℕ
+abbrev pub worth_host : (Token → ℕ) → Option HostState → ℕ
 worth_host worth None = 0
 worth_host worth (Some state) = worth_state worth state
 

@@ -7,13 +7,13 @@ use Rattle.net_world.specs.World.{WorldShape, state_at, tokens_sent}
 
 -- Where a token may be held: by the thread that runs on a host, by one of those that wait there, with an entry of its
 -- stack, or in one of the messages in flight from a host to another.
-pub data Place : Type 0 where
-  running_on : HostId → Place
-  waiting_on : HostId → ℕ → Place
-  kept_on : HostId → ℕ → Place
-  in_flight : HostId → HostId → ℕ → Place
+pub data TokenPlace : Type 0 where
+  running_on : HostId → TokenPlace
+  waiting_on : HostId → ℕ → TokenPlace
+  kept_on : HostId → ℕ → TokenPlace
+  in_flight : HostId → HostId → ℕ → TokenPlace
 
-abbrev pub HoldsAt : WorldShape → Token → Place → Type 0
+abbrev pub HoldsAt : WorldShape → Token → TokenPlace → Type 0
 HoldsAt world token (running_on host) =
     IsSomeAnd (state_at world host) (λ state. IsSomeAnd state.running (λ thread. thread.held ≡ Some token))
 HoldsAt world token (waiting_on host place) =
@@ -25,12 +25,12 @@ HoldsAt world token (kept_on host place) =
 HoldsAt world token (in_flight from to place) =
     IsSomeAnd (slice_get (world.flying from to) place) (λ flight. token_in flight.message ≡ Some token)
 
-abbrev pub IsHeld : WorldShape → Token → Type 0
-IsHeld world token = (place : Place) × HoldsAt world token place
+abbrev pub IsTokenHeld : WorldShape → Token → Type 0
+IsTokenHeld world token = (place : TokenPlace) × HoldsAt world token place
 
 -- misbehaving hosts were sent the token
-abbrev pub IsSent : WorldShape → Token → Type 0
-IsSent world token = Contains (tokens_sent world) token
+abbrev pub IsTokenSent : WorldShape → Token → Type 0
+IsTokenSent world token = Contains (tokens_sent world) token
 
 -- The token names an obeying host, and that host's count for its entry has passed its serial. So it was made before.
 abbrev pub IsOld : WorldShape → Token → Type 0

@@ -15,7 +15,7 @@ use Rattle.host_code.specs.declared.message.Message.TheVariants as message
 use Rattle.host_code.specs.Riders.{Rider}
 use Rattle.host_code.specs.Thread.{ThreadShape}
 use Rattle.host_code.specs.Code.{CodeShape, instruction_at}
-use Rattle.host_core.specs.Host.{HostShape}
+use Rattle.host_core.specs.Host.{HostState}
 use Rattle.event_text.specs.declared.event.Event.{Event}
 use Rattle.event_text.specs.declared.event.Event.TheVariants.{Act}
 use Rattle.event_text.specs.declared.event.BadMessage.{BadMessage}
@@ -80,7 +80,7 @@ abbrev pub ThreadHasNumbers : ThreadShape → Type 0
 ThreadHasNumbers thread = All IsNumber thread.temporaries
 
 -- the fields, the variables and the temporaries of a host
-pub record StateHasNumbers (state : HostShape) : Type 0 where
+pub record StateHasNumbers (state : HostState) : Type 0 where
   pub rows : RowsHaveNumbers state.rows
   pub variables : (frame : FrameId) (variable : VarId) → IsNumber (state.variables frame variable)
   pub running : IfSome state.running ThreadHasNumbers

@@ -18,7 +18,7 @@ use Rattle.host_code.specs.declared.message.Message.TheVariants as message
 use Rattle.host_code.specs.Riders.{Rider}
 use Rattle.host_code.specs.Thread.{ThreadShape}
 use Rattle.host_code.specs.Code.{CodeShape, halt}
-use Rattle.host_core.specs.Host.{HostShape, Outcome, new_token, thread_at, with_running}
+use Rattle.host_core.specs.Host.{HostState, Outcome, new_token, thread_at, with_running}
 use Rattle.host_core.specs.Start.{main_frame, idle_host, host_at_start}
 use Rattle.host_core.specs.Taking.{after_taking}
 use Rattle.host_core.specs.Turn.{after_operation}
@@ -26,7 +26,7 @@ use Rattle.event_text.specs.declared.event.BadToken.TheVariants.{Sent}
 use Rattle.event_text.specs.declared.event.BadMessage.{BadMessage}
 use Rattle.event_text.specs.declared.event.BadMessage.TheVariants as bad
 use Rattle.net_world.specs.World.{WorldShape, world_at_start, after_step, after_telling, with_state, without_flight}
-use Rattle.token_laws.specs.Requests.{Spot}
+use Rattle.token_laws.specs.Requests.{FlightSpot}
 
 abbrev pub host_id : ℕ → HostId
 host_id number = record { 0 = number }
@@ -77,7 +77,7 @@ store = (pos 7 ∷ []) ∷ []
 abbrev pub start : WorldShape
 start = world_at_start small two_hosts 0 store
 
-abbrev pub start_state : HostShape
+abbrev pub start_state : HostState
 start_state = host_at_start small store [] (host_id 0)
 
 abbrev pub first_token : Token
@@ -113,12 +113,12 @@ asked = after_step pushed (host_id 0) asking (Some 0)
 abbrev pub first_request : RequestId
 first_request = record { at = 1; count = 0 }
 
-abbrev pub spot_of : ℕ → ℕ → ℕ → Spot
+abbrev pub spot_of : ℕ → ℕ → ℕ → FlightSpot
 spot_of from to place = record { from = host_id from; to = host_id to; place = place }
 
 -- ---- the request was taken and answered
 
-abbrev pub other_state : HostShape
+abbrev pub other_state : HostState
 other_state = host_at_start small store [] (host_id 1)
 
 abbrev pub answering : Outcome
@@ -132,7 +132,7 @@ answered = after_step (without_flight asked (host_id 0) (host_id 1) 0) (host_id 
 abbrev pub handing : CodeShape
 handing = record small { main = entry_id 4 }
 
-abbrev handing_state : HostShape
+abbrev handing_state : HostState
 handing_state = host_at_start handing store [] (host_id 0)
 
 abbrev pub handed : Outcome
@@ -156,11 +156,11 @@ given = after_step bad_start (host_id 0) handed (Some 0)
 abbrev pub presents : BadMessage
 presents = bad.Sync first_request main_frame (entry_id 2) (Sent 0)
 
-abbrev pub keeping : HostShape → Outcome
+abbrev pub keeping : HostState → Outcome
 keeping state =
     after_taking handing state (host_id 1) (message.Sync first_request main_frame (entry_id 2) first_token) true
 
-abbrev kept_by : WorldShape → HostShape → WorldShape
+abbrev kept_by : WorldShape → HostState → WorldShape
 kept_by world state =
     after_telling (with_state world (host_id 0) (keeping state).state) (host_id 0) (keeping state).sent
 

@@ -19,12 +19,13 @@ ghost use Rattle.event_text.specs.declared.event.Event.TheVariants.{Take, Turn, 
 ghost use Rattle.net_world.specs.Fits.{ShapeFits, HasOwnToken};
 ghost use Rattle.net_world.specs.Flying.{Flight};
 ghost use Rattle.net_world.specs.World.{WorldShape, IsStep, IsRun, AreHostsOf, world_at_start, state_at, misbehaves};
-ghost use Rattle.token_laws.specs.Holders.{Place, running_on, waiting_on, kept_on, in_flight, HoldsAt, IsHeld};
-ghost use Rattle.token_laws.specs.Holders.{IsSent, IsOld};
+ghost use Rattle.token_laws.specs.Holders.{TokenPlace, running_on, waiting_on, kept_on, in_flight, HoldsAt};
+ghost use Rattle.token_laws.specs.Holders.{IsTokenHeld};
+ghost use Rattle.token_laws.specs.Holders.{IsTokenSent, IsOld};
 ghost use Rattle.token_laws.specs.Numbers.{CodeHasNumbers, RowsHaveNumbers, EventHasNumbers, WorldHasNumbers};
 ghost use Rattle.token_laws.specs.Numbers.{MessageHasNumbers, MadeHasNumbers};
 ghost use Rattle.token_laws.specs.Reached.{IsReached};
-ghost use Rattle.token_laws.specs.Requests.{Spot, IsUnderWay, WaitsFor};
+ghost use Rattle.token_laws.specs.Requests.{FlightSpot, IsUnderWay, WaitsFor};
 ghost use Rattle.token_laws.specs.TokenExamples.{host_id, small, start, first_token, second_token, pushed, asked};
 ghost use Rattle.token_laws.specs.TokenExamples.{asking, first_request, spot_of, answered, handing, bad_start, given};
 ghost use Rattle.token_laws.specs.TokenExamples.{good_start, passed_on, presents, twice, riding, made_riding};
@@ -69,28 +70,28 @@ pub fn reached_laws()
 pub fn holder_laws()
     // A token of an obeying host that misbehaving hosts were not sent is held at one place at most.
     ensures one_holder { (code : CodeShape) (rows : List HostShape) (bad : ℕ) (store : List (List ℤ))
-        (events : List Event) (world : WorldShape) (token : Token) (first second : Place) →
-        IsReached code rows bad store events world → IsSome (state_at world token.host) → ¬ IsSent world token →
+        (events : List Event) (world : WorldShape) (token : Token) (first second : TokenPlace) →
+        IsReached code rows bad store events world → IsSome (state_at world token.host) → ¬ IsTokenSent world token →
         HoldsAt world token first → HoldsAt world token second → first ≡ second }
     // A token of an obeying host that is held was made before, entry 0 aside, whose kept token nobody was given.
     ensures held_old { (code : CodeShape) (rows : List HostShape) (bad : ℕ) (store : List (List ℤ))
         (events : List Event) (world : WorldShape) (token : Token) →
         IsReached code rows bad store events world → IsSome (state_at world token.host) → token.entry ≢ halt →
-        IsHeld world token → IsOld world token }
+        IsTokenHeld world token → IsOld world token }
     // So was one that misbehaving hosts were sent.
     ensures sent_old { (code : CodeShape) (rows : List HostShape) (bad : ℕ) (store : List (List ℤ))
         (events : List Event) (world : WorldShape) (token : Token) →
         IsReached code rows bad store events world → IsSome (state_at world token.host) → token.entry ≢ halt →
-        IsSent world token → IsOld world token }
+        IsTokenSent world token → IsOld world token }
     // And the token of each entry on a stack.
     ensures own_old { (code : CodeShape) (rows : List HostShape) (bad : ℕ) (store : List (List ℤ))
-        (events : List Event) (world : WorldShape) (host : HostId) (state : host_state.HostShape) (place : ℕ)
+        (events : List Event) (world : WorldShape) (host : HostId) (state : host_state.HostState) (place : ℕ)
         (on_stack : StackEntry) →
         IsReached code rows bad store events world → state_at world host ≡ Some state →
         slice_get state.entries place ≡ Some on_stack → IsOld world on_stack.token }
     // Two entries of a stack with the same token stand at the same place.
     ensures own { (code : CodeShape) (rows : List HostShape) (bad : ℕ) (store : List (List ℤ))
-        (events : List Event) (world : WorldShape) (host : HostId) (state : host_state.HostShape)
+        (events : List Event) (world : WorldShape) (host : HostId) (state : host_state.HostState)
         (first second : ℕ) (one other : StackEntry) →
         IsReached code rows bad store events world → state_at world host ≡ Some state →
         slice_get state.entries first ≡ Some one → slice_get state.entries second ≡ Some other →
@@ -99,8 +100,8 @@ pub fn holder_laws()
     ensures gone { (code : CodeShape) (rows : List HostShape) (bad : ℕ) (store : List (List ℤ))
         (events : List Event) (world after : WorldShape) (event : Event) (token : Token) →
         IsReached code rows bad store events world → HasOwnToken world event → IsStep code world event after →
-        IsOld world token → ¬ IsHeld world token → ¬ IsSent world token →
-        (¬ IsHeld after token) × ¬ IsSent after token }
+        IsOld world token → ¬ IsTokenHeld world token → ¬ IsTokenSent world token →
+        (¬ IsTokenHeld after token) × ¬ IsTokenSent after token }
 {}
 
 /// A request is under way once, or its answer is, and a thread waits for it. The answer comes from the host that was
@@ -110,25 +111,25 @@ pub fn request_laws()
     // is one at most.
     ensures one { (code : CodeShape) (rows : List HostShape) (bad : ℕ) (store : List (List ℤ))
         (events : List Event) (world : WorldShape) (host one other : HostId) (request : RequestId)
-        (first second : Spot) →
+        (first second : FlightSpot) →
         IsReached code rows bad store events world → IsSome (state_at world host) →
         IsUnderWay world host one request first → IsUnderWay world host other request second → first ≡ second }
     // Where there is one, a thread of the host waits for the number, from the host that is asked or answers.
     ensures awaited { (code : CodeShape) (rows : List HostShape) (bad : ℕ) (store : List (List ℤ))
-        (events : List Event) (world : WorldShape) (host other : HostId) (state : host_state.HostShape)
-        (request : RequestId) (spot : Spot) →
+        (events : List Event) (world : WorldShape) (host other : HostId) (state : host_state.HostState)
+        (request : RequestId) (spot : FlightSpot) →
         IsReached code rows bad store events world → state_at world host ≡ Some state →
         IsUnderWay world host other request spot → WaitsFor state request other }
     // No two threads of a host wait for the same number.
     ensures apart { (code : CodeShape) (rows : List HostShape) (bad : ℕ) (store : List (List ℤ))
-        (events : List Event) (world : WorldShape) (host : HostId) (state : host_state.HostShape)
+        (events : List Event) (world : WorldShape) (host : HostId) (state : host_state.HostState)
         (first second : ℕ) (one other : WaitingShape) →
         IsReached code rows bad store events world → state_at world host ≡ Some state →
         slice_get state.waiting first ≡ Some one → slice_get state.waiting second ≡ Some other →
         one.request ≡ other.request → first ≡ second }
     // The number was given before.
     ensures counted { (code : CodeShape) (rows : List HostShape) (bad : ℕ) (store : List (List ℤ))
-        (events : List Event) (world : WorldShape) (host : HostId) (state : host_state.HostShape) →
+        (events : List Event) (world : WorldShape) (host : HostId) (state : host_state.HostState) →
         IsReached code rows bad store events world → state_at world host ≡ Some state →
         All (λ waiting. waiting.request.count < slice_index state.requests waiting.request.at) state.waiting }
 {}
@@ -171,7 +172,7 @@ pub fn token_examples()
     ensures flies { HoldsAt passed_on first_token (in_flight (host_id 0) (host_id 1) 0) }
     // A misbehaving host that was sent a token may have it kept twice.
     ensures hands_over { IsRun handing bad_start (Turn (host_id 0) ∷ []) given }
-    ensures sent { IsSent given first_token }
+    ensures sent { IsTokenSent given first_token }
     ensures presents_twice { IsRun handing given
         (Act (host_id 1) (host_id 0) presents ∷ Act (host_id 1) (host_id 0) presents ∷ []) twice }
     ensures kept_first { HoldsAt twice first_token (kept_on (host_id 0) 0) }

@@ -25,7 +25,7 @@ use Rattle.host_code.specs.Thread.{ThreadShape}
 use Rattle.host_core.specs.Host.{after_step, after_clearing}
 use Rattle.host_core.specs.Values.{value_of_nodes}
 use Rattle.split_rules.specs.Positions as positions
-use Rattle.split_rules.specs.Positions.{Position, Due, Level, Argument, Calling, no_call, arguing, entering}
+use Rattle.split_rules.specs.Positions.{Position, DueWork, Level, Argument, Calling, no_call, arguing, entering}
 use Rattle.split_rules.specs.Positions.{arguments_of, forwards_of}
 use Rattle.split_rules.specs.Positions.{field_reads, statement_due, is_on}
 use Rattle.split_rules.specs.Typing as typing
@@ -34,9 +34,9 @@ use Rattle.std.specs.List.{AllZip}
 use Rattle.typed_steps.specs.Values.{MayTree, MayHold}
 use Rattle.typed_steps.proofs.Alike.{zip_last}
 use Rattle.typed_steps.proofs.Instructions.{read_there}
-use Rattle.typed_steps.specs.Readers.{IsReader, IsFit}
-use Rattle.typed_steps.specs.Views.{Split, Naming, View, Link, place_of, AreRising}
-use Rattle.typed_steps.specs.Chains.{Duty, under, chain_due, FitsOver, IsAwaited}
+use Rattle.typed_steps.specs.Readers.{IsReadingHost, IsFit}
+use Rattle.typed_steps.specs.Views.{Split, CallNaming, View, Link, place_of, AreRising}
+use Rattle.typed_steps.specs.Chains.{Duty, under, chain_due, FitsOver, IsResultAwaited}
 use Rattle.typed_steps.specs.Threads.{alone, IsLeft, IsCalling, IsAt, NoneKept}
 use Rattle.typed_steps.proofs.Owing.{front_of}
 use Rattle.typed_steps.proofs.Instructions.{next_place, fit_call, Agrees, cleared, after_setting}
@@ -54,9 +54,9 @@ run_plainly c call statement items pending other into result behind is =
 -- ---- a frame
 
 -- what is awaited stays so with one more frame
-awaited_more : (split : Split) (naming : Naming) (frame : FrameId) (caller method : ℕ) (of : MethodId) (call : ℕ)
-    (chain : List Link) → call < naming.count → IsAwaited split naming of call chain →
-    IsAwaited split (with_frame naming frame caller method) of call chain
+awaited_more : (split : Split) (naming : CallNaming) (frame : FrameId) (caller method : ℕ) (of : MethodId) (call : ℕ)
+    (chain : List Link) → call < naming.count → IsResultAwaited split naming of call chain →
+    IsResultAwaited split (with_frame naming frame caller method) of call chain
 awaited_more split naming frame caller method of call chain within awaited = record {
   top = awaited.top;
   below = awaited.below;
@@ -72,7 +72,7 @@ awaited_more split naming frame caller method of call chain within awaited = rec
   on_host = awaited.on_host;
 }
 
-pub fits_more : (split : Split) (naming : Naming) (frame : FrameId) (caller method : ℕ) (level : Level) (call : ℕ)
+pub fits_more : (split : Split) (naming : CallNaming) (frame : FrameId) (caller method : ℕ) (level : Level) (call : ℕ)
     (chain : List Link) → call < naming.count → FitsOver split naming level call chain →
     FitsOver split (with_frame naming frame caller method) level call chain
 fits_more split naming frame caller method (positions.body of) call chain within fits =
@@ -170,7 +170,7 @@ frame_at split c view host thread at site law =
                     sender_is = refl;
                     caller = new_number count naming.count call (naming.caller count) (sym calling.0);
                     others = law.1;
-                    due_first = law.2.due ∙ ap (λ (d : Due). d ∷ law.1) runs.is;
+                    due_first = law.2.due ∙ ap (λ (d : DueWork). d ∷ law.1) runs.is;
                     on_host = subst (λ first. is_on split.planned host (statement_due first) ≡ true) runs.is
                         law.2.on_host;
                     heading = frames.heading;
@@ -285,10 +285,10 @@ argued split c view host thread variables at agrees x nodes (arguing statement s
     (fit_call split c call here.due (chain_due split view.chain) view.keeper statement args.others args.due_first
     at.left) in
     let parts = args.parts ∙ ap (λ list. set ++ list) law.is_next in
-    let reader : IsReader split.planned args.heading.id law.value =
-    (all_right (λ (a : Argument). IsReader split.planned args.heading.id a.value) set (own ∷ law.others)
-    (subst (AllByRecursion (λ (a : Argument). IsReader split.planned args.heading.id a.value)) parts
-    (arguments_known (IsReader split.planned args.heading.id)
+    let reader : IsReadingHost split.planned args.heading.id law.value =
+    (all_right (λ (a : Argument). IsReadingHost split.planned args.heading.id a.value) set (own ∷ law.others)
+    (subst (AllByRecursion (λ (a : Argument). IsReadingHost split.planned args.heading.id a.value)) parts
+    (arguments_known (IsReadingHost split.planned args.heading.id)
     (params_of (method_at split.planned.program args.method)) args.arguments fit.0))).0 in
     let read = read_there split c host call variables agrees block
     (subst (λ b. is_on split.planned host b ≡ true) args.is law.on_host) law.value reader in
@@ -343,8 +343,8 @@ argued split c view host thread variables at agrees x nodes (arguing statement s
     arguments_known P [] (value ∷ values) all = tt
     arguments_known P (param ∷ params) (value ∷ values) all = (all.0, arguments_known P params values all.1)
 
-    arguing_plainly : (split : Split) (c : Configuration) (keeper : HostId) (call : ℕ) (here : List Due)
-        (rest : List Duty) (statement : BlockTree) (others : List Due) → here ≡ positions.run statement ∷ others →
+    arguing_plainly : (split : Split) (c : Configuration) (keeper : HostId) (call : ℕ) (here : List DueWork)
+        (rest : List Duty) (statement : BlockTree) (others : List DueWork) → here ≡ positions.run statement ∷ others →
         IsLeft split c keeper (under call here ++ rest) → NoneKept c
     arguing_plainly split c keeper call here rest statement others due left =
         elim (front_of split c keeper call here rest (positions.run statement) others due left) [

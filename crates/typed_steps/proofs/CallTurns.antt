@@ -19,7 +19,7 @@ use Rattle.host_code.specs.declared.message.Message.TheVariants as message
 use Rattle.host_code.specs.Code.{entry_at, site_at}
 use Rattle.host_code.specs.Sound.{IsEntryOn}
 use Rattle.host_code.specs.Thread.{ThreadShape}
-use Rattle.host_core.specs.Host.{HostShape, with_running, with_variable_set, after_push, after_step}
+use Rattle.host_core.specs.Host.{HostState, with_running, with_variable_set, after_push, after_step}
 use Rattle.host_core.specs.Host.{after_clearing, with_token, thread_at, value_in_thread}
 use Rattle.host_core.specs.Turn.{with_thread, after_frame, after_own_push, after_go, after_go_with, after_call}
 use Rattle.host_core.specs.Turn.{after_own_call, after_return, after_forward, riders_of, PassesWith}
@@ -52,7 +52,7 @@ use Rattle.typed_steps.proofs.HeldSteps.{kept}
 use Rattle.typed_steps.proofs.Fuel.{entered}
 use Rattle.typed_steps.proofs.Turns.{some_entry}
 
-module _ (split : Split) (c : Configuration) (view : View) (world : WorldShape) (host : HostId) (old : HostShape)
+module _ (split : Split) (c : Configuration) (view : View) (world : WorldShape) (host : HostId) (old : HostState)
     (thread : ThreadShape) (t : IsActing split c view world host old thread) where
   -- ---- a frame
 
@@ -65,7 +65,7 @@ module _ (split : Split) (c : Configuration) (view : View) (world : WorldShape) 
       let makes = frame_at split c view host thread t.at site law in
       let frame : FrameId = record { site = site; count = slice_index old.frames site.0 } in
       let seen = framed view frame (length c.calls) makes.caller makes.method in
-      let state : HostShape = record old {
+      let state : HostState = record old {
         running = None;
         frames = slice_set old.frames site.0 (slice_index old.frames site.0 + 1);
       } in

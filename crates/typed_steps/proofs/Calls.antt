@@ -6,8 +6,8 @@ use Rattle.std.specs.Option.{option_map}
 use Rattle.std.proofs.lemmas.Bool.Decides.{eqb_tells}
 use Rattle.jif_tree.specs.SourceRun.{Call, Configuration, calls_after, variable, with_value}
 use Rattle.net_world.proofs.Present.{get_other}
-use Rattle.typed_steps.specs.Views.{Naming, values_set}
-use Rattle.typed_steps.specs.Variables.{IsNamed}
+use Rattle.typed_steps.specs.Views.{CallNaming, values_set}
+use Rattle.typed_steps.specs.Variables.{IsCallNamed}
 
 -- ---- lists
 
@@ -74,8 +74,9 @@ value_set calls call x value within other y =
     ]
 
 -- what is known of calls stays
-pub named_set : (c now : Configuration) (naming : Naming) (call x : ℕ) (value : ℤ) → call < length c.calls →
-    now.calls ≡ calls_after c.calls call x value → (other : ℕ) → IsNamed c naming other → IsNamed now naming other
+pub named_set : (c now : Configuration) (naming : CallNaming) (call x : ℕ) (value : ℤ) → call < length c.calls →
+    now.calls ≡ calls_after c.calls call x value → (other : ℕ) → IsCallNamed c naming other →
+    IsCallNamed now naming other
 named_set c now naming call x value within is other named =
     let there = there_within c.calls call within in
     let made : Call = record there.0 { values = with_value there.0.values x value } in

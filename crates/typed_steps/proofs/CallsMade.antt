@@ -31,11 +31,11 @@ use Rattle.host_core.specs.Host.{after_step, with_token}
 use Rattle.need_labels.specs.Plan.{statement_host}
 use Rattle.msg_cost.specs.Moves.{PlannedShape}
 use Rattle.split_rules.specs.Positions as positions
-use Rattle.split_rules.specs.Positions.{IsIn, all_statements}
+use Rattle.split_rules.specs.Positions.{IsStatementOfMethod, all_statements}
 use Rattle.split_rules.proofs.AllowedTyping.{body_of_method}
 use Rattle.jif_tree.specs.Trees.{row_tree}
 use Rattle.typed_steps.proofs.Basics.{all_right}
-use Rattle.split_rules.specs.Positions.{Position, Due, Argument, Calling, no_call, arguing, entering, arguments_of}
+use Rattle.split_rules.specs.Positions.{Position, DueWork, Argument, Calling, no_call, arguing, entering, arguments_of}
 use Rattle.split_rules.specs.Positions.{statement_due, is_on, calm, kept_due}
 use Rattle.split_rules.specs.Typing as typing
 use Rattle.split_rules.specs.Typing.{PushesCall, Enters, EntersWith}
@@ -49,7 +49,7 @@ use Rattle.typed_steps.specs.Readers.{IsFit}
 use Rattle.typed_steps.specs.Views.{Split, View, Link, place_of, with_chain}
 use Rattle.typed_steps.specs.Chains.{under, due_at, level_at, chain_due, FitsOver}
 use Rattle.typed_steps.specs.Threads.{alone, Owed, to_run, to_keep, item_of, duty_of, IsCalling, IsAt, NoneKept}
-use Rattle.typed_steps.specs.Threads.{IsReturn, IsKnown, AreReturned}
+use Rattle.typed_steps.specs.Threads.{IsReturn, IsKnownWork, AreReturned}
 use Rattle.typed_steps.proofs.Owing.{front_of, BeginsPlainly, EndsWithReturn, block_statements, to_run_all}
 use Rattle.typed_steps.proofs.Owing.{plainly_behind, none_kept, stands_plainly, items_before, duties_before}
 use Rattle.typed_steps.proofs.Owing.{known_before, plainly_before, returned_before, plainly_ending, returned_ending}
@@ -128,20 +128,21 @@ all_apart P (kind.Return value) heading rest all = record { own = all.0; behind 
 
 ends_native : (split : Split) (method : MethodId) (x : VarId) →
     result_of (method_at split.planned.program method) ≡ Some x → (statements : List Stmt) →
-    AllByRecursion (IsIn split.planned.program method) (all_statements (block_tree statements)) →
+    AllByRecursion (IsStatementOfMethod split.planned.program method) (all_statements (block_tree statements)) →
     GivesBack (block_tree statements) → EndsWithReturn split x statements
 ends_native split method x result [] all gives = gives
 ends_native split method x result (statement ∷ []) all gives = (
   last_return statement.kind (head_of statement) gives,
   (
     method,
-    (all_apart (IsIn split.planned.program method) statement.kind (head_of statement) done all).own,
+    (all_apart (IsStatementOfMethod split.planned.program method) statement.kind (head_of statement) done all).own,
     result,
   ),
 )
 ends_native split method x result (statement ∷ next ∷ others) all gives =
     ends_native split method x result (next ∷ others)
-    (all_apart (IsIn split.planned.program method) statement.kind (head_of statement) (block_tree (next ∷ others))
+    (all_apart (IsStatementOfMethod split.planned.program method) statement.kind (head_of statement)
+    (block_tree (next ∷ others))
     all).behind (behind_first statement.kind (head_of statement)
     (block_tree (next ∷ others))
     (not_done next.kind (head_of next) (block_tree others)) gives)
@@ -245,11 +246,11 @@ kept_none planned heading site method arguments into is = rw is refl
 
 -- what is to be done behind the body that a call starts
 record Behind (split : Split) (call n : ℕ) (into result : Option VarId) (body : List Stmt) (behind : List Owed)
-    (due : List Due) : Type 0 where
+    (due : List DueWork) : Type 0 where
   owed : List Owed
   items : source.kept call into result ++ map item_of behind ≡ map item_of owed
   duties : under call due ++ map duty_of behind ≡ map duty_of owed
-  known : AllByRecursion (IsKnown split) owed
+  known : AllByRecursion (IsKnownWork split) owed
   plainly : BeginsPlainly (to_run_all n body ++ owed)
   returned : AreReturned split (to_run_all n body ++ owed)
 
@@ -258,7 +259,7 @@ behind_call : (split : Split) (call n : ℕ) (statement : Stmt) (site : SiteId) 
     (into result : Option VarId) (body : List Stmt) (behind : List Owed) →
     statement.kind ≡ kind.Call site method args into → IsFit split.code split.planned (alone statement) →
     result ≡ result_of (method_at split.planned.program method) →
-    ((x : VarId) → result ≡ Some x → EndsWithReturn split x body) → AllByRecursion (IsKnown split) behind →
+    ((x : VarId) → result ≡ Some x → EndsWithReturn split x body) → AllByRecursion (IsKnownWork split) behind →
     BeginsPlainly behind → AreReturned split behind →
     Behind split call n into result body behind (kept_due split.planned (alone statement))
 behind_call split call n statement site method args into None body behind is fit result ends known plainly returned =
@@ -319,7 +320,7 @@ behind_call split call n statement site method args (Some into) (Some x) body be
 
 -- what is to be done once the call is made
 called_items : (split : Split) (c : Configuration) (call : ℕ) (method : MethodId) (values : List ℤ)
-    (into : Option VarId) (behind : List Owed) (due : List Due)
+    (into : Option VarId) (behind : List Owed) (due : List DueWork)
     (parts : Behind split call (length c.calls) into (source.result_of (source.method_at split.program method.0))
     (source.body_of (source.method_at split.program method.0)) behind due) →
     (source.after_call split.program c call method.0 values into (map item_of behind)).pending

@@ -11,14 +11,14 @@ use Rattle.host_code.specs.Code.{field_at, instruction_at, part_of}
 use Rattle.host_code.specs.Sound.{IsField}
 use Rattle.host_code.specs.Thread.{ThreadShape}
 use Rattle.host_core.specs.Fits.{RunningFits}
-use Rattle.host_core.specs.Host.{HostShape}
+use Rattle.host_core.specs.Host.{HostState}
 use Rattle.net_world.specs.Fits.{IsStateOf}
-use Rattle.split_rules.specs.Pace.{PACE, Allowance, Falls, FallsWithStep, FallsWithEntry, Pushes, calls_at, is_call}
+use Rattle.split_rules.specs.Pace.{PACE, Allowance, Falls, FallsWithStep, FallsWithEntry, PacedPush, calls_at, is_call}
 use Rattle.split_rules.specs.Pace.{is_call_there}
 use Rattle.split_rules.specs.Positions.{no_call}
 use Rattle.split_rules.specs.Typing.{Enters, EntersWith}
 use Rattle.split_rules.specs.TypedCode.{IsTypedOp}
-use Rattle.typed_steps.specs.Views.{Split, Naming, Link, place_of}
+use Rattle.typed_steps.specs.Views.{Split, CallNaming, Link, place_of}
 use Rattle.typed_steps.specs.Chains.{IsChain}
 use Rattle.typed_steps.specs.Weights.{STEP, weight_at}
 
@@ -66,7 +66,8 @@ next_pace : (split : Split) (host : HostId) (at : ℕ) → split.pace host.0 (at
 next_pace split host at = ap (split.pace host.0) (omega arith)
 
 -- the chain has an entry
-pub some_chain : (split : Split) (naming : Naming) (chain : List Link) → IsChain split naming chain → 0 < length chain
+pub some_chain : (split : Split) (naming : CallNaming) (chain : List Link) → IsChain split naming chain → 0
+    < length chain
 some_chain split naming [] is_chain = absurd is_chain
 some_chain split naming (top ∷ chain) is_chain = omega arith
 
@@ -122,7 +123,7 @@ field_there split field within none =
     none_within split.code.fields field.0 within none
 
 -- a thread that runs stands at an instruction
-pub place_there : (split : Split) (host : HostId) (state : HostShape) (thread : ThreadShape) →
+pub place_there : (split : Split) (host : HostId) (state : HostState) (thread : ThreadShape) →
     IsStateOf split.code host state → state.running ≡ Some thread → thread.at < length (part_of split.code host)
 place_there split host state thread fits running =
     let run : RunningFits split.code state.me thread =
@@ -149,13 +150,13 @@ none_called split host at none = of_found (instruction_at split.code host at) re
     of_found (Some there) is = of_law there.op (split.typed.instructions host at there is).1
 
 -- a push that makes the step of a call
-step_of_push : (left : Allowance) (host : HostId) (place : ℕ) (b : Bool) → Pushes left host place b →
+step_of_push : (left : Allowance) (host : HostId) (place : ℕ) (b : Bool) → PacedPush left host place b →
     FallsWithStep left host place (suc place)
 step_of_push left host place true less = less
 step_of_push left host place false less = omega arith
 
 pub falls_with_call : (split : Split) (host : HostId) (at : ℕ) (chain : List Link) (entry : Link) →
-    Pushes split.pace host at (calls_at split.code host (suc at)) →
+    PacedPush split.pace host at (calls_at split.code host (suc at)) →
     weight_at split (entry ∷ chain) host (at + 1) < weight_at split chain host at + STEP
 falls_with_call split host at chain entry pushes =
     lighter_call (split.pace host.0 at) (split.pace host.0 (at + 1)) (length chain)

@@ -19,7 +19,7 @@ use Rattle.jif_tree.specs.Trees.{BlockTree}
 use Rattle.host_code.specs.Code.{CodeShape, site_at}
 use Rattle.host_stores.specs.Stores.{with_variable}
 use Rattle.host_code.specs.Riders.{Rider, names_of}
-use Rattle.host_core.specs.Host.{HostShape, with_variables_set}
+use Rattle.host_core.specs.Host.{HostState, with_variables_set}
 use Rattle.msg_cost.specs.Terms.{reads_on}
 use Rattle.net_world.specs.Flying.{Flying}
 use Rattle.net_world.specs.World.{WorldShape, state_at}
@@ -30,30 +30,30 @@ use Rattle.typed_steps.specs.Values.{AreAlike}
 use Rattle.typed_steps.proofs.Alike.{alike_by, alike_on, alike_both}
 use Rattle.typed_steps.proofs.Holding.{same_counts}
 use Rattle.jif_tree.specs.Store.{row_of}
-use Rattle.typed_steps.specs.Views.{Split, Naming, View, Link, values_set, with_out, with_chain}
+use Rattle.typed_steps.specs.Views.{Split, CallNaming, View, Link, values_set, with_out, with_chain}
 use Rattle.typed_steps.specs.Threads.{NoneKept}
 use Rattle.typed_steps.specs.Values.{AreRowsAlike}
-use Rattle.typed_steps.specs.Variables.{Agree, IsUnused, AreFresh, HasResult, Holds}
-use Rattle.typed_steps.specs.Requests.{IsFieldOn, RidesOut}
+use Rattle.typed_steps.specs.Variables.{AgreeOnVariables, IsUnused, AreFresh, HasResult, HostsHold}
+use Rattle.typed_steps.specs.Requests.{FieldIsOn, RidesOut}
 use Rattle.typed_steps.proofs.Rows.{fields_kept, fields_same, fields_written}
 use Rattle.typed_steps.proofs.Calls.{long_set, value_set, named_set, get_front, get_last, long_last, value_front}
 use Rattle.typed_steps.proofs.Calls.{value_last}
 use Rattle.typed_steps.proofs.Holding.{agree_kept, agree_calm, agree_set, agree_forwarded, agree_given, fresh_kept}
 use Rattle.typed_steps.proofs.Holding.{fresh_set, fresh_rode, own_cell, agree_rode, agree_told}
 use Rattle.typed_steps.specs.Variables.{HaveFields}
-use Rattle.typed_steps.specs.Turns.{Keeps}
+use Rattle.typed_steps.specs.Turns.{HostsStillHold}
 use Rattle.std.proofs.Common.{refl}
 
 -- what is known of a world where a host has come to a state, whatever is in flight there
-pub kept : (split : Split) (now : Configuration) (seen : View) (world : WorldShape) (host : HostId) (new : HostShape) →
-    ((after : WorldShape) → Moved world host new after.flying after → Holds split now seen after) →
-    Keeps split now seen world host new
+pub kept : (split : Split) (now : Configuration) (seen : View) (world : WorldShape) (host : HostId) (new : HostState) →
+    ((after : WorldShape) → Moved world host new after.flying after → HostsHold split now seen after) →
+    HostsStillHold split now seen world host new
 kept split now seen world host new given after hosts = given after (record { hosts = hosts; flying = refl })
 
 -- ---- nothing is set
 
 result_kept : (split : Split) (c : Configuration) (view : View) (world after : WorldShape) (host : HostId)
-    (old state : HostShape) (flying : Flying) → HasResult split c view world → state_at world host ≡ Some old →
+    (old state : HostState) (flying : Flying) → HasResult split c view world → state_at world host ≡ Some old →
     Moved world host state flying after →
     ((frame : FrameId) (x : VarId) → AreAlike split.exposure x (state.variables frame x) (old.variables frame x)) →
     HasResult split c view after
@@ -61,7 +61,7 @@ result_kept split c view world after host old state flying result obeys moved va
     pending is =
     elim (either world after host old state flying obeys moved view.keeper there is) [
       | inl mover ↦
-          alike_by split.exposure kept _ _ _ (ap (λ (s : HostShape). s.variables (view.naming.frame call) kept)
+          alike_by split.exposure kept _ _ _ (ap (λ (s : HostState). s.variables (view.naming.frame call) kept)
           mover.is) (alike_both split.exposure kept _ _ _ (variables (view.naming.frame call) kept)
           (result call into kept behind old pending (ap (state_at world) mover.same ∙ obeys)))
       | inr apart ↦ result call into kept behind there pending apart.obeys
@@ -69,11 +69,11 @@ result_kept split c view world after host old state flying result obeys moved va
 
 -- a step that leaves each field and each variable as it was, or that may be affected, and takes no frame back
 pub holds_kept : (split : Split) (c : Configuration) (view : View) (world after : WorldShape) (host : HostId)
-    (old state : HostShape) (flying : Flying) → Holds split c view world → state_at world host ≡ Some old →
+    (old state : HostState) (flying : Flying) → HostsHold split c view world → state_at world host ≡ Some old →
     Moved world host state flying after →
     ((number : ℕ) → AreRowsAlike split.exposure number (row_of state.rows number) (row_of old.rows number)) →
     ((frame : FrameId) (x : VarId) → AreAlike split.exposure x (state.variables frame x) (old.variables frame x)) →
-    ((site : SiteId) → slice_index old.frames site.0 ≤ slice_index state.frames site.0) → Holds split c view after
+    ((site : SiteId) → slice_index old.frames site.0 ≤ slice_index state.frames site.0) → HostsHold split c view after
 holds_kept split c view world after host old state flying holds obeys moved rows variables grows = record {
   fields = fields_kept split world after host old state flying c.store holds.fields obeys moved rows;
   known = holds.known;
@@ -87,15 +87,15 @@ holds_kept split c view world after host old state flying holds obeys moved rows
 }
 
 -- the variables stay
-variables_same : (split : Split) (old state : HostShape) → state.variables ≡ old.variables → (frame : FrameId)
+variables_same : (split : Split) (old state : HostState) → state.variables ≡ old.variables → (frame : FrameId)
     (x : VarId) → AreAlike split.exposure x (state.variables frame x) (old.variables frame x)
 variables_same split old state same frame x = inl (ap (λ (v : FrameId → VarId → ℤ). v frame x) same)
 
 -- a step that writes no field, sets no variable and makes no frame
 pub holds_same : (split : Split) (c : Configuration) (view : View) (world after : WorldShape) (host : HostId)
-    (old state : HostShape) (flying : Flying) → Holds split c view world → state_at world host ≡ Some old →
+    (old state : HostState) (flying : Flying) → HostsHold split c view world → state_at world host ≡ Some old →
     Moved world host state flying after → state.rows ≡ old.rows → state.variables ≡ old.variables →
-    state.frames ≡ old.frames → Holds split c view after
+    state.frames ≡ old.frames → HostsHold split c view after
 holds_same split c view world after host old state flying holds obeys moved rows variables frames =
     holds_kept split c view world after host old state flying holds obeys moved
     (λ number. inl (ap (λ list. row_of list number) rows)) (variables_same split old state variables)
@@ -106,8 +106,9 @@ none_result : (split : Split) (c : Configuration) (view : View) (world : WorldSh
 none_result split c view world none call into kept behind there pending is = absurd (none call into kept behind pending)
 
 -- a step of the plain run that changes nothing but what is to be done
-pub holds_now : (split : Split) (c now : Configuration) (view : View) (world : WorldShape) → Holds split c view world →
-    now.store ≡ c.store → now.calls ≡ c.calls → NoneKept now → Holds split now view world
+pub holds_now : (split : Split) (c now : Configuration) (view : View) (world : WorldShape) →
+    HostsHold split c view world →
+    now.store ≡ c.store → now.calls ≡ c.calls → NoneKept now → HostsHold split now view world
 holds_now split c now view world holds store calls none = record {
   fields = subst (HaveFields split world) (sym store) holds.fields;
   known = subst (λ list. length list ≤ view.naming.count) (sym calls) holds.known;
@@ -130,8 +131,8 @@ holds_now split c now view world holds store calls none = record {
 
 -- where nothing is to be sent, another entry may come first
 pub holds_calm : (split : Split) (c : Configuration) (view : View) (world : WorldShape) (chain : List Link)
-    (sender : ℕ) → Holds split c view world → view.out ≡ [] →
-    Holds split c (record view { chain = chain; out = []; sender = sender }) world
+    (sender : ℕ) → HostsHold split c view world → view.out ≡ [] →
+    HostsHold split c (record view { chain = chain; out = []; sender = sender }) world
 holds_calm split c view world chain sender holds none = record {
   fields = holds.fields;
   known = holds.known;
@@ -145,7 +146,7 @@ holds_calm split c view world chain sender holds none = record {
 
 -- the chain says nothing of what hosts have
 pub holds_chain : (split : Split) (c : Configuration) (view : View) (world : WorldShape) (chain : List Link) →
-    Holds split c view world → Holds split c (with_chain view chain) world
+    HostsHold split c view world → HostsHold split c (with_chain view chain) world
 holds_chain split c view world chain holds = record {
   fields = holds.fields;
   known = holds.known;
@@ -160,11 +161,11 @@ holds_chain split c view world chain holds = record {
 -- ---- a field is written
 
 pub holds_written : (split : Split) (c now : Configuration) (view : View) (world after : WorldShape) (host : HostId)
-    (old state : HostShape) (flying : Flying) (field : FieldId) (index value : ℤ) → Holds split c view world →
-    state_at world host ≡ Some old → Moved world host state flying after → IsFieldOn split.code field host →
+    (old state : HostState) (flying : Flying) (field : FieldId) (index value : ℤ) → HostsHold split c view world →
+    state_at world host ≡ Some old → Moved world host state flying after → FieldIsOn split.code field host →
     state.rows ≡ store_after_write old.rows field.0 index value → state.variables ≡ old.variables →
     state.frames ≡ old.frames → now.store ≡ store_after_write c.store field.0 index value → now.calls ≡ c.calls →
-    NoneKept now → Holds split now view after
+    NoneKept now → HostsHold split now view after
 holds_written split c now view world after host old state flying field index value holds obeys moved on rows variables
     frames store calls none = record {
       fields = subst (HaveFields split after) (sym store)
@@ -200,19 +201,19 @@ values_kept values calls call x value made valued k y within =
     ap (λ v. if k == call then (if y == x then value else v) else v) (valued k y within)
     ∙ sym (value_set calls call x value made k y)
 
-same_call : (split : Split) (c : Configuration) (view : View) (world : WorldShape) → Holds split c view world →
+same_call : (split : Split) (c : Configuration) (view : View) (world : WorldShape) → HostsHold split c view world →
     (call : ℕ) → call < view.naming.count → (other : ℕ) → other < view.naming.count →
     view.naming.frame call ≡ view.naming.frame other → call ≡ other
 same_call split c view world holds call known other within same = holds.apart call other known within same
 
 -- who acts set a variable of a call that was made
 pub holds_set : (split : Split) (c now : Configuration) (view : View) (world after : WorldShape) (host : HostId)
-    (old state : HostShape) (flying : Flying) (call : ℕ) (x : VarId) (value : ℤ) (source : BlockTree) →
-    length world.hosts ≡ length split.code.hosts → Holds split c view world → view.out ≡ [] →
+    (old state : HostState) (flying : Flying) (call : ℕ) (x : VarId) (value : ℤ) (source : BlockTree) →
+    length world.hosts ≡ length split.code.hosts → HostsHold split c view world → view.out ≡ [] →
     state_at world host ≡ Some old → Moved world host state flying after → state.rows ≡ old.rows →
     state.variables ≡ with_variable old.variables (view.naming.frame call) x value → state.frames ≡ old.frames →
     call < length c.calls → now.store ≡ c.store → now.calls ≡ calls_after c.calls call x.0 value → NoneKept now →
-    Holds split now (record view {
+    HostsHold split now (record view {
       out = view.out ++ forwards_of split.planned host source x;
       sender = call;
       values = values_set view.values call x.0 value;
@@ -242,12 +243,12 @@ holds_set split c now view world after host old state flying call x value source
 
 -- a host was sent a variable
 pub holds_forwarded : (split : Split) (c : Configuration) (view : View) (world after : WorldShape)
-    (host : HostId) (old state : HostShape) (flying : Flying) (x : VarId) (value : ℤ) → Holds split c view world →
+    (host : HostId) (old state : HostState) (flying : Flying) (x : VarId) (value : ℤ) → HostsHold split c view world →
     state_at world host ≡ Some old → Moved world host state flying after → state.rows ≡ old.rows →
     state.variables ≡ with_variable old.variables (view.naming.frame view.sender) x value →
     state.frames ≡ old.frames → AreAlike split.exposure x value (view.values view.sender x.0) →
     view.sender < view.naming.count → NoneKept c →
-    Holds split c (with_out view (without_forward x host view.out)) after
+    HostsHold split c (with_out view (without_forward x host view.out)) after
 holds_forwarded split c view world after host old state flying x value holds obeys moved rows variables frames is within
     plainly = record {
       fields = fields_same split world after host old state flying c.store holds.fields obeys moved rows;
@@ -269,11 +270,11 @@ no_riders (rider ∷ riders) none = absurd (cc)
 
 -- a host took what was still to be sent, with the token
 pub holds_rode : (split : Split) (c : Configuration) (view : View) (world after : WorldShape) (host : HostId)
-    (old state : HostShape) (flying : Flying) (arrival : Arrival) → Holds split c view world →
+    (old state : HostState) (flying : Flying) (arrival : Arrival) → HostsHold split c view world →
     RidesOut split c view host arrival → state_at world host ≡ Some old → Moved world host state flying after →
     state.rows ≡ old.rows →
     state.variables ≡ (with_variables_set old arrival.frame arrival.riders).variables → state.frames ≡ old.frames →
-    Holds split c (with_out view []) after
+    HostsHold split c (with_out view []) after
 holds_rode split c view world after host old state flying arrival holds rides obeys moved rows variables frames =
     let set : state.variables ≡ (with_variables_set old (view.naming.frame view.sender) arrival.riders).variables =
     variables ∙ ap (λ f. (with_variables_set old f arrival.riders).variables) rides.frame_is in
@@ -302,8 +303,8 @@ holds_rode split c view world after host old state flying arrival holds rides ob
 
 -- a host without a state was told what was still to be sent, with the token
 pub holds_told : (split : Split) (c : Configuration) (view : View) (world : WorldShape) (to : HostId) →
-    Holds split c view world → ((state : HostShape) → state_at world to ≡ Some state → ⊥) →
-    AllByRecursion (λ forward. forward.host ≡ to) view.out → Holds split c (with_out view []) world
+    HostsHold split c view world → ((state : HostState) → state_at world to ≡ Some state → ⊥) →
+    AllByRecursion (λ forward. forward.host ≡ to) view.out → HostsHold split c (with_out view []) world
 holds_told split c view world to holds none all = record {
   fields = holds.fields;
   known = holds.known;
@@ -319,13 +320,13 @@ holds_told split c view world to holds none all = record {
 
 -- a parameter was set in the frame for a call
 pub holds_argued : (split : Split) (c : Configuration) (view : View) (world after : WorldShape) (host : HostId)
-    (old state : HostShape) (flying : Flying) (x : VarId) (value : ℤ) (source : BlockTree) →
-    length world.hosts ≡ length split.code.hosts → Holds split c view world → view.sender ≡ length c.calls →
+    (old state : HostState) (flying : Flying) (x : VarId) (value : ℤ) (source : BlockTree) →
+    length world.hosts ≡ length split.code.hosts → HostsHold split c view world → view.sender ≡ length c.calls →
     state_at world host ≡ Some old → Moved world host state flying after → state.rows ≡ old.rows →
     length c.calls < view.naming.count →
     state.variables ≡ with_variable old.variables (view.naming.frame (length c.calls)) x value →
     state.frames ≡ old.frames → NoneKept c →
-    Holds split c (record view {
+    HostsHold split c (record view {
       out = view.out ++ forwards_of split.planned host source x;
       sender = length c.calls;
       values = values_set view.values (length c.calls) x.0 value;
@@ -351,7 +352,7 @@ holds_argued split c view world after host old state flying x value source long 
     }
 
 -- the frames of calls, with one more
-abbrev pub with_frame : Naming → FrameId → ℕ → ℕ → Naming
+abbrev pub with_frame : CallNaming → FrameId → ℕ → ℕ → CallNaming
 with_frame naming frame caller method = record {
   count = suc naming.count;
   frame = λ k. if k == naming.count then frame else naming.frame k;
@@ -378,12 +379,12 @@ same_site code site other host another is also same =
 
 -- a frame was made for a call
 pub holds_framed : (split : Split) (c : Configuration) (view : View) (world after : WorldShape) (host : HostId)
-    (old state : HostShape) (flying : Flying) (site : SiteId) (caller method : ℕ) → Holds split c view world →
+    (old state : HostState) (flying : Flying) (site : SiteId) (caller method : ℕ) → HostsHold split c view world →
     view.out ≡ [] → view.naming.count ≡ length c.calls → state_at world host ≡ Some old →
     Moved world host state flying after → state.rows ≡ old.rows → state.variables ≡ old.variables →
     site_at split.code site ≡ Some host → site.0 < length old.frames →
     state.frames ≡ slice_set old.frames site.0 (slice_index old.frames site.0 + 1) → NoneKept c →
-    Holds split c (record view {
+    HostsHold split c (record view {
       out = [];
       sender = length c.calls;
       naming = with_frame view.naming (record { site = site; count = slice_index old.frames site.0 }) caller method;
@@ -412,13 +413,13 @@ holds_framed split c view world after host old state flying site caller method h
       result = λ k into kept behind there pending is. absurd (plainly k into kept behind pending);
     }
   where
-    naming : Naming
+    naming : CallNaming
     naming = view.naming
 
     frame : FrameId
     frame = record { site = site; count = slice_index old.frames site.0 }
 
-    now : Naming
+    now : CallNaming
     now = with_frame naming frame caller method
 
     unused : IsUnused split naming world frame
@@ -444,7 +445,7 @@ holds_framed split c view world after host old state flying site caller method h
       ]
     ]
 
-    agree_there : Agree split now (λ k x. if k == naming.count then pos 0 else view.values k x) []
+    agree_there : AgreeOnVariables split now (λ k x. if k == naming.count then pos 0 else view.values k x) []
         (length c.calls) after
     agree_there call other there x within is reads = elim (cases_lt call naming.count) [
       | inl early ↦
@@ -462,7 +463,7 @@ holds_framed split c view world after host old state flying site caller method h
           let at : call ≡ naming.count = omega arith in
           let here : AreAlike split.exposure x (there.variables frame x) (pos 0) =
           elim (either world after host old state flying obeys moved other there is) [
-            | inl mover ↦ alike_by split.exposure x _ _ _ (ap (λ (s : HostShape). s.variables frame x) mover.is
+            | inl mover ↦ alike_by split.exposure x _ _ _ (ap (λ (s : HostState). s.variables frame x) mover.is
                 ∙ ap (λ (v : FrameId → VarId → ℤ). v frame x) variables) (unused.unset host old x obeys)
             | inr differs ↦ unused.unset other there x differs.obeys
           ] in
@@ -473,7 +474,7 @@ holds_framed split c view world after host old state flying site caller method h
     ]
 
     -- the frames that are still to be made, seen from the world before
-    before_it : (other : HostId) (there : HostShape) (another : SiteId) (count : ℕ) →
+    before_it : (other : HostId) (there : HostState) (another : SiteId) (count : ℕ) →
         state_at after other ≡ Some there →
         site_at split.code another ≡ Some other → slice_index there.frames another.0 ≤ count →
         IsUnused split naming world (record { site = another; count = count })
@@ -484,7 +485,7 @@ holds_framed split c view world after host old state flying site caller method h
               let now : slice_index (slice_set old.frames site.0 (slice_index old.frames site.0 + 1)) another.0
               ≤ count =
               subst (λ list. slice_index list another.0 ≤ count)
-              (ap (λ (s : HostShape). s.frames) mover.is ∙ frames) least in
+              (ap (λ (s : HostState). s.frames) mover.is ∙ frames) least in
               holds.fresh host old another count obeys here (lower another.0 count now)
           | inr differs ↦ holds.fresh other there another count differs.obeys on_it least
         ]
@@ -508,7 +509,7 @@ holds_framed split c view world after host old state flying site caller method h
         ]
 
     -- none of them is the frame that was made
-    not_it : (other : HostId) (there : HostShape) (another : SiteId) (count : ℕ) → state_at after other ≡ Some there →
+    not_it : (other : HostId) (there : HostState) (another : SiteId) (count : ℕ) → state_at after other ≡ Some there →
         site_at split.code another ≡ Some other → slice_index there.frames another.0 ≤ count →
         frame ≢ record { site = another; count = count }
     not_it other there another count is on_it least same =
@@ -519,7 +520,7 @@ holds_framed split c view world after host old state flying site caller method h
         sym is ∙ ap (state_at after) (sym one) ∙ mover_state world after host old state flying obeys moved in
         let state_is : there ≡ state = cc in
         let own : slice_index there.frames another.0 ≡ slice_index old.frames site.0 + 1 =
-        ap (λ (s : HostShape). slice_index s.frames another.0) state_is
+        ap (λ (s : HostState). slice_index s.frames another.0) state_is
         ∙ ap (λ list. slice_index list another.0) frames
         ∙ ap (slice_index (slice_set old.frames site.0 (slice_index old.frames site.0 + 1))) (sym sites)
         ∙ get_or-set_same old.frames site.0 (slice_index old.frames site.0 + 1) 0 within in
@@ -537,7 +538,7 @@ holds_framed split c view world after host old state flying site caller method h
           ];
           unset = λ h s x at. elim (either world after host old state flying obeys moved h s at) [
             | inl mover ↦ alike_by split.exposure x _ _ _
-                (ap (λ (t : HostShape). t.variables (record { site = another; count = count }) x) mover.is
+                (ap (λ (t : HostState). t.variables (record { site = another; count = count }) x) mover.is
                 ∙ ap (λ (v : FrameId → VarId → ℤ). v (record { site = another; count = count }) x) variables)
                 (was.unset host old x obeys)
             | inr differs ↦ was.unset h s x differs.obeys
@@ -546,10 +547,10 @@ holds_framed split c view world after host old state flying site caller method h
 
 -- a call was made, in the frame for it
 pub holds_called : (split : Split) (c now : Configuration) (view : View) (world : WorldShape) (made : Call) →
-    Holds split c view world → view.naming.count ≡ suc (length c.calls) → now.store ≡ c.store →
+    HostsHold split c view world → view.naming.count ≡ suc (length c.calls) → now.store ≡ c.store →
     now.calls ≡ c.calls ++ made ∷ [] → made.caller ≡ view.naming.caller (length c.calls) →
     made.method ≡ view.naming.method (length c.calls) →
-    ((x : ℕ) → view.values (length c.calls) x ≡ made.values x) → NoneKept now → Holds split now view world
+    ((x : ℕ) → view.values (length c.calls) x ≡ made.values x) → NoneKept now → HostsHold split now view world
 holds_called split c now view world made holds count store calls caller method values plainly =
     let many : length now.calls ≡ suc (length c.calls) = ap length calls ∙ long_last c.calls made in
     record {
@@ -590,13 +591,13 @@ holds_called split c now view world made holds count store calls caller method v
 
 -- a result was left where its call stands
 pub holds_given : (split : Split) (c now : Configuration) (view : View) (world after : WorldShape) (host : HostId)
-    (old state : HostShape) (flying : Flying) (call : ℕ) (x : VarId) (value : ℤ) (into : VarId)
-    (behind : List plain.Item) → Holds split c view world → view.out ≡ [] → state_at world host ≡ Some old →
+    (old state : HostState) (flying : Flying) (call : ℕ) (x : VarId) (value : ℤ) (into : VarId)
+    (behind : List plain.Item) → HostsHold split c view world → view.out ≡ [] → state_at world host ≡ Some old →
     Moved world host state flying after → state.rows ≡ old.rows →
     state.variables ≡ with_variable old.variables (view.naming.frame call) x value → state.frames ≡ old.frames →
     call < length c.calls → ((other : ℕ) → reads_on split.planned x other ≡ true → ⊥) → now.store ≡ c.store →
     now.calls ≡ calls_after c.calls call x.0 value → now.pending ≡ plain.keep call into x ∷ behind →
-    Holds split now (record view { values = values_set view.values call x.0 value; keeper = host }) after
+    HostsHold split now (record view { values = values_set view.values call x.0 value; keeper = host }) after
 holds_given split c now view world after host old state flying call x value into behind holds none obeys moved rows
     variables frames made unread store calls pending =
     let known = holds.known in
@@ -623,7 +624,7 @@ holds_given split c now view world after host old state flying call x value into
           let mine : Some there ≡ Some state =
           sym at ∙ mover_state world after host old state flying obeys moved in
           let state_is : there ≡ state = cc in
-          inl (ap (λ (s : HostShape). s.variables (view.naming.frame other) result) state_is
+          inl (ap (λ (s : HostState). s.variables (view.naming.frame other) result) state_is
           ∙ ap (λ k. state.variables (view.naming.frame k) result) one
           ∙ ap (λ y. state.variables (view.naming.frame call) y) var
           ∙ ap (λ (v : FrameId → VarId → ℤ). v (view.naming.frame call) x) variables

@@ -14,7 +14,7 @@ use Rattle.host_code.specs.declared.instruction.Op.{Op}
 use Rattle.host_code.specs.declared.instruction.Op.TheVariants as op
 use Rattle.host_code.specs.Code.{field_at, entry_at, instruction_at, part_of, host_of_site}
 use Rattle.host_code.specs.Sound.{IsEntryOn, OperationFits}
-use Rattle.host_core.specs.Host.{HostShape, Outcome, with_running}
+use Rattle.host_core.specs.Host.{HostState, Outcome, with_running}
 use Rattle.host_core.specs.Turn.{after_own_push, after_operation, PassesWith, IsRunning, IsTurn, IsTurnOf}
 use Rattle.host_core.specs.Turn.{label_of_turn}
 use Rattle.host_core.specs.Turn.{label_of_thread}
@@ -46,7 +46,7 @@ site_within sites zero host is = absurd (cc)
 site_within sites (suc place) host is =
     let within = slice_get_within sites place host is in omega arith
 
-module _ (split : Split) (c : Configuration) (view : View) (world : WorldShape) (host : HostId) (old : HostShape)
+module _ (split : Split) (c : Configuration) (view : View) (world : WorldShape) (host : HostId) (old : HostState)
     (thread : ThreadShape) (t : IsActing split c view world host old thread) where
   -- an entry is pushed, for a call or for what is behind
   pushes_any : (outcome : Outcome) (entry : EntryId) (calling : Calling) →

@@ -17,7 +17,7 @@ use Rattle.jif_tree.specs.Altered.{Exposure, VariableIsAffected, MayRead}
 use Rattle.host_code.specs.Code.{CodeShape, site_at}
 use Rattle.host_stores.specs.Stores.{with_variable}
 use Rattle.host_code.specs.Riders.{Rider, names_of}
-use Rattle.host_core.specs.Host.{HostShape, with_variable_set, with_variables_set}
+use Rattle.host_core.specs.Host.{HostState, with_variable_set, with_variables_set}
 use Rattle.msg_cost.specs.Moves.{is_same}
 use Rattle.msg_cost.specs.Terms.{reads_on, is_other_reader}
 use Rattle.net_world.specs.Flying.{Flying}
@@ -29,8 +29,9 @@ use Rattle.net_world.proofs.Moved.{Moved, either}
 use Rattle.net_world.proofs.Present.{same_id}
 use Rattle.typed_steps.specs.Values.{AreAlike, HoldsNumbers}
 use Rattle.typed_steps.proofs.Alike.{alike_by, alike_on, alike_both, may_read}
-use Rattle.typed_steps.specs.Views.{Split, Naming, View, values_set}
-use Rattle.typed_steps.specs.Variables.{CanSend, AreSent, Sends, Agree, IsUnused, AreFresh, Holds}
+use Rattle.typed_steps.specs.Views.{Split, CallNaming, View, values_set}
+use Rattle.typed_steps.specs.Variables.{CanSend, AreSent, HasWhatIsOwed, AgreeOnVariables, IsUnused, AreFresh}
+use Rattle.typed_steps.specs.Variables.{HostsHold}
 use Rattle.typed_steps.proofs.Basics.{told_equal, all_map, all_both}
 use Rattle.std.specs.Prelude.{Option}
 use Rattle.net_world.specs.World.{given}
@@ -73,7 +74,7 @@ same_cell one other value x y same = elim (eqb_tells x.0 y.0) [
 ]
 
 -- a variable of a call, in its frame, after one was set
-pub cell_set : (variables : FrameId → VarId → ℤ) (naming : Naming) (values : ℕ → ℕ → ℤ) (call other : ℕ)
+pub cell_set : (variables : FrameId → VarId → ℤ) (naming : CallNaming) (values : ℕ → ℕ → ℤ) (call other : ℕ)
     (x y : VarId) (value : ℤ) → (naming.frame call ≡ naming.frame other → call ≡ other) →
     variables (naming.frame other) y ≡ values other y.0 →
     with_variable variables (naming.frame call) x value (naming.frame other) y
@@ -91,7 +92,7 @@ cell_set variables naming values call other x y value apart same =
     ]
 
 -- the same where the variable may be affected
-cell_alike : (exposure : Exposure) (variables : FrameId → VarId → ℤ) (naming : Naming) (values : ℕ → ℕ → ℤ)
+cell_alike : (exposure : Exposure) (variables : FrameId → VarId → ℤ) (naming : CallNaming) (values : ℕ → ℕ → ℤ)
     (call other : ℕ) (x y : VarId) (value : ℤ) → (naming.frame call ≡ naming.frame other → call ≡ other) →
     AreAlike exposure y (variables (naming.frame other) y) (values other y.0) →
     AreAlike exposure y (with_variable variables (naming.frame call) x value (naming.frame other) y)
@@ -101,7 +102,7 @@ cell_alike exposure variables naming values call other x y value apart (inl same
 cell_alike exposure variables naming values call other x y value apart (inr far) = inr far
 
 -- the variable itself
-pub own_cell : (variables : FrameId → VarId → ℤ) (naming : Naming) (values : ℕ → ℕ → ℤ) (call : ℕ) (x : VarId)
+pub own_cell : (variables : FrameId → VarId → ℤ) (naming : CallNaming) (values : ℕ → ℕ → ℤ) (call : ℕ) (x : VarId)
     (value : ℤ) → with_variable variables (naming.frame call) x value (naming.frame call) x
     ≡ values_set values call x.0 value call x.0
 own_cell variables naming values call x value =
@@ -113,7 +114,7 @@ own_cell variables naming values call x value =
 
 -- ---- frames that are unused
 
-fresh_moved : (split : Split) (naming : Naming) (world after : WorldShape) (host : HostId) (old state : HostShape)
+fresh_moved : (split : Split) (naming : CallNaming) (world after : WorldShape) (host : HostId) (old state : HostState)
     (flying : Flying) → AreFresh split naming world → state_at world host ≡ Some old →
     Moved world host state flying after →
     ((site : SiteId) → slice_index old.frames site.0 ≤ slice_index state.frames site.0) →
@@ -129,7 +130,7 @@ fresh_moved split naming world after host old state flying fresh obeys moved gro
           let here : site_at split.code site ≡ Some host = on ∙ ap Some mover.same in
           let more = grows site in
           let now : slice_index state.frames site.0 ≤ count =
-          subst (λ (s : HostShape). slice_index s.frames site.0 ≤ count) mover.is least in
+          subst (λ (s : HostState). slice_index s.frames site.0 ≤ count) mover.is least in
           fresh host old site count obeys here (omega arith)
       | inr apart ↦ fresh other there site count apart.obeys on least
     ] in
@@ -137,19 +138,20 @@ fresh_moved split naming world after host old state flying fresh obeys moved gro
       apart = unused.apart;
       unset = λ another there x is. elim (either world after host old state flying obeys moved another there is) [
         | inl mover ↦
-            alike_by split.exposure x _ _ _ (ap (λ (s : HostShape). s.variables frame x) mover.is)
+            alike_by split.exposure x _ _ _ (ap (λ (s : HostState). s.variables frame x) mover.is)
             (unset frame x unused.apart (unused.unset host old x obeys))
         | inr apart ↦ unused.unset another there x apart.obeys
       ];
     }
 
-pub same_counts : (old state : HostShape) → state.frames ≡ old.frames → (site : SiteId) →
+pub same_counts : (old state : HostState) → state.frames ≡ old.frames → (site : SiteId) →
     slice_index old.frames site.0 ≤ slice_index state.frames site.0
 same_counts old state same site =
     subst (λ list. slice_index old.frames site.0 ≤ slice_index list site.0) (sym same) (omega arith)
 
 -- no variable was set that may not be affected
-pub fresh_kept : (split : Split) (naming : Naming) (world after : WorldShape) (host : HostId) (old state : HostShape)
+pub fresh_kept : (split : Split) (naming : CallNaming) (world after : WorldShape) (host : HostId)
+    (old state : HostState)
     (flying : Flying) → AreFresh split naming world → state_at world host ≡ Some old →
     Moved world host state flying after →
     ((frame : FrameId) (x : VarId) → AreAlike split.exposure x (state.variables frame x) (old.variables frame x)) →
@@ -159,7 +161,7 @@ fresh_kept split naming world after host old state flying fresh obeys moved vari
     (λ frame x apart none. alike_both split.exposure x _ _ _ (variables frame x) none)
 
 -- a variable of a call was set
-pub fresh_set : (split : Split) (naming : Naming) (world after : WorldShape) (host : HostId) (old state : HostShape)
+pub fresh_set : (split : Split) (naming : CallNaming) (world after : WorldShape) (host : HostId) (old state : HostState)
     (flying : Flying) (call : ℕ) (x : VarId) (value : ℤ) → AreFresh split naming world →
     state_at world host ≡ Some old → Moved world host state flying after → call < naming.count →
     state.variables ≡ with_variable old.variables (naming.frame call) x value → state.frames ≡ old.frames →
@@ -170,7 +172,7 @@ fresh_set split naming world after host old state flying call x value fresh obey
     ∙ other_frame old.variables (naming.frame call) frame x y value (apart call known)) none)
 
 -- the variables of other frames stay
-pub rode_elsewhere : (state : HostShape) (frame other : FrameId) (y : VarId) (riders : List Rider) → frame ≢ other →
+pub rode_elsewhere : (state : HostState) (frame other : FrameId) (y : VarId) (riders : List Rider) → frame ≢ other →
     (with_variables_set state frame riders).variables other y ≡ state.variables other y
 rode_elsewhere state frame other y [] apart = refl
 rode_elsewhere state frame other y (rider ∷ riders) apart =
@@ -178,7 +180,8 @@ rode_elsewhere state frame other y (rider ∷ riders) apart =
     ∙ other_frame state.variables frame other rider.0 y rider.1 apart
 
 -- variables of a call were set
-pub fresh_rode : (split : Split) (naming : Naming) (world after : WorldShape) (host : HostId) (old state : HostShape)
+pub fresh_rode : (split : Split) (naming : CallNaming) (world after : WorldShape) (host : HostId)
+    (old state : HostState)
     (flying : Flying) (call : ℕ) (riders : List Rider) → AreFresh split naming world →
     state_at world host ≡ Some old → Moved world host state flying after → call < naming.count →
     state.variables ≡ (with_variables_set old (naming.frame call) riders).variables → state.frames ≡ old.frames →
@@ -191,23 +194,23 @@ fresh_rode split naming world after host old state flying call riders fresh obey
 -- ---- agreement
 
 -- a host has a variable of a call, or is still to be sent it
-abbrev HasOrAwaits : Split → Naming → (ℕ → ℕ → ℤ) → List Forward → ℕ → ℕ → HostId → HostShape → VarId → Type 0
+abbrev HasOrAwaits : Split → CallNaming → (ℕ → ℕ → ℤ) → List Forward → ℕ → ℕ → HostId → HostState → VarId → Type 0
 HasOrAwaits split naming values out sender call host state x =
     ((call ≡ sender) × IsOut out x host)
     ⊎ AreAlike split.exposure x (state.variables (naming.frame call) x) (values call x.0)
 
-agree_moved : (split : Split) (naming : Naming) (values now : ℕ → ℕ → ℤ) (out left : List Forward)
-    (sender next : ℕ) (world after : WorldShape) (host : HostId) (old state : HostShape) (flying : Flying) →
-    Agree split naming values out sender world → state_at world host ≡ Some old →
+agree_moved : (split : Split) (naming : CallNaming) (values now : ℕ → ℕ → ℤ) (out left : List Forward)
+    (sender next : ℕ) (world after : WorldShape) (host : HostId) (old state : HostState) (flying : Flying) →
+    AgreeOnVariables split naming values out sender world → state_at world host ≡ Some old →
     Moved world host state flying after →
     ((call : ℕ) (x : VarId) → call < naming.count → reads_on split.planned x host.0 ≡ true →
     HasOrAwaits split naming values out sender call host old x →
     HasOrAwaits split naming now left next call host state x) →
-    ((call : ℕ) (other : HostId) (there : HostShape) (x : VarId) → call < naming.count →
+    ((call : ℕ) (other : HostId) (there : HostState) (x : VarId) → call < naming.count →
     state_at world other ≡ Some there → other.0 ≢ host.0 → reads_on split.planned x other.0 ≡ true →
     HasOrAwaits split naming values out sender call other there x →
     HasOrAwaits split naming now left next call other there x) →
-    Agree split naming now left next after
+    AgreeOnVariables split naming now left next after
 agree_moved split naming values now out left sender next world after host old state flying agree obeys moved own others
     call other there x known is reads =
     elim (either world after host old state flying obeys moved other there is) [
@@ -216,19 +219,19 @@ agree_moved split naming values now out left sender next world after host old st
           elim (own call x known here (agree call host old x known obeys here)) [
             | inl out ↦ inl (out.0, subst (IsOut left x) (sym mover.same) out.1)
             | inr same ↦ inr (alike_by split.exposure x _ _ _
-                (ap (λ (s : HostShape). s.variables (naming.frame call) x) mover.is) same)
+                (ap (λ (s : HostState). s.variables (naming.frame call) x) mover.is) same)
           ]
       | inr apart ↦ others call other there x known apart.obeys apart.apart reads
           (agree call other there x known apart.obeys reads)
     ]
 
 -- a step that sets no variable that may not be affected
-pub agree_kept : (split : Split) (naming : Naming) (values : ℕ → ℕ → ℤ) (out : List Forward) (sender : ℕ)
-    (world after : WorldShape) (host : HostId) (old state : HostShape) (flying : Flying) →
-    Agree split naming values out sender world → state_at world host ≡ Some old →
+pub agree_kept : (split : Split) (naming : CallNaming) (values : ℕ → ℕ → ℤ) (out : List Forward) (sender : ℕ)
+    (world after : WorldShape) (host : HostId) (old state : HostState) (flying : Flying) →
+    AgreeOnVariables split naming values out sender world → state_at world host ≡ Some old →
     Moved world host state flying after →
     ((frame : FrameId) (x : VarId) → AreAlike split.exposure x (state.variables frame x) (old.variables frame x)) →
-    Agree split naming values out sender after
+    AgreeOnVariables split naming values out sender after
 agree_kept split naming values out sender world after host old state flying agree obeys moved variables =
     agree_moved split naming values values out out sender sender world after host old state flying agree obeys moved
     (λ call x known reads before. elim before [
@@ -241,9 +244,9 @@ pub none_out : (x : VarId) (host : HostId) (out : List Forward) → out ≡ [] �
 none_out x host out none is_out = subst (λ list. IsOut list x host) none is_out
 
 -- where nothing is to be sent, it does not matter of which call
-pub agree_calm : (split : Split) (naming : Naming) (values : ℕ → ℕ → ℤ) (out : List Forward) (sender next : ℕ)
-    (world : WorldShape) → Agree split naming values out sender world → out ≡ [] →
-    Agree split naming values [] next world
+pub agree_calm : (split : Split) (naming : CallNaming) (values : ℕ → ℕ → ℤ) (out : List Forward) (sender next : ℕ)
+    (world : WorldShape) → AgreeOnVariables split naming values out sender world → out ≡ [] →
+    AgreeOnVariables split naming values [] next world
 agree_calm split naming values out sender next world agree none call host state x known is reads =
     elim (agree call host state x known is reads) [
       | inl is_out ↦ absurd (none_out x host out none is_out.1)
@@ -337,8 +340,8 @@ not_out split values variables host out x sent is_out =
 
 -- who acts has the variables of a call that it reads
 pub holder_agrees : (split : Split) (c : Configuration) (view : View) (world : WorldShape) (host : HostId)
-    (state : HostShape) (call : ℕ) → Holds split c view world → state_at world host ≡ Some state →
-    HoldsNumbers split.exposure state → Sends split view state host → call < length c.calls → (x : VarId) →
+    (state : HostState) (call : ℕ) → HostsHold split c view world → state_at world host ≡ Some state →
+    HoldsNumbers split.exposure state → HasWhatIsOwed split view state host → call < length c.calls → (x : VarId) →
     reads_on split.planned x host.0 ≡ true →
     MayRead (VariableIsAffected split.exposure x) (plain.variable c.calls call x.0)
     (state.variables (view.naming.frame call) x)
@@ -355,13 +358,13 @@ holder_agrees split c view world host state call holds obeys numbers sent made x
 -- ---- a variable that was set
 
 -- a host of a state is one of the code's
-pub host_within : (code : CodeShape) (world : WorldShape) (host : HostId) (state : HostShape) →
+pub host_within : (code : CodeShape) (world : WorldShape) (host : HostId) (state : HostState) →
     length world.hosts ≡ length code.hosts → state_at world host ≡ Some state → host.0 < length code.hosts
 host_within code world host state count obeys =
     let within = within_of world.hosts host.0 state obeys in
     omega arith
   where
-    within_of : (hosts : List (Option HostShape)) (place : ℕ) (state : HostShape) →
+    within_of : (hosts : List (Option HostState)) (place : ℕ) (state : HostState) →
         given (slice_get hosts place) ≡ Some state → place < length hosts
     within_of [] place state is = absurd (cc)
     within_of (first ∷ hosts) zero state is = omega arith
@@ -386,7 +389,7 @@ still_out x host out more sender call other (inr same) is_out =
     (is_out.0 ∙ same, out_front x host out more is_out.1)
 
 -- Who acts has what was to be sent, and what is now to be sent behind that, once a variable is set.
-pub sent_set : (split : Split) (naming : Naming) (values : ℕ → ℕ → ℤ) (variables : FrameId → VarId → ℤ)
+pub sent_set : (split : Split) (naming : CallNaming) (values : ℕ → ℕ → ℤ) (variables : FrameId → VarId → ℤ)
     (out : List Forward) (sender : ℕ) (host : HostId) (call : ℕ) (x : VarId) (value : ℤ) (source : BlockTree) →
     (out ≡ []) ⊎ (sender ≡ call) →
     AreSent split (values sender) (variables (naming.frame sender)) host out →
@@ -414,14 +417,15 @@ sent_set split naming values variables out sender host call x value source one s
         (subst (λ k. AreSent split (values k) (variables (naming.frame k)) host out) same sent)
 
 -- Who acts set a variable of a call, which is now to be sent to the others that read it.
-pub agree_set : (split : Split) (naming : Naming) (values : ℕ → ℕ → ℤ) (out : List Forward) (sender : ℕ)
-    (world after : WorldShape) (host : HostId) (old state : HostShape) (flying : Flying) (call : ℕ) (x : VarId)
+pub agree_set : (split : Split) (naming : CallNaming) (values : ℕ → ℕ → ℤ) (out : List Forward) (sender : ℕ)
+    (world after : WorldShape) (host : HostId) (old state : HostState) (flying : Flying) (call : ℕ) (x : VarId)
     (value : ℤ) (source : BlockTree) → length world.hosts ≡ length split.code.hosts →
-    Agree split naming values out sender world →
+    AgreeOnVariables split naming values out sender world →
     (out ≡ []) ⊎ (sender ≡ call) → state_at world host ≡ Some old → Moved world host state flying after →
     ((other : ℕ) → other < naming.count → naming.frame call ≡ naming.frame other → call ≡ other) →
     state.variables ≡ with_variable old.variables (naming.frame call) x value →
-    Agree split naming (values_set values call x.0 value) (out ++ forwards_of split.planned host source x) call after
+    AgreeOnVariables split naming (values_set values call x.0 value) (out ++ forwards_of split.planned host source x)
+    call after
 agree_set split naming values out sender world after host old state flying call x value source many agree settled
     obeys moved apart variables =
     let more = forwards_of split.planned host source x in
@@ -481,14 +485,14 @@ out_without x to y host (forward ∷ out) apart is_out =
     by false other var there (inr later) more = inr (more later)
 
 -- A host was sent a variable.
-pub agree_forwarded : (split : Split) (naming : Naming) (values : ℕ → ℕ → ℤ) (out : List Forward) (sender : ℕ)
-    (world after : WorldShape) (host : HostId) (old state : HostShape) (flying : Flying) (x : VarId) (value : ℤ) →
-    Agree split naming values out sender world →
+pub agree_forwarded : (split : Split) (naming : CallNaming) (values : ℕ → ℕ → ℤ) (out : List Forward) (sender : ℕ)
+    (world after : WorldShape) (host : HostId) (old state : HostState) (flying : Flying) (x : VarId) (value : ℤ) →
+    AgreeOnVariables split naming values out sender world →
     state_at world host ≡ Some old → Moved world host state flying after →
     ((other : ℕ) → other < naming.count → naming.frame sender ≡ naming.frame other → sender ≡ other) →
     state.variables ≡ with_variable old.variables (naming.frame sender) x value →
     AreAlike split.exposure x value (values sender x.0) →
-    Agree split naming values (without_forward x host out) sender after
+    AgreeOnVariables split naming values (without_forward x host out) sender after
 agree_forwarded split naming values out sender world after host old state flying x value agree obeys moved apart
     variables is =
     agree_moved split naming values values out (without_forward x host out) sender sender world after host old state
@@ -537,7 +541,7 @@ agree_forwarded split naming values out sender world after host old state flying
 -- ---- what rides
 
 -- A host that has a variable, or awaits it, has it once all is set that was still to be sent.
-rode_here : (exposure : Exposure) (state : HostShape) (frame : FrameId) (given : ℕ → ℤ) (y : VarId) (host : HostId)
+rode_here : (exposure : Exposure) (state : HostState) (frame : FrameId) (given : ℕ → ℤ) (y : VarId) (host : HostId)
     (out : List Forward) (riders : List Rider) → map (λ forward. forward.variable) out ≡ names_of riders →
     AllByRecursion (λ rider. AreAlike exposure rider.0 rider.1 (given rider.0.0)) riders →
     IsOut out y host ⊎ AreAlike exposure y (state.variables frame y) (given y.0) →
@@ -573,15 +577,15 @@ out_to : (x : VarId) (host to : HostId) (out : List Forward) → AllByRecursion 
 out_to x host to out all is_out = of_out (λ y other. other ≡ to) x host out all is_out
 
 -- A host took all that was still to be sent.
-pub agree_rode : (split : Split) (naming : Naming) (values : ℕ → ℕ → ℤ) (out : List Forward) (sender : ℕ)
-    (world after : WorldShape) (host : HostId) (old state : HostShape) (flying : Flying) (riders : List Rider) →
-    Agree split naming values out sender world → state_at world host ≡ Some old →
+pub agree_rode : (split : Split) (naming : CallNaming) (values : ℕ → ℕ → ℤ) (out : List Forward) (sender : ℕ)
+    (world after : WorldShape) (host : HostId) (old state : HostState) (flying : Flying) (riders : List Rider) →
+    AgreeOnVariables split naming values out sender world → state_at world host ≡ Some old →
     Moved world host state flying after →
     ((other : ℕ) → other < naming.count → naming.frame sender ≡ naming.frame other → sender ≡ other) →
     state.variables ≡ (with_variables_set old (naming.frame sender) riders).variables →
     RidesAll (names_of riders) host out →
     AllByRecursion (λ rider. AreAlike split.exposure rider.0 rider.1 (values sender rider.0.0)) riders →
-    Agree split naming values [] sender after
+    AgreeOnVariables split naming values [] sender after
 agree_rode split naming values out sender world after host old state flying riders agree obeys moved apart variables
     all alike =
     agree_moved split naming values values out [] sender sender world after host old state flying agree obeys moved
@@ -613,10 +617,10 @@ agree_rode split naming values out sender world after host old state flying ride
     ])
 
 -- A host without a state was told all that was still to be sent.
-pub agree_told : (split : Split) (naming : Naming) (values : ℕ → ℕ → ℤ) (out : List Forward) (sender : ℕ)
-    (world : WorldShape) (to : HostId) → Agree split naming values out sender world →
-    ((state : HostShape) → state_at world to ≡ Some state → ⊥) →
-    AllByRecursion (λ forward. forward.host ≡ to) out → Agree split naming values [] sender world
+pub agree_told : (split : Split) (naming : CallNaming) (values : ℕ → ℕ → ℤ) (out : List Forward) (sender : ℕ)
+    (world : WorldShape) (to : HostId) → AgreeOnVariables split naming values out sender world →
+    ((state : HostState) → state_at world to ≡ Some state → ⊥) →
+    AllByRecursion (λ forward. forward.host ≡ to) out → AgreeOnVariables split naming values [] sender world
 agree_told split naming values out sender world to agree none all call host state x known is reads =
     elim (agree call host state x known is reads) [
       | inl is_out ↦ absurd (none state (ap (state_at world) (sym (out_to x host to out all is_out.1)) ∙ is))
@@ -624,14 +628,14 @@ agree_told split naming values out sender world to agree none all call host stat
     ]
 
 -- A host was given a variable that nobody reads.
-pub agree_given : (split : Split) (naming : Naming) (values : ℕ → ℕ → ℤ) (out : List Forward) (sender : ℕ)
-    (world after : WorldShape) (host : HostId) (old state : HostShape) (flying : Flying) (call : ℕ) (x : VarId)
-    (value : ℤ) → Agree split naming values out sender world → out ≡ [] → state_at world host ≡ Some old →
+pub agree_given : (split : Split) (naming : CallNaming) (values : ℕ → ℕ → ℤ) (out : List Forward) (sender : ℕ)
+    (world after : WorldShape) (host : HostId) (old state : HostState) (flying : Flying) (call : ℕ) (x : VarId)
+    (value : ℤ) → AgreeOnVariables split naming values out sender world → out ≡ [] → state_at world host ≡ Some old →
     Moved world host state flying after →
     ((other : ℕ) → other < naming.count → naming.frame call ≡ naming.frame other → call ≡ other) →
     state.variables ≡ with_variable old.variables (naming.frame call) x value →
     ((other : ℕ) → reads_on split.planned x other ≡ true → ⊥) →
-    Agree split naming (values_set values call x.0 value) out sender after
+    AgreeOnVariables split naming (values_set values call x.0 value) out sender after
 agree_given split naming values out sender world after host old state flying call x value agree none obeys moved apart
     variables unread =
     agree_moved split naming values (values_set values call x.0 value) out out sender sender world after host old state

@@ -33,7 +33,7 @@ use Rattle.msg_cost.specs.Moves.{PlannedShape}
 use Rattle.msg_cost.specs.Terms.{reads_on}
 use Rattle.split_rules.specs.Expressions.{reads_in, nodes_of}
 use Rattle.split_rules.specs.Positions as positions
-use Rattle.split_rules.specs.Positions.{Position, Due, FieldRead, Argument, Calling, arguments_of, field_reads}
+use Rattle.split_rules.specs.Positions.{Position, DueWork, FieldRead, Argument, Calling, arguments_of, field_reads}
 use Rattle.split_rules.specs.Positions.{own_reads, reads_due, number_of, statement_due, is_on, no_call, arguing}
 use Rattle.split_rules.specs.Positions.{entering, with_reads, forwards_of, IsOut, without_forward}
 use Rattle.split_rules.specs.Typing as typing
@@ -46,7 +46,7 @@ use Rattle.typed_steps.specs.Requests.{Does, SetsField}
 use Rattle.typed_steps.specs.Values.{MayTree, MayHold}
 use Rattle.typed_steps.proofs.Alike.{zip_last}
 use Rattle.typed_steps.proofs.TreeValues.{MayBeRead, tree_may}
-use Rattle.typed_steps.specs.Readers.{IsReader, IsFit}
+use Rattle.typed_steps.specs.Readers.{IsReadingHost, IsFit}
 use Rattle.typed_steps.specs.Views.{Split, View, values_set, place_of, entries_of, with_out}
 use Rattle.typed_steps.specs.Chains.{Duty, under, chain_due, FitsOver}
 use Rattle.typed_steps.specs.Threads.{alone, IsLeft, item_of, to_run, IsReturn, IsCalling, IsAt, IsKeeping, NoneKept}
@@ -69,7 +69,7 @@ Agrees split c host call variables = (x : VarId) → reads_on split.planned x ho
 
 pub read_there : (split : Split) (c : Configuration) (host : HostId) (call : ℕ) (variables : VarId → ℤ) →
     Agrees split c host call variables → (statement : BlockTree) → is_on split.planned host statement ≡ true →
-    (e : ExprTree) → IsReader split.planned (number_of statement) e →
+    (e : ExprTree) → IsReadingHost split.planned (number_of statement) e →
     MayBeRead split.exposure (source.variable c.calls call) variables e
 read_there split c host call variables agrees statement on_host e readers =
     let there = (statement_host split.planned.plan (number_of statement)).0 in
@@ -97,7 +97,7 @@ reads_inside P (declassified operand label) all = reads_inside P operand all
 reads_inside P (endorsed operand label) all = reads_inside P operand all
 
 index_readers : (code : CodeShape) (planned : PlannedShape) (statement : BlockTree) → IsFit code planned statement →
-    AllByRecursion (λ read. IsReader planned (number_of statement) read.index) (own_reads statement)
+    AllByRecursion (λ read. IsReadingHost planned (number_of statement) read.index) (own_reads statement)
 index_readers code planned done fit = tt
 index_readers code planned (set_local heading x value rest) fit = reads_inside _ value fit.0
 index_readers code planned (set_field heading field value rest) fit = reads_inside _ value fit.0
@@ -116,8 +116,8 @@ all_arguments P [] (value ∷ values) all = tt
 all_arguments P (param ∷ params) (value ∷ values) all = (all.0, all_arguments P params values all.1)
 
 -- the statement of a call that is being made is fit
-pub fit_call : (split : Split) (c : Configuration) (call : ℕ) (here : List Due) (rest : List Duty) (keeper : HostId)
-    (statement : BlockTree) (others : List Due) → here ≡ positions.run statement ∷ others →
+pub fit_call : (split : Split) (c : Configuration) (call : ℕ) (here : List DueWork) (rest : List Duty) (keeper : HostId)
+    (statement : BlockTree) (others : List DueWork) → here ≡ positions.run statement ∷ others →
     IsLeft split c keeper (under call here ++ rest) → IsFit split.code split.planned statement
 fit_call split c call here rest keeper statement others due left =
     elim (front_of split c keeper call here rest (positions.run statement) others due left) [
@@ -128,19 +128,20 @@ fit_call split c call here rest keeper statement others due left =
 
 -- whoever reads what is to be read next reads its index
 reads_known : (split : Split) (c : Configuration) (view : View) (host : HostId) (frame new_frame : FrameId) (call : ℕ)
-    (here : List Due) (rest : List Duty) (calling : Calling) (first : Due) (others : List Due) → here ≡ first ∷ others →
+    (here : List DueWork) (rest : List Duty) (calling : Calling) (first : DueWork) (others : List DueWork) → here
+    ≡ first ∷ others →
     IsLeft split c view.keeper (under call here ++ rest) →
     IsCalling split c view.naming view.values view.sender host frame new_frame call here calling →
-    AllByRecursion (λ read. IsReader split.planned (number_of (statement_due first)) read.index)
+    AllByRecursion (λ read. IsReadingHost split.planned (number_of (statement_due first)) read.index)
     (reads_due calling (statement_due first))
 reads_known split c view host frame new_frame call here rest no_call first others due left is =
     elim (front_of split c view.keeper call here rest first others due left) [
       | inl runs ↦
-          subst (λ d. AllByRecursion (λ read. IsReader split.planned (number_of (statement_due d)) read.index)
+          subst (λ d. AllByRecursion (λ read. IsReadingHost split.planned (number_of (statement_due d)) read.index)
           (own_reads (statement_due d))) (sym runs.is)
           (index_readers split.code split.planned (alone runs.statement) runs.fit)
       | inr keeps ↦
-          subst (λ d. AllByRecursion (λ read. IsReader split.planned (number_of (statement_due d)) read.index)
+          subst (λ d. AllByRecursion (λ read. IsReadingHost split.planned (number_of (statement_due d)) read.index)
           (own_reads (statement_due d))) (sym (keeps.is ∙ ap positions.keep keeps.keeping.is)) tt
     ]
 reads_known split c view host frame new_frame call here rest (arguing statement set []) first others due left is = tt
@@ -152,11 +153,11 @@ reads_known split c view host frame new_frame call here rest (arguing statement 
     let fit : IsFit split.code split.planned block =
     subst (IsFit split.code split.planned) is.is
     (fit_call split c call here rest view.keeper statement is.others is.due_first left) in
-    let readers = all_arguments (IsReader split.planned is.heading.id) (params_of (method_at split.planned.program
+    let readers = all_arguments (IsReadingHost split.planned is.heading.id) (params_of (method_at split.planned.program
     is.method)) is.arguments fit.0 in
-    let parts = all_right (λ (a : Argument). IsReader split.planned is.heading.id a.value) set (next ∷ others_left)
-    (subst (AllByRecursion (λ (a : Argument). IsReader split.planned is.heading.id a.value)) is.parts readers) in
-    subst (λ d. AllByRecursion (λ read. IsReader split.planned (number_of (statement_due d)) read.index)
+    let parts = all_right (λ (a : Argument). IsReadingHost split.planned is.heading.id a.value) set (next ∷ others_left)
+    (subst (AllByRecursion (λ (a : Argument). IsReadingHost split.planned is.heading.id a.value)) is.parts readers) in
+    subst (λ d. AllByRecursion (λ read. IsReadingHost split.planned (number_of (statement_due d)) read.index)
     (field_reads next.value)) (ap positions.run (sym is.is) ∙ one)
     (reads_inside (λ x. reads_on split.planned x (statement_host split.planned.plan is.heading.id).0 ≡ true) next.value
     parts.0)
@@ -192,8 +193,9 @@ read_at split c view host thread variables at agrees field index law value may =
     let known = reads_known split c view host thread.frame thread.new_frame call here.due (chain_due split view.chain)
     here.calling law.first law.others law.due at.left at.calling in
     let block = statement_due law.first in
-    let readers = all_right (λ one. IsReader split.planned (number_of block) one.index) here.reads (own ∷ law.behind)
-    (subst (AllByRecursion (λ one. IsReader split.planned (number_of block) one.index)) law.due_next known) in
+    let readers = all_right (λ one. IsReadingHost split.planned (number_of block) one.index) here.reads
+    (own ∷ law.behind)
+    (subst (AllByRecursion (λ one. IsReadingHost split.planned (number_of block) one.index)) law.due_next known) in
     let read = read_there split c host call variables agrees block law.on_host law.index readers.0 in
     let goes : place_of split host (thread.at + 1) ≡ with_reads here (here.reads ++ own ∷ []) =
     next_place split host thread ∙ law.goes in

@@ -26,7 +26,7 @@ use Rattle.msg_cost.specs.Terms.{reads_on}
 use Rattle.split_rules.proofs.NumberedLists.{number_there}
 use Rattle.typed_steps.specs.Readers.{SeeResults}
 use Rattle.typed_steps.proofs.Basics.{all_both, all_left, all_right}
-use Rattle.typed_steps.specs.Readers.{IsFit, IsReader}
+use Rattle.typed_steps.specs.Readers.{IsFit, IsReadingHost}
 
 -- ---- uses among uses
 
@@ -121,7 +121,7 @@ is_reader : (planned : PlannedShape) (method : MethodId) (id : StmtId) (reads : 
     IsExprIn planned.program method e →
     ((x : VarId) → IsIn x reads → x.0 < length planned.program.vars →
     reads_on planned x (statement_host planned.plan id).0 ≡ true) →
-    ((x : VarId) → IsIn x (variables_in e) → IsIn x reads) → IsReader planned id e
+    ((x : VarId) → IsIn x (variables_in e) → IsIn x reads) → IsReadingHost planned id e
 is_reader planned method id reads e fits known among =
     each (variables_in e) (variables_there planned.program method e fits) among
   where
@@ -141,7 +141,7 @@ all_from P (x ∷ xs) each = (each x (inl refl), all_from P xs (λ y is_in. each
 each_reader : (planned : PlannedShape) (method : MethodId) (id : StmtId) (values : List ExprTree) →
     AllByRecursion (IsExprIn planned.program method) values →
     ((x : VarId) → IsIn x (flat_map variables_in values) → x.0 < length planned.program.vars →
-    reads_on planned x (statement_host planned.plan id).0 ≡ true) → AllByRecursion (IsReader planned id) values
+    reads_on planned x (statement_host planned.plan id).0 ≡ true) → AllByRecursion (IsReadingHost planned id) values
 each_reader planned method id [] fit known = tt
 each_reader planned method id (value ∷ values) fit known = (
   is_reader planned method id (flat_map variables_in (value ∷ values)) value fit.0 known

@@ -18,7 +18,7 @@ use Rattle.split_rules.specs.Positions as positions
 use Rattle.split_rules.specs.Positions.{Position, calm, all_due}
 use Rattle.split_rules.specs.Typing as typing
 use Rattle.typed_steps.proofs.Instructions.{no_temporaries}
-use Rattle.typed_steps.specs.Views.{Split, Naming, View, Link, place_of}
+use Rattle.typed_steps.specs.Views.{Split, CallNaming, View, Link, place_of}
 use Rattle.typed_steps.specs.Chains.{Duty, under, due_at, chain_due, FitsOver}
 use Rattle.typed_steps.specs.Threads.{Owed, item_of, duty_of, IsLeft, NoneKept, IsCalling, IsAt}
 use Rattle.typed_steps.proofs.Owing.{to_run_all, items_before, duties_before, known_before, plainly_before}
@@ -72,7 +72,7 @@ main_plain split store =
     (plainly_before 0 (main_body split.program) [] tt)
 
 -- `main` gives nothing back
-main_fits : (split : Split) (naming : Naming) (call : ℕ) (chain : List Link) →
+main_fits : (split : Split) (naming : CallNaming) (call : ℕ) (chain : List Link) →
     FitsOver split naming (positions.body (record { 0 = split.planned.program.main.0 })) call chain
 main_fits split naming call chain x gives =
     let none : result_of (method_at split.planned.program (record { 0 = split.planned.program.main.0 })) ≡ None =
@@ -117,7 +117,7 @@ abbrev pub last_link : CodeShape → List (List ℤ) → List ℕ → Link
 last_link code store key = record { entry = last_entry code store key; call = 0 }
 
 -- only `main` was called
-abbrev pub naming_at_start : Split → Naming
+abbrev pub naming_at_start : Split → CallNaming
 naming_at_start split = record {
   count = 1;
   frame = λ call. main_frame;

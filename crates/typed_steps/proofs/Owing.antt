@@ -13,13 +13,14 @@ use Rattle.jif_tree.specs.Trees.{Heading, BlockTree, done, block_tree, row_tree,
 use Rattle.host_code.specs.Code.{CodeShape}
 use Rattle.msg_cost.specs.Moves.{PlannedShape}
 use Rattle.split_rules.specs.Positions as positions
-use Rattle.split_rules.specs.Positions.{Due, all_due, is_on, statements_of}
+use Rattle.split_rules.specs.Positions.{DueWork, all_due, is_on, statements_of}
 use Rattle.typed_steps.specs.Readers.{IsFit}
 use Rattle.typed_steps.specs.Views.{Split}
 use Rattle.typed_steps.specs.Chains.{Duty, under}
-use Rattle.typed_steps.specs.Threads.{IsFor, alone, Owed, to_run, to_keep, item_of, duty_of, IsKeeping, IsKnown}
+use Rattle.typed_steps.specs.Threads.{IsOfMethodWith, alone, Owed, to_run, to_keep, item_of, duty_of, IsKeeping}
+use Rattle.typed_steps.specs.Threads.{IsKnownWork}
 use Rattle.typed_steps.specs.Threads.{IsReturn}
-use Rattle.typed_steps.specs.Threads.{Returns, MayFollow, AreReturned, StandsOn, IsLeft, NoneKept}
+use Rattle.typed_steps.specs.Threads.{Returns, MayFollow, AreReturned, ResultStandsOn, IsLeft, NoneKept}
 
 -- ---- what does not begin with a result that is to be kept
 
@@ -43,7 +44,7 @@ none_kept c (to_run number statement ∷ behind) pending plainly call into resul
 none_kept c (to_keep number statement kept given ∷ behind) pending plainly call into result others is = absurd plainly
 
 pub stands_plainly : (split : Split) (keeper : HostId) (behind : List Owed) → BeginsPlainly behind →
-    StandsOn split keeper behind
+    ResultStandsOn split keeper behind
 stands_plainly split keeper [] plainly = tt
 stands_plainly split keeper (to_run call statement ∷ behind) plainly = tt
 stands_plainly split keeper (to_keep call statement into result ∷ behind) plainly = absurd plainly
@@ -57,19 +58,20 @@ follows_plainly split owed (to_keep call statement into result ∷ behind) plain
 -- ---- what comes first
 
 -- a statement of a call
-pub record RunsFirst (split : Split) (c : Configuration) (call : ℕ) (first : Due) (others : List Duty) : Type 0 where
-  pub statement : Stmt
-  pub behind : List Owed
-  pub pending : c.pending ≡ source.run call statement ∷ map item_of behind
-  pub is : first ≡ positions.run (alone statement)
-  pub due : others ≡ map duty_of behind
-  pub fit : IsFit split.code split.planned (alone statement)
-  pub known : AllByRecursion (IsKnown split) behind
-  pub follows : MayFollow split (to_run call statement) behind
-  pub returned : AreReturned split behind
+pub record RunsFirst (split : Split) (c : Configuration) (call : ℕ) (first : DueWork) (others : List Duty) : Type 0
+  where
+    pub statement : Stmt
+    pub behind : List Owed
+    pub pending : c.pending ≡ source.run call statement ∷ map item_of behind
+    pub is : first ≡ positions.run (alone statement)
+    pub due : others ≡ map duty_of behind
+    pub fit : IsFit split.code split.planned (alone statement)
+    pub known : AllByRecursion (IsKnownWork split) behind
+    pub follows : MayFollow split (to_run call statement) behind
+    pub returned : AreReturned split behind
 
 -- a result that is to be kept
-pub record KeepsFirst (split : Split) (c : Configuration) (keeper : HostId) (call : ℕ) (first : Due)
+pub record KeepsFirst (split : Split) (c : Configuration) (keeper : HostId) (call : ℕ) (first : DueWork)
     (others : List Duty) : Type 0 where
   pub statement : Stmt
   pub into : VarId
@@ -80,18 +82,18 @@ pub record KeepsFirst (split : Split) (c : Configuration) (keeper : HostId) (cal
   pub due : others ≡ map duty_of behind
   pub keeping : IsKeeping split statement into result
   pub on_host : is_on split.planned keeper (alone statement) ≡ true
-  pub known : AllByRecursion (IsKnown split) behind
+  pub known : AllByRecursion (IsKnownWork split) behind
   pub plainly : BeginsPlainly behind
   pub returned : AreReturned split behind
 
-abbrev pub IsFirst : Split → Configuration → HostId → ℕ → Due → List Duty → Type 0
+abbrev pub IsFirst : Split → Configuration → HostId → ℕ → DueWork → List Duty → Type 0
 IsFirst split c keeper call first others =
     RunsFirst split c call first others ⊎ KeepsFirst split c keeper call first others
 
-first_of : (split : Split) (c : Configuration) (keeper : HostId) (call : ℕ) (first : Due) (others : List Duty)
+first_of : (split : Split) (c : Configuration) (keeper : HostId) (call : ℕ) (first : DueWork) (others : List Duty)
     (left : List Owed) → c.pending ≡ map item_of left →
     record { call = call; due = first } ∷ others ≡ map duty_of left →
-    AllByRecursion (IsKnown split) left → AreReturned split left → StandsOn split keeper left →
+    AllByRecursion (IsKnownWork split) left → AreReturned split left → ResultStandsOn split keeper left →
     IsFirst split c keeper call first others
 first_of split c keeper call first others [] pending due known returned stands = absurd (cc)
 first_of split c keeper call first others (to_run number statement ∷ behind) pending due known returned stands =
@@ -130,8 +132,9 @@ first_of split c keeper call first others (to_keep number statement into result 
     })
 
 -- what is due first at a position, and what is behind that
-pub front_of : (split : Split) (c : Configuration) (keeper : HostId) (call : ℕ) (here : List Due) (rest : List Duty)
-    (first : Due) (others : List Due) → here ≡ first ∷ others → IsLeft split c keeper (under call here ++ rest) →
+pub front_of : (split : Split) (c : Configuration) (keeper : HostId) (call : ℕ) (here : List DueWork) (rest : List Duty)
+    (first : DueWork) (others : List DueWork) → here ≡ first ∷ others →
+    IsLeft split c keeper (under call here ++ rest) →
     IsFirst split c keeper call first (under call others ++ rest)
 front_of split c keeper call here rest first others due left =
     first_of split c keeper call first (under call others ++ rest) left.left left.pending
@@ -220,7 +223,8 @@ duties_before call (statement ∷ statements) behind =
 
 pub known_before : (split : Split) (call : ℕ) (statements : List Stmt) (behind : List Owed) →
     AllByRecursion (λ one. IsFit split.code split.planned (alone one)) statements →
-    AllByRecursion (IsKnown split) behind → AllByRecursion (IsKnown split) (to_run_all call statements ++ behind)
+    AllByRecursion (IsKnownWork split) behind →
+    AllByRecursion (IsKnownWork split) (to_run_all call statements ++ behind)
 known_before split call [] behind fit known = known
 known_before split call (statement ∷ statements) behind fit known =
     (fit.0, known_before split call statements behind fit.1 known)
@@ -242,7 +246,8 @@ returned_before split call (statement ∷ statements) behind plainly returned = 
 -- a body that ends by giving a result of its method back
 abbrev pub EndsWithReturn : Split → VarId → List Stmt → Type 0
 EndsWithReturn split result [] = ⊥
-EndsWithReturn split result (statement ∷ []) = IsReturn statement.kind × IsFor split (to_run 0 statement) result
+EndsWithReturn split result (statement ∷ []) = IsReturn statement.kind
+    × IsOfMethodWith split (to_run 0 statement) result
 EndsWithReturn split result (statement ∷ next ∷ statements) = EndsWithReturn split result (next ∷ statements)
 
 pub plainly_ending : (split : Split) (result : VarId) (call : ℕ) (statements : List Stmt) (behind : List Owed) →

@@ -13,9 +13,9 @@ use Rattle.host_code.specs.declared.code.Entry.{Entry}
 use Rattle.host_code.specs.Code.{halt, entry_at}
 use Rattle.host_code.specs.Sound.{IsEntryOn}
 use Rattle.host_code.specs.Thread.{ThreadShape}
-use Rattle.host_core.specs.Host.{HostShape, with_running, after_pop, after_entering, thread_at}
+use Rattle.host_core.specs.Host.{HostState, with_running, after_pop, after_entering, thread_at}
 use Rattle.split_rules.specs.Pace.{PACE}
-use Rattle.typed_steps.specs.Views.{Split, Naming, View, Link, entries_of}
+use Rattle.typed_steps.specs.Views.{Split, CallNaming, View, Link, entries_of}
 use Rattle.typed_steps.specs.Chains.{level_at, chain_due, FitsOver, IsLinked, IsChain}
 use Rattle.typed_steps.specs.Threads.{IsLeft, IsAt}
 use Rattle.typed_steps.specs.Weights.{Paced, weight_at}
@@ -28,13 +28,13 @@ use Rattle.ics_stack.specs.declared.stack.StackEntry.{StackEntry}
 -- ---- entries more
 
 -- the chain has a first entry
-pub top_of : (split : Split) (naming : Naming) (chain : List Link) → IsChain split naming chain →
+pub top_of : (split : Split) (naming : CallNaming) (chain : List Link) → IsChain split naming chain →
     (token : Token) × (top_token (entries_of chain) ≡ Some token)
 top_of split naming [] is_chain = absurd is_chain
 top_of split naming (top ∷ chain) is_chain = (top.entry.token, refl)
 
 -- an entry more
-pub pushed_chain : (split : Split) (naming : Naming) (chain : List Link) (pushed : Link) (token : Token) →
+pub pushed_chain : (split : Split) (naming : CallNaming) (chain : List Link) (pushed : Link) (token : Token) →
     IsChain split naming chain → top_token (entries_of chain) ≡ Some token →
     IsEntryOn split.code pushed.entry.token.host pushed.entry.entry → IsLinked naming pushed →
     pushed.entry.kept ≡ token →
@@ -45,7 +45,7 @@ pushed_chain split naming (next ∷ chain) pushed token is_chain top is_entry li
     let same : next.entry.token ≡ token = cc in
     (is_entry, linked, kept ∙ sym same, fits, is_chain)
 
-linked_more : (naming : Naming) (frame : FrameId) (caller method : ℕ) (link : Link) → IsLinked naming link →
+linked_more : (naming : CallNaming) (frame : FrameId) (caller method : ℕ) (link : Link) → IsLinked naming link →
     IsLinked (with_frame naming frame caller method) link
 linked_more naming frame caller method link linked =
     let known = linked.known in
@@ -56,7 +56,7 @@ linked_more naming frame caller method link linked =
     }
 
 -- one frame more changes nothing of the chain
-pub chain_more : (split : Split) (naming : Naming) (frame : FrameId) (caller method : ℕ) (chain : List Link) →
+pub chain_more : (split : Split) (naming : CallNaming) (frame : FrameId) (caller method : ℕ) (chain : List Link) →
     IsChain split naming chain → IsChain split (with_frame naming frame caller method) chain
 chain_more split naming frame caller method [] is_chain = is_chain
 chain_more split naming frame caller method (last ∷ []) is_chain = is_chain
@@ -73,7 +73,7 @@ chain_more split naming frame caller method (link ∷ next ∷ chain) is_chain =
 
 -- the program ends
 pub record Ended (split : Split) (c : Configuration) (top : Link) (rest : List Link) (host : HostId)
-    (bare : HostShape) (below : List StackEntry) : Type 0 where
+    (bare : HostState) (below : List StackEntry) : Type 0 where
   pub last : rest ≡ []
   pub on_root : host ≡ split.code.root
   pub is : after_pop split.code bare (top.entry ∷ below)
@@ -82,7 +82,7 @@ pub record Ended (split : Split) (c : Configuration) (top : Link) (rest : List L
 
 -- a thread goes on behind the entry
 pub record Continued (split : Split) (c : Configuration) (view : View) (top : Link) (rest : List Link) (host : HostId)
-    (bare : HostShape) (below : List StackEntry) : Type 0 where
+    (bare : HostState) (below : List StackEntry) : Type 0 where
   pub thread : ThreadShape
   pub is_chain : IsChain split view.naming rest
   pub is : after_pop split.code bare (top.entry ∷ below)
@@ -97,7 +97,7 @@ entry_pace split paced zero there is apart = absurd (apart refl)
 entry_pace split paced (suc number) there is apart = paced.entries number there is
 
 entered : (split : Split) (c : Configuration) (view : View) (top next : Link) (below : List Link) (host : HostId)
-    (bare : HostShape) (under : List StackEntry) → IsChain split view.naming (top ∷ next ∷ below) →
+    (bare : HostState) (under : List StackEntry) → IsChain split view.naming (top ∷ next ∷ below) →
     view.naming.count ≡ length c.calls → IsLeft split c view.keeper (chain_due split (top ∷ next ∷ below)) →
     top.entry.token.host ≡ host → (found : Option Entry) → entry_at split.code top.entry.entry ≡ found →
     IsSomeAnd found (λ there. there.host ≡ top.entry.token.host) →
@@ -105,8 +105,8 @@ entered : (split : Split) (c : Configuration) (view : View) (top next : Link) (b
 entered split c view top next below host bare under chain count left own None is on_host = absurd on_host
 entered split c view top next below host bare under chain count left own (Some there) is on_host =
     let entry = top.entry in
-    let bared : HostShape = record bare { entries = under } in
-    let ended : HostShape = record bared { running = None; halted = true } in
+    let bared : HostState = record bare { entries = under } in
+    let ended : HostState = record bared { running = None; halted = true } in
     let thread = thread_at there entry.frame entry.kept in
     let make : ℕ → EntryId = λ n. record { 0 = n } in
     let apart : (entry.entry.0 == halt.0) ≡ false =
@@ -130,14 +130,14 @@ entered split c view top next below host bare under chain count left own (Some t
 
 -- What the host of the first entry of the chain makes where it takes that off its stack, whatever is below it there.
 pub popped : (split : Split) (c : Configuration) (view : View) (top : Link) (rest : List Link) (host : HostId)
-    (bare : HostShape) (below : List StackEntry) → IsChain split view.naming (top ∷ rest) →
+    (bare : HostState) (below : List StackEntry) → IsChain split view.naming (top ∷ rest) →
     view.naming.count ≡ length c.calls → IsLeft split c view.keeper (chain_due split (top ∷ rest)) →
     top.entry.token.host ≡ host →
     Ended split c top rest host bare below ⊎ Continued split c view top rest host bare below
 popped split c view last [] host bare below chain count left own =
     let entry = last.entry in
-    let bared : HostShape = record bare { entries = below } in
-    let ended : HostShape = record bared { running = None; halted = true } in
+    let bared : HostState = record bare { entries = below } in
+    let ended : HostState = record bared { running = None; halted = true } in
     inl (record {
       last = refl;
       on_root = sym own ∙ chain.1;

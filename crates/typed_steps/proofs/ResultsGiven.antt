@@ -27,15 +27,16 @@ use Rattle.host_core.specs.Turn.{MayReturn}
 use Rattle.host_core.specs.Values.{value_of_nodes}
 use Rattle.msg_cost.specs.Terms.{reads_on}
 use Rattle.split_rules.specs.Positions as positions
-use Rattle.split_rules.specs.Positions.{Position, Due, is_on, statement_due}
-use Rattle.split_rules.specs.Typing.{Follows, GivesBack, IsValue}
+use Rattle.split_rules.specs.Positions.{Position, DueWork, is_on, statement_due}
+use Rattle.split_rules.specs.Typing.{Follows, GivesBackDue, IsValue}
 use Rattle.typed_steps.proofs.Instructions.{read_there}
 use Rattle.typed_steps.specs.Readers.{IsFit}
-use Rattle.typed_steps.specs.Views.{Split, Naming, View, Link, entries_of, place_of, values_set}
-use Rattle.typed_steps.specs.Chains.{Duty, under, due_at, chain_due, FitsOver, IsAwaited, IsChain, IsLinked}
-use Rattle.typed_steps.specs.Threads.{alone, Owed, to_run, to_keep, item_of, duty_of, IsKnown, IsKeeping, StandsOn}
+use Rattle.typed_steps.specs.Views.{Split, CallNaming, View, Link, entries_of, place_of, values_set}
+use Rattle.typed_steps.specs.Chains.{Duty, under, due_at, chain_due, FitsOver, IsResultAwaited, IsChain, IsLinked}
+use Rattle.typed_steps.specs.Threads.{alone, Owed, to_run, to_keep, item_of, duty_of, IsKnownWork, IsKeeping}
+use Rattle.typed_steps.specs.Threads.{ResultStandsOn}
 use Rattle.typed_steps.specs.Threads.{IsAt}
-use Rattle.typed_steps.specs.Variables.{IsNamed}
+use Rattle.typed_steps.specs.Variables.{IsCallNamed}
 use Rattle.typed_steps.specs.Requests.{GivesResult}
 use Rattle.typed_steps.proofs.Owing.{front_of}
 use Rattle.typed_steps.proofs.Instructions.{next_place, only_value, Agrees, cleared, stepped}
@@ -46,12 +47,12 @@ use Rattle.typed_steps.proofs.Calls.{long_set}
 -- ---- the entry that the result is for
 
 -- The first entry of a chain, behind which another stands.
-record IsTop (split : Split) (naming : Naming) (top : Link) (token : Token) : Type 0 where
+record IsTop (split : Split) (naming : CallNaming) (top : Link) (token : Token) : Type 0 where
   token_is : token ≡ top.entry.token
   linked : IsLinked naming top
 
-top_linked : (split : Split) (naming : Naming) (chain : List Link) (top : Link) (below : List Link) (token : Token)
-    (statement : BlockTree) (others : List Due) → IsChain split naming chain → chain ≡ top ∷ below →
+top_linked : (split : Split) (naming : CallNaming) (chain : List Link) (top : Link) (below : List Link) (token : Token)
+    (statement : BlockTree) (others : List DueWork) → IsChain split naming chain → chain ≡ top ∷ below →
     top_token (entries_of chain) ≡ Some token →
     due_at (slice_get split.table.entries top.entry.entry.0) ≡ positions.keep statement ∷ others →
     IsTop split naming top token
@@ -77,7 +78,7 @@ record KeptFirst (split : Split) (call : ℕ) (block : BlockTree) (behind : List
 
 kept_first : (split : Split) (call : ℕ) (block : BlockTree) (rest : List Duty) (behind : List Owed) →
     record { call = call; due = positions.keep block } ∷ rest ≡ map duty_of behind →
-    AllByRecursion (IsKnown split) behind → KeptFirst split call block behind
+    AllByRecursion (IsKnownWork split) behind → KeptFirst split call block behind
 kept_first split call block rest [] due known = absurd (cc)
 kept_first split call block rest (to_run number statement ∷ behind) due known =
     let own : Duty = record { call = call; due = positions.keep block } in
@@ -107,7 +108,7 @@ record ReturnsValue (split : Split) (here : Position) (what : StmtKind) (heading
   is_value : IsValue here (expr_tree value) nodes
 
 returns_value : (split : Split) (here : Position) (what : StmtKind) (heading : Heading) (nodes : List Node) →
-    GivesBack here (positions.run (statement_tree what heading done)) nodes →
+    GivesBackDue here (positions.run (statement_tree what heading done)) nodes →
     ReturnsValue split here what heading nodes
 returns_value split here (kind.Return value) heading nodes law = record { value = value; is = refl; is_value = law }
 returns_value split here _ heading nodes law = absurd law
@@ -127,7 +128,7 @@ unread_there split method x (Some tree) is gives other reads = split.unread meth
 
 pub return_at : (split : Split) (c : Configuration) (view : View) (host : HostId) (thread : ThreadShape)
     (variables : VarId → ℤ) (at : IsAt split c view host thread) → Agrees split c host at.call variables →
-    IsChain split view.naming view.chain → IsNamed c view.naming at.call → (x : VarId) (nodes : List Node) →
+    IsChain split view.naming view.chain → IsCallNamed c view.naming at.call → (x : VarId) (nodes : List Node) →
     Follows split.planned split.table.entries host (place_of split host thread.at) (op.Ret x nodes)
     (place_of split host (suc thread.at)) → (token : Token) → thread.held ≡ Some token →
     GivesResult split c view host (after_clearing thread) token.frame x
@@ -138,7 +139,7 @@ return_at split c view host thread variables at agrees is_chain named x nodes la
     let given = value_of_nodes variables thread.temporaries nodes in
     let method = law.1 in
     let calling = calm_calling split c view host thread at law.3 in
-    let awaited : IsAwaited split view.naming method call view.chain =
+    let awaited : IsResultAwaited split view.naming method call view.chain =
     subst (λ l. FitsOver split view.naming l call view.chain) law.5 at.fits x law.6 in
     let block = trees.call awaited.heading awaited.site method awaited.arguments awaited.into done in
     let top = awaited.top in
@@ -151,7 +152,7 @@ return_at split c view host thread variables at agrees is_chain named x nodes la
           let heading : Heading = head_of own in
           let on_host = subst (λ first. is_on split.planned host (statement_due first) ≡ true) runs.is law.2.on_host in
           let returns = returns_value split here own.kind heading nodes
-          (subst (λ first. GivesBack here first nodes) runs.is law.4) in
+          (subst (λ first. GivesBackDue here first nodes) runs.is law.4) in
           let block_is : alone own ≡ give_back heading (expr_tree returns.value) done =
           ap (λ k. statement_tree k heading done) returns.is in
           let fit = subst (IsFit split.code split.planned) block_is runs.fit in
@@ -221,9 +222,9 @@ return_at split c view host thread variables at agrees is_chain named x nodes la
                   due = runs.due;
                   known = runs.known;
                   returned = runs.returned;
-                  stands = subst (StandsOn split token.host) (sym kept.is) stands;
+                  stands = subst (ResultStandsOn split token.host) (sym kept.is) stands;
                 }) at.fits (calling.0 ∙ sym long, calling.1, calling.2) (sym none) (inl none) refl (thread.at + 1)
                 (next_place split host thread ∙ law.7);
           }
-      | inr keeps ↦ absurd (subst (λ first. GivesBack here first nodes) keeps.is law.4)
+      | inr keeps ↦ absurd (subst (λ first. GivesBackDue here first nodes) keeps.is law.4)
     ]

@@ -7,19 +7,19 @@ use Rattle.js_base.specs.declared.ids.FieldId.{FieldId}
 use Rattle.js_base.proofs.Options.{some_same}
 use Rattle.jif_tree.specs.Store.{row_of, store_after_write}
 use Rattle.host_code.specs.Code.{CodeFieldShape, field_at}
-use Rattle.host_core.specs.Host.{HostShape}
+use Rattle.host_core.specs.Host.{HostState}
 use Rattle.net_world.specs.Flying.{Flying}
 use Rattle.net_world.specs.World.{WorldShape, state_at}
 use Rattle.net_world.proofs.Moved.{Moved, either}
 use Rattle.net_world.proofs.Rows.{row_kept, same_written}
-use Rattle.typed_steps.specs.Requests.{IsFieldOn}
+use Rattle.typed_steps.specs.Requests.{FieldIsOn}
 use Rattle.typed_steps.specs.Values.{AreRowsAlike}
 use Rattle.typed_steps.specs.Variables.{HaveFields}
 use Rattle.typed_steps.specs.Views.{Split}
 use Rattle.typed_steps.proofs.Alike.{row_by, row_on, row_both}
 
 -- what each field has after a step of a host
-fields_moved : (split : Split) (world after : WorldShape) (host : HostId) (old state : HostShape) (flying : Flying)
+fields_moved : (split : Split) (world after : WorldShape) (host : HostId) (old state : HostState) (flying : Flying)
     (store now : List (List ℤ)) → HaveFields split world store → state_at world host ≡ Some old →
     Moved world host state flying after →
     ((number : ℕ) → AreRowsAlike split.exposure number (row_of old.rows number) (row_of store number) →
@@ -31,7 +31,7 @@ fields_moved split world after host old state flying store now fields obeys move
     obeyed =
     elim (either world after host old state flying obeys moved field.host there obeyed) [
       | inl mover ↦
-          row_by split.exposure number _ _ _ (ap (λ (s : HostShape). row_of s.rows number) mover.is)
+          row_by split.exposure number _ _ _ (ap (λ (s : HostState). row_of s.rows number) mover.is)
           (own number (fields number field old is (ap (state_at world) mover.same ∙ obeys)))
       | inr other ↦
           row_on split.exposure number _ _ _ (fields number field there is other.obeys)
@@ -39,7 +39,7 @@ fields_moved split world after host old state flying store now fields obeys move
     ]
 
 -- a step that writes no field that may not be affected
-pub fields_kept : (split : Split) (world after : WorldShape) (host : HostId) (old state : HostShape)
+pub fields_kept : (split : Split) (world after : WorldShape) (host : HostId) (old state : HostState)
     (flying : Flying) (store : List (List ℤ)) → HaveFields split world store → state_at world host ≡ Some old →
     Moved world host state flying after →
     ((number : ℕ) → AreRowsAlike split.exposure number (row_of state.rows number) (row_of old.rows number)) →
@@ -49,7 +49,7 @@ fields_kept split world after host old state flying store fields obeys moved row
     (λ number same. row_both split.exposure number _ _ _ (rows number) same) (λ number field is apart. refl)
 
 -- a step that writes no field
-pub fields_same : (split : Split) (world after : WorldShape) (host : HostId) (old state : HostShape)
+pub fields_same : (split : Split) (world after : WorldShape) (host : HostId) (old state : HostState)
     (flying : Flying) (store : List (List ℤ)) → HaveFields split world store → state_at world host ≡ Some old →
     Moved world host state flying after → state.rows ≡ old.rows → HaveFields split after store
 fields_same split world after host old state flying store fields obeys moved rows =
@@ -57,9 +57,9 @@ fields_same split world after host old state flying store fields obeys moved row
     (λ number. inl (ap (λ list. row_of list number) rows))
 
 -- a step that writes a field of the host
-pub fields_written : (split : Split) (world after : WorldShape) (host : HostId) (old state : HostShape)
+pub fields_written : (split : Split) (world after : WorldShape) (host : HostId) (old state : HostState)
     (flying : Flying) (store : List (List ℤ)) (field : FieldId) (index value : ℤ) → HaveFields split world store →
-    state_at world host ≡ Some old → Moved world host state flying after → IsFieldOn split.code field host →
+    state_at world host ≡ Some old → Moved world host state flying after → FieldIsOn split.code field host →
     state.rows ≡ store_after_write old.rows field.0 index value →
     HaveFields split after (store_after_write store field.0 index value)
 fields_written split world after host old state flying store field index value fields obeys moved on rows =
@@ -75,9 +75,9 @@ fields_written split world after host old state flying store field index value f
     ∙ ap (λ (h : HostId). h.0) on.on_host)))
 
 -- the row of a field on its host
-pub row_there : (split : Split) (world : WorldShape) (host : HostId) (state : HostShape) (store : List (List ℤ))
+pub row_there : (split : Split) (world : WorldShape) (host : HostId) (state : HostState) (store : List (List ℤ))
     (field : FieldId) → HaveFields split world store → state_at world host ≡ Some state →
-    IsFieldOn split.code field host →
+    FieldIsOn split.code field host →
     AreRowsAlike split.exposure field.0 (row_of state.rows field.0) (row_of store field.0)
 row_there split world host state store field fields obeys on =
     fields field.0 on.there state on.is (ap (state_at world) on.on_host ∙ obeys)

@@ -29,7 +29,7 @@ use Rattle.host_core.specs.Turn.{MayReturn}
 use Rattle.split_rules.specs.Placed.{PlacedProgram, planned_from}
 use Rattle.split_rules.specs.Allowed.{IsAllowed}
 use Rattle.split_rules.specs.Emissions.{Emission}
-use Rattle.split_rules.specs.Held.{HoldsStatement, IsHeld}
+use Rattle.split_rules.specs.Held.{HoldsStatement, IsWellHeld}
 use Rattle.split_rules.specs.SplitCode.{code_labels, code_variable, code_of_emissions, label_of_emission, label_place}
 use Rattle.split_rules.specs.SplitCode.{split_code}
 use Rattle.split_rules.specs.Splittable.{IsSplittable}
@@ -53,7 +53,7 @@ abbrev IsSeenUse : PlannedShape → StatementUse → Type 0
 IsSeenUse planned one = Sees planned (statement_host planned.plan one.id) one.used
 
 use_seen : (placed : PlacedProgram) →
-    IsAllowed placed → IsHeld placed → (place : ℕ) (one : StatementUse) →
+    IsAllowed placed → IsWellHeld placed → (place : ℕ) (one : StatementUse) →
     slice_get (statement_uses placed.hosts.principals placed.labelled) place ≡ Some one →
     IsSeenUse (planned_from placed) one
 use_seen placed allowed held place one is =
@@ -254,7 +254,7 @@ methods_results placed code returned first (method ∷ methods) numbered seen (s
     (all_right (IsSeenUse (planned_from placed)) own others seen) place tree is
 
 -- in each method the host of a call may see the label of the result that it gets
-pub results_seen : (placed : PlacedProgram) → IsSplittable placed → IsAllowed placed → IsHeld placed →
+pub results_seen : (placed : PlacedProgram) → IsSplittable placed → IsAllowed placed → IsWellHeld placed →
     (place : ℕ) (tree : MethodTree) → slice_get placed.labelled.program.methods place ≡ Some tree →
     SeeResults (split_code placed) (planned_from placed) tree.body
 results_seen placed splittable allowed held =

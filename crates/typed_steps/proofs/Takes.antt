@@ -20,10 +20,10 @@ use Rattle.entry_check.specs.declared.ask.Ask.{Ask}
 use Rattle.entry_check.specs.declared.ask.Ask.TheVariants as ask
 use Rattle.entry_check.specs.Checks.{May, MayRide}
 use Rattle.host_stores.specs.Stores.{with_variable}
-use Rattle.host_core.specs.Host.{HostShape, Outcome, without_message, with_row_written, after_push}
+use Rattle.host_core.specs.Host.{HostState, Outcome, without_message, with_row_written, after_push}
 use Rattle.host_core.specs.Host.{with_variable_set, with_temporary, with_token, new_token, after_entering}
 use Rattle.host_core.specs.Host.{with_running, with_variables_set, thread_at}
-use Rattle.host_core.specs.Taking.{IsTaking, Passes, after_taking, after_passing, after_answer, place_of_awaiting}
+use Rattle.host_core.specs.Taking.{IsTaking, PassesCheck, after_taking, after_passing, after_answer, place_of_awaiting}
 use Rattle.net_world.specs.World.{WorldShape, state_at}
 use Rattle.split_rules.specs.Handing.{Arrival, arrival_in}
 use Rattle.split_rules.specs.Positions.{without_forward}
@@ -32,11 +32,11 @@ use Rattle.token_laws.proofs.Riding.{riding_is}
 use Rattle.typed_steps.proofs.Alike.{row_read}
 use Rattle.typed_steps.specs.Views.{Split, View, Link, with_chain, with_out, values_set}
 use Rattle.typed_steps.specs.Chains.{IsLinked}
-use Rattle.typed_steps.specs.Variables.{CanSend, Holds}
-use Rattle.typed_steps.specs.Requests.{IsRequest, IsAnswer, GivesResult, GoesTo}
+use Rattle.typed_steps.specs.Variables.{CanSend, HostsHold}
+use Rattle.typed_steps.specs.Requests.{IsRequest, IsAnswerTo, GivesResult, GoesTo}
 use Rattle.typed_steps.specs.Weights.{STEP, weight_at, IsFueledRequest}
-use Rattle.typed_steps.specs.Turns.{Keeps, stays, grows}
-use Rattle.typed_steps.specs.Takes.{IsOwner, Answered, answers, steps, Arrives, Resumes}
+use Rattle.typed_steps.specs.Turns.{HostsStillHold, stays, grows}
+use Rattle.typed_steps.specs.Takes.{IsOwner, Answered, answers, steps, TokenArrives, Resumes}
 use Rattle.typed_steps.proofs.Rows.{row_there}
 use Rattle.typed_steps.proofs.HeldSteps.{kept, holds_same, holds_chain, holds_written, holds_forwarded, holds_given}
 use Rattle.typed_steps.proofs.HeldSteps.{holds_rode}
@@ -44,21 +44,21 @@ use Rattle.typed_steps.proofs.Pops.{pushed_chain}
 use Rattle.typed_steps.proofs.Turns.{sends_nothing}
 
 -- a message that passes does what it is for
-pub passing : (split : Split) (state : HostShape) (from : HostId) (m : Message) (outcome : Outcome) →
-    IsTaking split.code state from m outcome → Passes split.code state from m →
+pub passing : (split : Split) (state : HostState) (from : HostId) (m : Message) (outcome : Outcome) →
+    IsTaking split.code state from m outcome → PassesCheck split.code state from m →
     after_passing split.code state from m ≡ outcome
 passing split state from m outcome takes may =
     sym (ap (after_taking split.code state from m) (takes.1.1 may)) ∙ takes.2
 
-pub may_here : (split : Split) (state : HostShape) (owner : HostId) (what : Ask) (from : HostId) → state.me ≡ owner →
+pub may_here : (split : Split) (state : HostState) (owner : HostId) (what : Ask) (from : HostId) → state.me ≡ owner →
     May split.code owner what from → May split.code state.me what from
 may_here split state owner what from me may = subst (λ host. May split.code host what from) (sym me) may
 
 -- a message that hands a thread over passes where its thread may enter and what rides may be set
-pub arrival_passes : (split : Split) (state : HostShape) (owner from : HostId) (said : Message) (arrival : Arrival) →
+pub arrival_passes : (split : Split) (state : HostState) (owner from : HostId) (said : Message) (arrival : Arrival) →
     state.me ≡ owner → arrival_in said ≡ Some arrival →
     May split.code owner (ask.Enter arrival.entry) from × MayRide split.code owner from (names_of arrival.riders) →
-    Passes split.code state from said
+    PassesCheck split.code state from said
 arrival_passes split state owner from (message.Rgoto frame entry token) arrival me is may =
     let own : Arrival = record { frame = frame; entry = entry; token = token; riders = [] } in
     let same : own ≡ arrival = cc in
@@ -73,7 +73,7 @@ arrival_passes split state owner from (message.RgotoWith frame entry token rider
 arrival_passes split state owner from _ arrival me is may = absurd (cc)
 
 -- it sets what rides, and enters
-arrival_does : (split : Split) (state : HostShape) (from : HostId) (said : Message) (arrival : Arrival) →
+arrival_does : (split : Split) (state : HostState) (from : HostId) (said : Message) (arrival : Arrival) →
     arrival_in said ≡ Some arrival →
     after_passing split.code state from said
     ≡ without_message (after_entering (with_variables_set state arrival.frame arrival.riders)
@@ -91,7 +91,7 @@ arrival_does split state from (message.RgotoWith frame entry token riders) arriv
 arrival_does split state from _ arrival is = absurd (cc)
 
 module _ (split : Split) (c : Configuration) (view : View) (world : WorldShape) (holder owner : HostId)
-    (waiting : WaitingShape) (old : HostShape) (o : IsOwner split c view world owner old) where
+    (waiting : WaitingShape) (old : HostState) (o : IsOwner split c view world owner old) where
   -- ---- requests
 
   pub request_taken : (m : Message) → IsRequest split c view holder owner waiting m → (outcome : Outcome) →
@@ -232,12 +232,12 @@ module _ (split : Split) (c : Configuration) (view : View) (world : WorldShape) 
 -- ---- the token
 
 -- a host that has what rode, and runs the thread that was handed over
-abbrev pub arrived : HostShape → Entry → Arrival → HostShape
+abbrev pub arrived : HostState → Entry → Arrival → HostState
 arrived old there arrival =
     with_running (record old { variables = (with_variables_set old arrival.frame arrival.riders).variables })
     (Some (thread_at there arrival.frame arrival.token))
 
-module _ (split : Split) (c : Configuration) (view : View) (world : WorldShape) (from owner : HostId) (old : HostShape)
+module _ (split : Split) (c : Configuration) (view : View) (world : WorldShape) (from owner : HostId) (old : HostState)
     (arrival : Arrival) (goes : GoesTo split c view from owner arrival) where
   -- it is what the taking leaves
   pub arrived_is : (said : Message) (outcome : Outcome) → old.me ≡ owner → arrival_in said ≡ Some arrival →
@@ -251,8 +251,8 @@ module _ (split : Split) (c : Configuration) (view : View) (world : WorldShape) 
       ∙ passing split old from said outcome takes (arrival_passes split old owner from said arrival me arrives goes.may)
 
   -- and nothing is still to be sent
-  pub arrived_keeps : state_at world owner ≡ Some old → Holds split c view world →
-      Keeps split c (with_out view []) world owner (arrived old goes.there arrival)
+  pub arrived_keeps : state_at world owner ≡ Some old → HostsHold split c view world →
+      HostsStillHold split c (with_out view []) world owner (arrived old goes.there arrival)
   arrived_keeps there holds =
       let new = arrived old goes.there arrival in
       kept split c (with_out view []) world owner new
@@ -260,9 +260,9 @@ module _ (split : Split) (c : Configuration) (view : View) (world : WorldShape) 
       moved refl refl refl)
 
 pub arrival_taken : (split : Split) (c : Configuration) (view : View) (world : WorldShape) (from owner : HostId)
-    (old : HostShape) → IsOwner split c view world owner old → (said : Message) (arrival : Arrival) →
+    (old : HostState) → IsOwner split c view world owner old → (said : Message) (arrival : Arrival) →
     arrival_in said ≡ Some arrival → (goes : GoesTo split c view from owner arrival) → (outcome : Outcome) →
-    IsTaking split.code old from said outcome → Arrives split c view world owner old goes.there arrival outcome
+    IsTaking split.code old from said outcome → TokenArrives split c view world owner old goes.there arrival outcome
 arrival_taken split c view world from owner old o said arrival arrives goes outcome takes = record {
   new = arrived old goes.there arrival;
   is = arrived_is split c view world from owner old arrival goes said outcome o.me arrives takes;
@@ -276,8 +276,8 @@ arrival_taken split c view world from owner old o said arrival arrives goes outc
 
 -- The thread of a host that an answer is for goes on as it is after the answer.
 pub answer_taken : (split : Split) (c : Configuration) (view : View) (holder owner : HostId) (waiting : WaitingShape)
-    (state : HostShape) (place : ℕ) → place_of_awaiting state waiting.awaited waiting.request owner ≡ Some place →
-    (m : Message) → IsAnswer split c view holder waiting m → (outcome : Outcome) →
+    (state : HostState) (place : ℕ) → place_of_awaiting state waiting.awaited waiting.request owner ≡ Some place →
+    (m : Message) → IsAnswerTo split c view holder waiting m → (outcome : Outcome) →
     IsTaking split.code state owner m outcome → Resumes split c view holder waiting state place outcome
 answer_taken split c view holder owner waiting state place first (message.Value request value) answer outcome takes =
     let here : place_of_awaiting state value_of_field request owner ≡ Some place =

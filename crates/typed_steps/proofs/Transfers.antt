@@ -22,11 +22,11 @@ use Rattle.host_code.specs.declared.instruction.Op.TheVariants as op
 use Rattle.host_code.specs.Code.{halt, entry_at}
 use Rattle.host_code.specs.Thread.{ThreadShape}
 use Rattle.host_code.specs.Riders.{Rider}
-use Rattle.host_core.specs.Host.{HostShape, with_token, after_step, after_clearing, thread_at}
+use Rattle.host_core.specs.Host.{HostState, with_token, after_step, after_clearing, thread_at}
 use Rattle.host_core.specs.Turn.{riders_of}
 use Rattle.host_core.specs.Values.{value_of_nodes}
 use Rattle.split_rules.specs.Positions as positions
-use Rattle.split_rules.specs.Positions.{Position, Due, Level, Forward, statement_due, is_on, calm, no_call}
+use Rattle.split_rules.specs.Positions.{Position, DueWork, Level, Forward, statement_due, is_on, calm, no_call}
 use Rattle.split_rules.specs.Positions.{all_due}
 use Rattle.split_rules.specs.Typing.{EntryIs, Cuts, Branches, Divides, Ends, IsCalm, RidesAll, need_due}
 use Rattle.token_laws.proofs.Riding.{names_ride}
@@ -36,10 +36,11 @@ use Rattle.typed_steps.specs.Requests.{Does}
 use Rattle.typed_steps.specs.Values.{MayHold, AreAlike}
 use Rattle.typed_steps.proofs.Instructions.{no_temporaries, read_there}
 use Rattle.typed_steps.specs.Readers.{IsFit}
-use Rattle.typed_steps.specs.Variables.{AreSent, Sends}
+use Rattle.typed_steps.specs.Variables.{AreSent, HasWhatIsOwed}
 use Rattle.typed_steps.specs.Views.{Split, View, Link, entries_of, place_of, with_chain, with_out}
 use Rattle.typed_steps.specs.Chains.{Duty, under, due_at, level_at, chain_due, FitsOver, IsChain}
-use Rattle.typed_steps.specs.Threads.{alone, Owed, to_run, item_of, duty_of, IsReturn, MayFollow, AreReturned, IsKnown}
+use Rattle.typed_steps.specs.Threads.{alone, Owed, to_run, item_of, duty_of, IsReturn, MayFollow, AreReturned}
+use Rattle.typed_steps.specs.Threads.{IsKnownWork}
 use Rattle.typed_steps.specs.Threads.{IsLeft, IsCalling, IsAt, NoneKept}
 use Rattle.typed_steps.proofs.Owing.{front_of, plainly_behind, none_kept, stands_plainly, BeginsPlainly}
 use Rattle.typed_steps.proofs.Owing.{to_run_all, row_statements, items_before, duties_before, known_before}
@@ -58,7 +59,7 @@ pub entrance_level : (split : Split) (number : ℕ) (position : Position) (need 
     level_at (slice_get split.table.entries number) ≡ position.level
 entrance_level split number position need is = ap level_at is
 
-pub under_both : (call : ℕ) (one other : List Due) → under call (one ++ other) ≡ under call one ++ under call other
+pub under_both : (call : ℕ) (one other : List DueWork) → under call (one ++ other) ≡ under call one ++ under call other
 under_both call [] other = refl
 under_both call (item ∷ one) other =
     ap (λ (list : List Duty). record { call = call; due = item } ∷ list) (under_both call one other)
@@ -256,9 +257,9 @@ carried split values variables host (forward ∷ out) sent =
     (sent.0.0, carried split values variables host out sent.1)
 
 -- so the host of a state lets ride what is to ride
-pub rides_out : (split : Split) (c : Configuration) (view : View) (host : HostId) (state : HostShape) (on : HostId)
+pub rides_out : (split : Split) (c : Configuration) (view : View) (host : HostId) (state : HostState) (on : HostId)
     (entry : EntryId) (frame : FrameId) (token : Token) (riders : List VarId) →
-    HandsOver split c view on entry frame token riders → Sends split view state host →
+    HandsOver split c view on entry frame token riders → HasWhatIsOwed split view state host →
     RidesOut split c view on
     (record { frame = frame; entry = entry; token = token; riders = riders_of state frame riders })
 rides_out split c view host state on entry frame token riders over sent = record {
@@ -332,8 +333,8 @@ record Divided (split : Split) (c : Configuration) (call : ℕ) (statement : Stm
   skipped : List Owed
   taken_due : under call next.due ++ rest ≡ map duty_of taken
   skipped_due : under call target.due ++ rest ≡ map duty_of skipped
-  taken_known : AllByRecursion (IsKnown split) taken
-  skipped_known : AllByRecursion (IsKnown split) skipped
+  taken_known : AllByRecursion (IsKnownWork split) taken
+  skipped_known : AllByRecursion (IsKnownWork split) skipped
   taken_plainly : BeginsPlainly taken
   skipped_plainly : BeginsPlainly skipped
   taken_returned : AreReturned split taken
@@ -359,7 +360,7 @@ repeated true call body statement behind = refl
 repeated false call body statement behind = sym (items_before call body (to_run call statement ∷ behind))
 
 -- the statements of a block before others are what is due
-before_is : (call : ℕ) (found : List Due) (list : List Stmt) (rest : List Duty) (behind : List Owed) →
+before_is : (call : ℕ) (found : List DueWork) (list : List Stmt) (rest : List Duty) (behind : List Owed) →
     found ≡ map (λ one. positions.run (alone one)) list → rest ≡ map duty_of behind →
     under call found ++ rest ≡ map duty_of (to_run_all call list ++ behind)
 before_is call found list rest behind is due =
@@ -370,13 +371,14 @@ before_is call found list rest behind is due =
 divided : (split : Split) (c : Configuration) (host : HostId) (call : ℕ) (thread : ThreadShape)
     (variables : VarId → ℤ) → Agrees split c host call variables → (here : Position) →
     AllZip (MayHold split.exposure c.store (source.variable c.calls call)) here.reads thread.temporaries →
-    (statement : Stmt) (behind : List Owed) (what : StmtKind) (heading : Heading) (others : List Due) (rest : List Duty)
+    (statement : Stmt) (behind : List Owed) (what : StmtKind) (heading : Heading) (others : List DueWork)
+    (rest : List Duty)
     (nodes : List Node) (next target : Position) →
     is_on split.planned host (statement_tree what heading done) ≡ true →
     IsFit split.code split.planned (statement_tree what heading done) →
     IsFit split.code split.planned (alone statement) →
     positions.run (statement_tree what heading done) ≡ positions.run (alone statement) →
-    under call others ++ rest ≡ map duty_of behind → AllByRecursion (IsKnown split) behind → BeginsPlainly behind →
+    under call others ++ rest ≡ map duty_of behind → AllByRecursion (IsKnownWork split) behind → BeginsPlainly behind →
     AreReturned split behind → MayFollow split (to_run call statement) behind →
     Branches here (positions.run (statement_tree what heading done)) others nodes next target →
     Divided split c call statement behind what here.level next target rest
@@ -446,7 +448,7 @@ divided split c host call thread variables agrees here holds statement behind _ 
     on_host fit own own_is due known plainly returned follows law = absurd law
 
 -- no result is given back by a guard
-guards_only : (here : Position) (what : StmtKind) (heading : Heading) (others : List Due) (nodes : List Node)
+guards_only : (here : Position) (what : StmtKind) (heading : Heading) (others : List DueWork) (nodes : List Node)
     (next target : Position) → Branches here (positions.run (statement_tree what heading done)) others nodes next
     target →
     IsReturn what → ⊥
@@ -463,7 +465,7 @@ at_either : (split : Split) (after : Configuration) (view : View) (host : HostId
     next ≡ calm level next.due → aim ≡ calm level aim.due →
     under call next.due ++ chain_due split view.chain ≡ map duty_of taken →
     under call aim.due ++ chain_due split view.chain ≡ map duty_of skipped →
-    AllByRecursion (IsKnown split) taken → AllByRecursion (IsKnown split) skipped → BeginsPlainly taken →
+    AllByRecursion (IsKnownWork split) taken → AllByRecursion (IsKnownWork split) skipped → BeginsPlainly taken →
     BeginsPlainly skipped → AreReturned split taken → AreReturned split skipped →
     after.pending ≡ map item_of (if b then skipped else taken) →
     IsAt split after view host (if b then record (after_clearing thread) { at = target } else after_clearing thread)

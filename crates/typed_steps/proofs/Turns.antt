@@ -23,7 +23,7 @@ use Rattle.host_code.specs.Code.{CodeFieldShape, field_at, entry_at}
 use Rattle.host_code.specs.Sound.{IsField, IsEntryOn}
 use Rattle.host_code.specs.Thread.{ThreadShape}
 use Rattle.host_code.specs.Thread.Awaited.{value_of_field, acknowledgement, token_of_entry}
-use Rattle.host_core.specs.Host.{HostShape, without_message, with_message, with_running, with_row_written}
+use Rattle.host_core.specs.Host.{HostState, without_message, with_message, with_running, with_row_written}
 use Rattle.host_core.specs.Host.{with_variable_set, after_pop, after_push, after_step, after_clearing, with_temporary}
 use Rattle.host_core.specs.Host.{with_token, with_one_ignored, thread_at, new_token, value_in_thread, next_request}
 use Rattle.host_core.specs.Host.{after_asking}
@@ -47,8 +47,8 @@ use Rattle.token_laws.proofs.Riding.{names_ride}
 use Rattle.typed_steps.specs.Views.{Split, View, Link, entries_of, place_of, with_chain, with_out}
 use Rattle.typed_steps.specs.Chains.{IsLinked}
 use Rattle.typed_steps.specs.Threads.{IsAt, IsCalling}
-use Rattle.typed_steps.specs.Variables.{AreSent, Sends}
-use Rattle.typed_steps.specs.Requests.{IsFieldOn}
+use Rattle.typed_steps.specs.Variables.{AreSent, HasWhatIsOwed}
+use Rattle.typed_steps.specs.Requests.{FieldIsOn}
 use Rattle.typed_steps.specs.Weights.{Paced, STEP, weight_at}
 use Rattle.typed_steps.proofs.Instructions.{Agrees, after_setting, read_at, let_at, put_at, send_at}
 use Rattle.typed_steps.proofs.Transfers.{calm_calling, push_at, pushed_fits, HandsOver, go_at, go_with_at, rides_out}
@@ -67,7 +67,7 @@ use Rattle.typed_steps.proofs.HeldSteps.{kept}
 
 -- a field of the code, here or elsewhere
 owned : (split : Split) (field : FieldId) (there : CodeFieldShape) → field_at split.code field ≡ Some there →
-    (host : HostId) → there.host.0 ≡ host.0 → IsFieldOn split.code field host
+    (host : HostId) → there.host.0 ≡ host.0 → FieldIsOn split.code field host
 owned split field there is host same = record { there = there; is = is; on_host = same_id there.host host same }
 
 granted_there : (split : Split) (me : HostId) (field : FieldId) (there : CodeFieldShape) (holds : HostId → Type 0) →
@@ -78,12 +78,12 @@ granted_there split me field there holds is granted apart =
     so (λ same. apart (ap (λ (h : HostId). h.0) same))
 
 -- nothing is to be sent
-pub sends_nothing : (split : Split) (view : View) (state : HostShape) (host : HostId) → view.out ≡ [] →
-    Sends split view state host
+pub sends_nothing : (split : Split) (view : View) (state : HostState) (host : HostId) → view.out ≡ [] →
+    HasWhatIsOwed split view state host
 sends_nothing split view state host none =
     subst (AreSent split (view.values view.sender) (state.variables (view.naming.frame view.sender)) host) (sym none) tt
 
-either_thread : (b : Bool) (state : HostShape) (first other : ThreadShape) →
+either_thread : (b : Bool) (state : HostState) (first other : ThreadShape) →
     with_thread state (if b then first else other) ≡
     (if b then with_thread state first else with_thread state other)
 either_thread true state first other = refl
@@ -96,7 +96,7 @@ either_less split chain host most true first other one two = one
 either_less split chain host most false first other one two = two
 
 -- the entry that is pushed for a call
-abbrev pub pushing : HostShape → ThreadShape → EntryId → Token → ℕ → Link
+abbrev pub pushing : HostState → ThreadShape → EntryId → Token → ℕ → Link
 pushing old thread entry token call = record {
   entry = record {
     token = new_token (with_running old None) entry thread.frame;
@@ -107,7 +107,7 @@ pushing old thread entry token call = record {
   call = call;
 }
 
-module _ (split : Split) (c : Configuration) (view : View) (world : WorldShape) (host : HostId) (old : HostShape)
+module _ (split : Split) (c : Configuration) (view : View) (world : WorldShape) (host : HostId) (old : HostState)
     (thread : ThreadShape) (t : IsActing split c view world host old thread) where
   -- ---- what the host knows
 
@@ -420,7 +420,7 @@ module _ (split : Split) (c : Configuration) (view : View) (world : WorldShape) 
         keeps = kept split c seen world host new (λ after moved. holds_chain split c view after (link ∷ view.chain)
             (holds_same split c view world after host old new after.flying t.holds t.there moved refl refl refl));
         pace = λ paced. (falls_with_entry split host thread.at view.chain link
-            (subst (pace_rules.Pushes split.pace host thread.at) uncalled (pace paced))).1;
+            (subst (pace_rules.PacedPush split.pace host thread.at) uncalled (pace paced))).1;
       })
 
   -- ---- transfers

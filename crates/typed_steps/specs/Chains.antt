@@ -11,21 +11,21 @@ use Rattle.jif_tree.specs.Trees.{ExprTree, Heading, done}
 use Rattle.host_code.specs.Code.{halt}
 use Rattle.host_code.specs.Sound.{IsEntryOn}
 use Rattle.split_rules.specs.Positions as positions
-use Rattle.split_rules.specs.Positions.{Due, Level, Entrance}
+use Rattle.split_rules.specs.Positions.{DueWork, Level, Entrance}
 use Rattle.split_rules.specs.Positions.{is_on}
-use Rattle.typed_steps.specs.Views.{Split, Naming, Link}
+use Rattle.typed_steps.specs.Views.{Split, CallNaming, Link}
 
 -- ---- what is due
 
 -- something that is due, of which call
 pub record Duty : Type 0 where
   pub call : ℕ
-  pub due : Due
+  pub due : DueWork
 
-abbrev pub under : ℕ → List Due → List Duty
+abbrev pub under : ℕ → List DueWork → List Duty
 under call due = map (λ item. record { call = call; due = item }) due
 
-abbrev pub due_at : Option Entrance → List Due
+abbrev pub due_at : Option Entrance → List DueWork
 due_at None = []
 due_at (Some entrance) = entrance.position.due
 
@@ -42,7 +42,8 @@ chain_due split (link ∷ chain) =
 -- ---- the chain of entries
 
 -- The first entry of the chain is that behind a call, which keeps what the method gives back on the host of the entry.
-pub record IsAwaited (split : Split) (naming : Naming) (method : MethodId) (call : ℕ) (chain : List Link) : Type 0 where
+pub record IsResultAwaited (split : Split) (naming : CallNaming) (method : MethodId) (call : ℕ) (chain : List Link) :
+    Type 0 where
   pub top : Link
   pub below : List Link
   pub is : chain ≡ top ∷ below
@@ -50,7 +51,7 @@ pub record IsAwaited (split : Split) (naming : Naming) (method : MethodId) (call
   pub site : SiteId
   pub arguments : List ExprTree
   pub into : Option VarId
-  pub others : List Due
+  pub others : List DueWork
   pub due : due_at (slice_get split.table.entries top.entry.entry.0)
       ≡ positions.keep (trees.call heading site method arguments into done) ∷ others
   pub caller : naming.caller call ≡ top.call
@@ -58,20 +59,20 @@ pub record IsAwaited (split : Split) (naming : Naming) (method : MethodId) (call
   pub on_host : is_on split.planned top.entry.token.host (trees.call heading site method arguments into done) ≡ true
 
 -- who holds the token with which a method with a result was entered gives the result back to the first entry
-abbrev pub FitsOver : Split → Naming → Level → ℕ → List Link → Type 0
+abbrev pub FitsOver : Split → CallNaming → Level → ℕ → List Link → Type 0
 FitsOver split naming (positions.body method) call chain = (x : VarId) →
-    result_of (method_at split.planned.program method) ≡ Some x → IsAwaited split naming method call chain
+    result_of (method_at split.planned.program method) ≡ Some x → IsResultAwaited split naming method call chain
 FitsOver split naming other call chain = ⊤
 
 -- an entry in the frame of its call
-pub record IsLinked (naming : Naming) (link : Link) : Type 0 where
+pub record IsLinked (naming : CallNaming) (link : Link) : Type 0 where
   pub frame : link.entry.frame ≡ naming.frame link.call
   pub token : link.entry.token.frame ≡ link.entry.frame
   pub known : link.call < naming.count
 
 -- The last of them ends the program, on the root. Each of the others stands on the host of its token, and has the
 -- token of the next kept with it.
-abbrev pub IsChain : Split → Naming → List Link → Type 0
+abbrev pub IsChain : Split → CallNaming → List Link → Type 0
 IsChain split naming [] = ⊥
 IsChain split naming (link ∷ []) = (link.entry.entry ≡ halt) × (link.entry.token.host ≡ split.code.root)
 IsChain split naming (link ∷ next ∷ chain) =

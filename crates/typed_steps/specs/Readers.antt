@@ -41,8 +41,8 @@ SeeResults code planned (give_back heading value rest) = SeeResults code planned
 -- ---- readers
 
 -- the host of a statement is one of those that read the variables of an expression
-abbrev pub IsReader : PlannedShape → StmtId → ExprTree → Type 0
-IsReader planned statement expr =
+abbrev pub IsReadingHost : PlannedShape → StmtId → ExprTree → Type 0
+IsReadingHost planned statement expr =
     AllByRecursion (λ x. reads_on planned x (statement_host planned.plan statement).0 ≡ true) (variables_in expr)
 
 -- a call keeps the result of the method exactly where there is one
@@ -53,16 +53,17 @@ IsResultKept planned method into = is_some into ≡ is_some (result_of (method_a
 -- the result of what it calls.
 abbrev pub IsFit : CodeShape → PlannedShape → BlockTree → Type 0
 IsFit code planned done = ⊤
-IsFit code planned (set_local heading x value rest) = IsReader planned heading.id value × IsFit code planned rest
-IsFit code planned (set_field heading field value rest) = IsReader planned heading.id value × IsFit code planned rest
+IsFit code planned (set_local heading x value rest) = IsReadingHost planned heading.id value × IsFit code planned rest
+IsFit code planned (set_field heading field value rest) = IsReadingHost planned heading.id value
+    × IsFit code planned rest
 IsFit code planned (set_element heading field index value rest) =
-    IsReader planned heading.id index × IsReader planned heading.id value × IsFit code planned rest
+    IsReadingHost planned heading.id index × IsReadingHost planned heading.id value × IsFit code planned rest
 IsFit code planned (branch heading guard first second rest) =
-    IsReader planned heading.id guard × IsFit code planned first × IsFit code planned second
+    IsReadingHost planned heading.id guard × IsFit code planned first × IsFit code planned second
     × IsFit code planned rest
 IsFit code planned (loop heading guard body rest) =
-    IsReader planned heading.id guard × IsFit code planned body × IsFit code planned rest
+    IsReadingHost planned heading.id guard × IsFit code planned body × IsFit code planned rest
 IsFit code planned (call heading site method arguments into rest) =
-    AllByRecursion (IsReader planned heading.id) arguments × IsResultKept planned method into
+    AllByRecursion (IsReadingHost planned heading.id) arguments × IsResultKept planned method into
     × SeesResult code planned heading.id method × IsFit code planned rest
-IsFit code planned (give_back heading value rest) = IsReader planned heading.id value × IsFit code planned rest
+IsFit code planned (give_back heading value rest) = IsReadingHost planned heading.id value × IsFit code planned rest

@@ -41,7 +41,7 @@ use Rattle.typed_steps.specs.Chains.{level_at, chain_due, FitsOver}
 use Rattle.typed_steps.specs.Threads.{IsLeft, NoneKept, IsAt}
 
 -- the field of the code is on the host
-pub record IsFieldOn (code : CodeShape) (field : FieldId) (host : HostId) : Type 0 where
+pub record FieldIsOn (code : CodeShape) (field : FieldId) (host : HostId) : Type 0 where
   pub there : CodeFieldShape
   pub is : field_at code field ≡ Some there
   pub on_host : there.host ≡ host
@@ -66,12 +66,12 @@ pub record SetsField (split : Split) (c : Configuration) (view : View) (host : H
 abbrev pub IsRequest : Split → Configuration → View → HostId → HostId → WaitingShape → Message → Type 0
 IsRequest split c view holder owner waiting (message.Get request field place) =
     (waiting.awaited ≡ value_of_field) × (waiting.request ≡ request)
-    × May split.code owner (ask.Get field) holder × IsFieldOn split.code field owner
+    × May split.code owner (ask.Get field) holder × FieldIsOn split.code field owner
     × ((value : ℤ) → MayRead (FieldIsAffected split.exposure field) (element_at (row_of c.store field.0) place) value →
     IsAt split c view holder (with_temporary value waiting.thread))
 IsRequest split c view holder owner waiting (message.Set request field place value) =
     (waiting.awaited ≡ acknowledgement) × (waiting.request ≡ request)
-    × May split.code owner (ask.Set field) holder × IsFieldOn split.code field owner
+    × May split.code owner (ask.Set field) holder × FieldIsOn split.code field owner
     × SetsField split c view holder waiting.thread field place value
 IsRequest split c view holder owner waiting (message.Forward request frame x value) =
     (waiting.awaited ≡ acknowledgement) × (waiting.request ≡ request)
@@ -89,16 +89,16 @@ IsRequest split c view holder owner waiting (message.Sync request frame entry to
     IsAt split c (with_chain view (link ∷ view.chain)) holder (with_token (Some link.entry.token) waiting.thread))
 IsRequest split c view holder owner waiting other = ⊥
 
-abbrev pub IsAnswer : Split → Configuration → View → HostId → WaitingShape → Message → Type 0
-IsAnswer split c view holder waiting (message.Value request value) =
+abbrev pub IsAnswerTo : Split → Configuration → View → HostId → WaitingShape → Message → Type 0
+IsAnswerTo split c view holder waiting (message.Value request value) =
     (waiting.awaited ≡ value_of_field) × (waiting.request ≡ request)
     × IsAt split c view holder (with_temporary value waiting.thread)
-IsAnswer split c view holder waiting (message.Ack request) =
+IsAnswerTo split c view holder waiting (message.Ack request) =
     (waiting.awaited ≡ acknowledgement) × (waiting.request ≡ request) × IsAt split c view holder waiting.thread
-IsAnswer split c view holder waiting (message.Token request token) =
+IsAnswerTo split c view holder waiting (message.Token request token) =
     (waiting.awaited ≡ token_of_entry) × (waiting.request ≡ request)
     × IsAt split c view holder (with_token (Some token) waiting.thread)
-IsAnswer split c view holder waiting other = ⊥
+IsAnswerTo split c view holder waiting other = ⊥
 
 -- A result is given back to the call that made this one: a step sets it, where the call's entry stands.
 pub record GivesResult (split : Split) (c : Configuration) (view : View) (host : HostId) (thread : ThreadShape)

@@ -21,12 +21,12 @@ use Rattle.host_code.specs.Code.{variable_at}
 use Rattle.host_code.specs.Thread.{ThreadShape}
 use Rattle.host_core.specs.Turn.{MayReturn}
 use Rattle.split_rules.specs.Positions as positions
-use Rattle.split_rules.specs.Positions.{IsIn}
-use Rattle.split_rules.specs.Positions.{Due, Argument, Calling, no_call, arguing}
+use Rattle.split_rules.specs.Positions.{IsStatementOfMethod}
+use Rattle.split_rules.specs.Positions.{DueWork, Argument, Calling, no_call, arguing}
 use Rattle.split_rules.specs.Positions.{entering, arguments_of, is_on}
 use Rattle.typed_steps.specs.Readers.{IsFit}
 use Rattle.typed_steps.specs.Values.{MayTree, MayHold}
-use Rattle.typed_steps.specs.Views.{Split, place_of, Naming, entries_of, View}
+use Rattle.typed_steps.specs.Views.{Split, place_of, CallNaming, entries_of, View}
 use Rattle.typed_steps.specs.Chains.{Duty, under, chain_due, FitsOver}
 
 -- ---- what is still to be done
@@ -60,9 +60,9 @@ pub record IsKeeping (split : Split) (statement : Stmt) (into result : VarId) : 
   pub sees : (host : HostId) → is_on split.planned host (alone statement) ≡ true →
       MayReturn split.code (variable_at split.code result) host
 
-abbrev pub IsKnown : Split → Owed → Type 0
-IsKnown split (to_run call statement) = IsFit split.code split.planned (alone statement)
-IsKnown split (to_keep call statement into result) = IsKeeping split statement into result
+abbrev pub IsKnownWork : Split → Owed → Type 0
+IsKnownWork split (to_run call statement) = IsFit split.code split.planned (alone statement)
+IsKnownWork split (to_keep call statement into result) = IsKeeping split statement into result
 
 abbrev pub IsReturn : StmtKind → Type 0
 IsReturn (kind.Return value) = ⊤
@@ -73,15 +73,16 @@ Returns (to_run call statement) = IsReturn statement.kind
 Returns other = ⊥
 
 -- a statement of a method with this result
-abbrev pub IsFor : Split → Owed → VarId → Type 0
-IsFor split (to_run call statement) result =
-    (method : MethodId) × IsIn split.planned.program method (alone statement)
+abbrev pub IsOfMethodWith : Split → Owed → VarId → Type 0
+IsOfMethodWith split (to_run call statement) result =
+    (method : MethodId) × IsStatementOfMethod split.planned.program method (alone statement)
     × (result_of (method_at split.planned.program method) ≡ Some result)
-IsFor split other result = ⊥
+IsOfMethodWith split other result = ⊥
 
 -- a result is kept only right behind where the method that has it gives it back
 abbrev pub MayFollow : Split → Owed → List Owed → Type 0
-MayFollow split before (to_keep call statement into result ∷ others) = Returns before × IsFor split before result
+MayFollow split before (to_keep call statement into result ∷ others) = Returns before
+    × IsOfMethodWith split before result
 MayFollow split before others = ⊤
 
 abbrev pub AreReturned : Split → List Owed → Type 0
@@ -89,19 +90,19 @@ AreReturned split [] = ⊤
 AreReturned split (first ∷ others) = MayFollow split first others × AreReturned split others
 
 -- where a result is to be kept next it is on the host of the call
-abbrev pub StandsOn : Split → HostId → List Owed → Type 0
-StandsOn split keeper (to_keep call statement into result ∷ others) =
+abbrev pub ResultStandsOn : Split → HostId → List Owed → Type 0
+ResultStandsOn split keeper (to_keep call statement into result ∷ others) =
     is_on split.planned keeper (alone statement) ≡ true
-StandsOn split keeper others = ⊤
+ResultStandsOn split keeper others = ⊤
 
 -- these are due, and are what is still to be done
 pub record IsLeft (split : Split) (c : Configuration) (keeper : HostId) (all : List Duty) : Type 0 where
   pub left : List Owed
   pub pending : c.pending ≡ map item_of left
   pub due : all ≡ map duty_of left
-  pub known : AllByRecursion (IsKnown split) left
+  pub known : AllByRecursion (IsKnownWork split) left
   pub returned : AreReturned split left
-  pub stands : StandsOn split keeper left
+  pub stands : ResultStandsOn split keeper left
 
 -- no result is to be kept next
 abbrev pub NoneKept : Configuration → Type 0
@@ -112,15 +113,15 @@ NoneKept c = (call : ℕ) (into result : VarId) (behind : List source.Item) →
 
 -- There is a new frame for a call, which a statement makes that is due first. Some parameters were set in it, and the
 -- others are still to be set.
-pub record IsArguing (split : Split) (c : Configuration) (naming : Naming) (values : ℕ → ℕ → ℤ) (sender : ℕ)
-    (host : HostId) (frame new_frame : FrameId) (call : ℕ) (due : List Due) (statement : BlockTree)
+pub record IsArguing (split : Split) (c : Configuration) (naming : CallNaming) (values : ℕ → ℕ → ℤ) (sender : ℕ)
+    (host : HostId) (frame new_frame : FrameId) (call : ℕ) (due : List DueWork) (statement : BlockTree)
     (set left : List Argument) : Type 0 where
   pub count : naming.count ≡ suc (length c.calls)
   pub frame_is : frame ≡ naming.frame call
   pub new_frame_is : new_frame ≡ naming.frame (length c.calls)
   pub sender_is : sender ≡ length c.calls
   pub caller : naming.caller (length c.calls) ≡ call
-  pub others : List Due
+  pub others : List DueWork
   pub due_first : due ≡ positions.run statement ∷ others
   pub on_host : is_on split.planned host statement ≡ true
   pub heading : Heading
@@ -138,7 +139,8 @@ pub record IsArguing (split : Split) (c : Configuration) (naming : Naming) (valu
   pub passed : (x : ℕ) → values (length c.calls) x ≡ source.passed (map (λ one. one.param) set) given x
 
 -- in which frame a thread acts for a call
-abbrev pub IsCalling : Split → Configuration → Naming → (ℕ → ℕ → ℤ) → ℕ → HostId → FrameId → FrameId → ℕ → List Due →
+abbrev pub IsCalling : Split → Configuration → CallNaming → (ℕ → ℕ → ℤ) → ℕ → HostId → FrameId → FrameId → ℕ →
+    List DueWork →
     Calling → Type 0
 IsCalling split c naming values sender host frame new_frame call due no_call =
     (naming.count ≡ length c.calls) × (frame ≡ naming.frame call) × (sender ≡ call)

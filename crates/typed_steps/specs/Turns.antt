@@ -15,7 +15,7 @@ use Rattle.host_code.specs.Thread.{ThreadShape, Awaited, WaitingShape}
 use Rattle.host_code.specs.Thread.Awaited.{acknowledgement}
 use Rattle.entry_check.specs.declared.ask.Ask.TheVariants as ask
 use Rattle.entry_check.specs.Checks.{May}
-use Rattle.host_core.specs.Host.{HostShape, Outcome, without_message, with_message, with_one_ignored, with_running}
+use Rattle.host_core.specs.Host.{HostState, Outcome, without_message, with_message, with_one_ignored, with_running}
 use Rattle.host_core.specs.Host.{after_pop, after_asking, next_request}
 use Rattle.host_core.specs.Turn.{with_thread}
 use Rattle.split_rules.specs.Handing.{Arrival, arrival_in}
@@ -26,7 +26,7 @@ use Rattle.typed_steps.specs.Values.{HoldsNumbers}
 use Rattle.typed_steps.specs.Views.{Split, Link, entries_of, View}
 use Rattle.typed_steps.specs.Chains.{IsChain}
 use Rattle.typed_steps.specs.Threads.{IsAt}
-use Rattle.typed_steps.specs.Variables.{Sends, Holds}
+use Rattle.typed_steps.specs.Variables.{HasWhatIsOwed, HostsHold}
 use Rattle.typed_steps.specs.Requests.{Does, IsRequest, GivesResult, GoesTo, GivesUp}
 use Rattle.typed_steps.specs.Weights.{Paced, STEP, weight_at, IsFueledRequest}
 
@@ -34,7 +34,7 @@ use Rattle.typed_steps.specs.Weights.{Paced, STEP, weight_at, IsFueledRequest}
 
 -- A host runs the thread that holds the token of the first entry of the chain.
 pub record IsActing (split : Split) (c : Configuration) (view : View) (world : WorldShape) (host : HostId)
-    (old : HostShape) (thread : ThreadShape) : Type 0 where
+    (old : HostState) (thread : ThreadShape) : Type 0 where
   pub there : state_at world host ≡ Some old
   pub many : length world.hosts ≡ length split.code.hosts
   pub fits : IsStateOf split.code host old
@@ -42,13 +42,13 @@ pub record IsActing (split : Split) (c : Configuration) (view : View) (world : W
   pub running : old.running ≡ Some thread
   pub is_chain : IsChain split view.naming view.chain
   pub at : IsAt split c view host thread
-  pub sent : Sends split view old host
-  pub holds : Holds split c view world
+  pub sent : HasWhatIsOwed split view old host
+  pub holds : HostsHold split c view world
 
 -- whatever is in flight then, all hosts have this of a configuration once one of them has come to another state
-abbrev pub Keeps : Split → Configuration → View → WorldShape → HostId → HostShape → Type 0
-Keeps split now seen world host new =
-    (after : WorldShape) → after.hosts ≡ slice_set world.hosts host.0 (Some new) → Holds split now seen after
+abbrev pub HostsStillHold : Split → Configuration → View → WorldShape → HostId → HostState → Type 0
+HostsStillHold split now seen world host new =
+    (after : WorldShape) → after.hosts ≡ slice_set world.hosts host.0 (Some new) → HostsHold split now seen after
 
 -- The chain and the stack of a host stay, or both get the same entry, which stands on the host.
 pub data Grows (host : HostId) (chain now : List Link) (old new : List StackEntry) : Type 0 where
@@ -57,7 +57,7 @@ pub data Grows (host : HostId) (chain now : List Link) (old new : List StackEntr
       Grows host chain now old new
 
 -- what a turn or a take leaves alone
-pub record IsSteady (old new : HostShape) : Type 0 where
+pub record IsLeftAlone (old new : HostState) : Type 0 where
   pub me : new.me ≡ old.me
   pub ignored : new.ignored ≡ old.ignored
   pub halted : new.halted ≡ old.halted
@@ -66,28 +66,28 @@ pub record IsSteady (old new : HostShape) : Type 0 where
 -- ---- what a turn makes
 
 -- The thread goes on, and nothing is sent. Behind a step, so many more events may come.
-pub record RunsOn (split : Split) (view : View) (world : WorldShape) (host : HostId) (old : HostShape)
+pub record RunsOn (split : Split) (view : View) (world : WorldShape) (host : HostId) (old : HostState)
     (thread : ThreadShape) (now : Configuration) (more : ℕ) (outcome : Outcome) : Type 0 where
   pub seen : View
-  pub state : HostShape
+  pub state : HostState
   pub next : ThreadShape
   pub is : with_thread state next ≡ outcome
-  pub steady : IsSteady old state
+  pub steady : IsLeftAlone old state
   pub grown : Grows host view.chain seen.chain old.entries state.entries
   pub is_chain : IsChain split seen.naming seen.chain
   pub at : IsAt split now seen host next
-  pub sent : Sends split seen state host
-  pub keeps : Keeps split now seen world host (with_running state (Some next))
+  pub sent : HasWhatIsOwed split seen state host
+  pub keeps : HostsStillHold split now seen world host (with_running state (Some next))
   pub pace : Paced split →
       weight_at split seen.chain host next.at < weight_at split view.chain host thread.at + more
 
 -- a thread that waits for the answer to the next request of an instruction
-abbrev pub waiting_for : HostShape → ℕ → ThreadShape → Awaited → HostId → WaitingShape
+abbrev pub waiting_for : HostState → ℕ → ThreadShape → Awaited → HostId → WaitingShape
 waiting_for old at next awaited to =
     record { thread = next; awaited = awaited; request = next_request old at; asked = to }
 
 -- The thread waits for what it asked another host for.
-pub record Asks (split : Split) (c : Configuration) (view : View) (host : HostId) (old : HostShape)
+pub record Asks (split : Split) (c : Configuration) (view : View) (host : HostId) (old : HostState)
     (thread : ThreadShape) (outcome : Outcome) : Type 0 where
   pub next : ThreadShape
   pub awaited : Awaited
@@ -100,7 +100,7 @@ pub record Asks (split : Split) (c : Configuration) (view : View) (host : HostId
       × IsFueledRequest split view.chain host next.at (weight_at split view.chain host thread.at - 1) asking
 
 -- The thread waits until the host of the call that made this one has its result.
-pub record Gives (split : Split) (c : Configuration) (view : View) (host : HostId) (old : HostShape)
+pub record ThreadGives (split : Split) (c : Configuration) (view : View) (host : HostId) (old : HostState)
     (thread : ThreadShape) (outcome : Outcome) : Type 0 where
   pub next : ThreadShape
   pub to : HostId
@@ -116,7 +116,7 @@ pub record Gives (split : Split) (c : Configuration) (view : View) (host : HostI
       × (weight_at split view.chain host next.at + 2 ≤ (weight_at split view.chain host thread.at - 1) + STEP)
 
 -- The thread ends, and its token goes to an entry, with all that is still to be sent.
-pub record Hands (split : Split) (c : Configuration) (view : View) (host : HostId) (old : HostShape)
+pub record Hands (split : Split) (c : Configuration) (view : View) (host : HostId) (old : HostState)
     (thread : ThreadShape) (outcome : Outcome) : Type 0 where
   pub to : HostId
   pub arrival : Arrival
@@ -129,7 +129,7 @@ pub record Hands (split : Split) (c : Configuration) (view : View) (host : HostI
       × (weight_at split view.chain to goes.there.at + 1 ≤ weight_at split view.chain host thread.at - 1)
 
 -- The thread ends, and its token goes back to the host that gave it.
-pub record Returns (split : Split) (c : Configuration) (view : View) (host : HostId) (old : HostShape)
+pub record Returns (split : Split) (c : Configuration) (view : View) (host : HostId) (old : HostState)
     (thread : ThreadShape) (outcome : Outcome) : Type 0 where
   pub token : Token
   pub is : with_message (with_running old None) token.host (message.Lgoto token) ≡ outcome
@@ -140,7 +140,7 @@ pub record Returns (split : Split) (c : Configuration) (view : View) (host : Hos
       × (3 * (PACE + length view.chain) ≤ (weight_at split view.chain host thread.at - 1) + 1)
 
 -- The thread ends, and its token is of this host, which takes its top entry off where that has the token.
-pub record Ends (split : Split) (c : Configuration) (view : View) (host : HostId) (old : HostShape)
+pub record ThreadEnds (split : Split) (c : Configuration) (view : View) (host : HostId) (old : HostState)
     (thread : ThreadShape) (outcome : Outcome) : Type 0 where
   pub token : Token
   pub passes : Bool
@@ -154,12 +154,12 @@ pub record Ends (split : Split) (c : Configuration) (view : View) (host : HostId
   pub pace : Paced split → 3 * (PACE + length view.chain) ≤ weight_at split view.chain host thread.at
 
 pub data Turned (split : Split) (c : Configuration) (view : View) (world : WorldShape) (host : HostId)
-    (old : HostShape) (thread : ThreadShape) (outcome : Outcome) : Type 0 where
+    (old : HostState) (thread : ThreadShape) (outcome : Outcome) : Type 0 where
   runs_on : RunsOn split view world host old thread c 0 outcome → Turned split c view world host old thread outcome
   steps : (now : Configuration) → Does split c now → RunsOn split view world host old thread now STEP outcome →
       Turned split c view world host old thread outcome
   asks : Asks split c view host old thread outcome → Turned split c view world host old thread outcome
-  gives : Gives split c view host old thread outcome → Turned split c view world host old thread outcome
+  gives : ThreadGives split c view host old thread outcome → Turned split c view world host old thread outcome
   hands : Hands split c view host old thread outcome → Turned split c view world host old thread outcome
   returns : Returns split c view host old thread outcome → Turned split c view world host old thread outcome
-  ends : Ends split c view host old thread outcome → Turned split c view world host old thread outcome
+  ends : ThreadEnds split c view host old thread outcome → Turned split c view world host old thread outcome

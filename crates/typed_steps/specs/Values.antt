@@ -9,7 +9,7 @@ use Rattle.jif_tree.specs.Operators.{binary_value, negation, inversion}
 use Rattle.jif_tree.specs.Store.{element_at, row_of}
 use Rattle.jif_tree.specs.Trees.{ExprTree, number, local, scalar, element, inverted, negated, binary, declassified}
 use Rattle.jif_tree.specs.Trees.{endorsed}
-use Rattle.host_core.specs.Host.{HostShape}
+use Rattle.host_core.specs.Host.{HostState}
 use Rattle.split_rules.specs.Positions.{FieldRead}
 
 -- what an expression may give, where the store and the variables are these
@@ -46,7 +46,7 @@ abbrev pub AreRowsAlike : Exposure → ℕ → List ℤ → List ℤ → Type 0
 AreRowsAlike exposure row one other = (one ≡ other) ⊎ FieldIsAffected exposure (record { 0 = row })
 
 -- what a host has is a number wherever it may be affected
-pub record HoldsNumbers (exposure : Exposure) (state : HostShape) : Type 0 where
+pub record HoldsNumbers (exposure : Exposure) (state : HostState) : Type 0 where
   pub elements : (field : FieldId) (place : ℤ) → FieldIsAffected exposure field →
       IsNumber (element_at (row_of state.rows field.0) place)
   pub variables : (frame : FrameId) (x : VarId) → VariableIsAffected exposure x → IsNumber (state.variables frame x)

@@ -72,7 +72,7 @@ place_of split host at = split.table.at host.0 at
 
 -- What is known of calls by their numbers, of those that were made and of one for which there is only a frame: the
 -- frame of each, who made it, and its method.
-pub record Naming : Type 0 where
+pub record CallNaming : Type 0 where
   pub count : ℕ
   pub frame : ℕ → FrameId
   pub caller : ℕ → ℕ
@@ -93,7 +93,7 @@ pub record View : Type 0 where
   -- what is still to be sent, and of which call
   pub out : List Forward
   pub sender : ℕ
-  pub naming : Naming
+  pub naming : CallNaming
   -- the variables of calls
   pub values : ℕ → ℕ → ℤ
   -- where the result was left that is to be kept next

@@ -17,14 +17,14 @@ ghost use Rattle.host_code.specs.Thread.{ThreadShape, WaitingShape};
 ghost use Rattle.host_code.specs.Thread.Awaited.{acknowledgement};
 ghost use Rattle.entry_check.specs.declared.ask.Ask.TheVariants as ask;
 ghost use Rattle.entry_check.specs.Checks.{May};
-ghost use Rattle.host_core.specs.Host.{HostShape, Outcome};
+ghost use Rattle.host_core.specs.Host.{HostState, Outcome};
 ghost use Rattle.host_core.specs.Taking.{IsTaking, place_of_awaiting};
 ghost use Rattle.host_core.specs.Turn.{IsTurn, label_of_turn};
 ghost use Rattle.net_world.specs.World.{WorldShape};
 ghost use Rattle.split_rules.specs.Handing.{Arrival, arrival_in};
 ghost use Rattle.split_rules.specs.Positions.{Forward};
-ghost use Rattle.typed_steps.specs.Requests.{IsRequest, IsAnswer, GivesResult, RidesOut, GoesTo};
-ghost use Rattle.typed_steps.specs.Takes.{IsOwner, Answered, Arrives, Resumes};
+ghost use Rattle.typed_steps.specs.Requests.{IsRequest, IsAnswerTo, GivesResult, RidesOut, GoesTo};
+ghost use Rattle.typed_steps.specs.Takes.{IsOwner, Answered, TokenArrives, Resumes};
 ghost use Rattle.typed_steps.specs.Threads.{NoneKept};
 ghost use Rattle.typed_steps.specs.Turns.{IsActing, Turned};
 ghost use Rattle.typed_steps.specs.Views.{Split, View};
@@ -34,7 +34,7 @@ ghost use Rattle.typed_steps.specs.Weights.{IsFueledRequest, STEP, weight_at};
 /// goes on, or waits for what it asked another host for, or its token goes on.
 pub fn turn_laws()
     ensures turned { (split : Split) (c : Configuration) (view : View) (world : WorldShape) (host : HostId)
-        (old : HostShape) (thread : ThreadShape) (outcome : Outcome) →
+        (old : HostState) (thread : ThreadShape) (outcome : Outcome) →
         IsActing split c view world host old thread → IsTurn split.code old outcome →
         (label : ℕ) × (label_of_turn split.code old ≡ Some label)
         × Turned split c view world host old thread outcome }
@@ -44,13 +44,13 @@ pub fn turn_laws()
 /// what rode with that, and a thread starts there. Where that host takes the answer, its thread goes on.
 pub fn take_laws()
     ensures request { (split : Split) (c : Configuration) (view : View) (world : WorldShape) (holder owner : HostId)
-        (waiting : WaitingShape) (old : HostShape) (asked : Message) (outcome : Outcome) →
+        (waiting : WaitingShape) (old : HostState) (asked : Message) (outcome : Outcome) →
         IsOwner split c view world owner old → IsRequest split c view holder owner waiting asked →
         IsTaking split.code old holder asked outcome →
         Answered split c view world holder owner waiting old
         (λ fuel. IsFueledRequest split view.chain holder waiting.thread.at fuel asked) outcome }
     ensures result { (split : Split) (c : Configuration) (view : View) (world : WorldShape) (holder owner : HostId)
-        (waiting : WaitingShape) (old : HostShape) (request : RequestId) (frame : FrameId) (x : VarId) (value : ℤ)
+        (waiting : WaitingShape) (old : HostState) (request : RequestId) (frame : FrameId) (x : VarId) (value : ℤ)
         (outcome : Outcome) → IsOwner split c view world owner old → waiting.awaited ≡ acknowledgement →
         waiting.request ≡ request → May split.code owner (ask.Forward x) holder →
         GivesResult split c view holder waiting.thread frame x value owner →
@@ -58,14 +58,14 @@ pub fn take_laws()
         Answered split c view world holder owner waiting old
         (λ fuel. weight_at split view.chain holder waiting.thread.at + 2 ≤ fuel + STEP) outcome }
     ensures arrival { (split : Split) (c : Configuration) (view : View) (world : WorldShape) (from to : HostId)
-        (old : HostShape) (said : Message) (arrival : Arrival) (outcome : Outcome) →
+        (old : HostState) (said : Message) (arrival : Arrival) (outcome : Outcome) →
         IsOwner split c view world to old → arrival_in said ≡ Some arrival →
         (goes : GoesTo split c view from to arrival) → IsTaking split.code old from said outcome →
-        Arrives split c view world to old goes.there arrival outcome }
+        TokenArrives split c view world to old goes.there arrival outcome }
     ensures answer { (split : Split) (c : Configuration) (view : View) (holder owner : HostId)
-        (waiting : WaitingShape) (state : HostShape) (place : ℕ) (answer : Message) (outcome : Outcome) →
+        (waiting : WaitingShape) (state : HostState) (place : ℕ) (answer : Message) (outcome : Outcome) →
         place_of_awaiting state waiting.awaited waiting.request owner ≡ Some place →
-        IsAnswer split c view holder waiting answer → IsTaking split.code state owner answer outcome →
+        IsAnswerTo split c view holder waiting answer → IsTaking split.code state owner answer outcome →
         Resumes split c view holder waiting state place outcome }
 {}
 

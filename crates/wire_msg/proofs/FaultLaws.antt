@@ -9,7 +9,7 @@ use Rattle.byte_format.specs.Reader.{handed_on, sequel, require, byte_at, bytes_
 use Rattle.wire_msg.specs.declared.error.WireError.{WireError}
 use Rattle.wire_msg.specs.declared.error.WireError.TheVariants as refusal
 use Rattle.wire_msg.specs.declared.frame.Frame.{Frame}
-use Rattle.wire_msg.specs.Reader.{Reader, Gives, known, to_the_end, whole}
+use Rattle.wire_msg.specs.Reader.{WireReader, GivesWire, known, to_the_end, whole}
 use Rattle.wire_msg.specs.Reading.{fields_at, sent_at, body_at, frame_at, reading_of}
 use Rattle.wire_msg.specs.Faults.{layout_of, left_fault, fields_fault, body_fault, or_else, sized_fault, first_fault}
 use Rattle.wire_msg.specs.Faults.{fault_in}
@@ -18,7 +18,7 @@ use Rattle.wire_msg.proofs.Layouts.{named_by, fields_are}
 -- ---- a body
 
 -- what is read behind the kind
-abbrev kinded : HostId → ℕ → Reader (HostId × Frame)
+abbrev kinded : HostId → ℕ → WireReader (HostId × Frame)
 kinded from kind = sequel (fields_at kind) (named_by from)
 
 sender_is : (test : Bool) (from : HostId) (kind : ℕ) (fields : List ℕ) →
@@ -36,7 +36,7 @@ body_is (from ∷ kind ∷ fields) = sender_is (nat_lt from HOSTS) (record { 0 =
 
 -- ---- a frame
 
-abbrev opened : List ℕ → Reader (HostId × Frame)
+abbrev opened : List ℕ → WireReader (HostId × Frame)
 opened body = known (whole sent_at body)
 
 left_is : (reading : Result (HostId × Frame) WireError) (rest : List ℕ) →
@@ -62,7 +62,7 @@ sized_is true len rest = there_is (nat_lt (length rest) len) (take len rest) (dr
 sized_is false len rest = refl
 
 -- what is read behind the length
-abbrev body_behind : ℕ → Reader (List ℕ)
+abbrev body_behind : ℕ → WireReader (List ℕ)
 body_behind len = sequel (require (nat_le len FRAME_BYTES) refusal.TooLong) (λ _. bytes_at refusal.Short len)
 
 length_is : (test : Bool) (len : ℕ) (rest : List ℕ) →
@@ -77,11 +77,11 @@ unfolding reading_of first_fault whole frame_at body_at sequel number_at
 first_fault_is bytes = length_is (nat_lt (length bytes) 4) (from_be_bytes w32 (take 4 bytes)) (drop 4 bytes)
 
 -- what a call answers that reads all of the bytes
-answered : (answer reading : Result (HostId × Frame) WireError) → Gives (λ x. x) answer reading →
+answered : (answer reading : Result (HostId × Frame) WireError) → GivesWire (λ x. x) answer reading →
     fault_in answer ≡ fault_in reading
 answered (Ok x) reading is = ap fault_in (sym is)
 answered (Err what) reading is = ap fault_in (sym is)
 
 pub cause_in : (bytes : List ℕ) (answer : Result (HostId × Frame) WireError) →
-    Gives (λ x. x) answer (reading_of bytes) → fault_in answer ≡ first_fault bytes
+    GivesWire (λ x. x) answer (reading_of bytes) → fault_in answer ≡ first_fault bytes
 cause_in bytes answer is = answered answer (reading_of bytes) is ∙ first_fault_is bytes

@@ -11,7 +11,7 @@ use Rattle.byte_format.specs.Numbers.{number_bytes}
 use Rattle.byte_format.proofs.NumberLaws.{byte_reads, byte_again, bytes_reads, bytes_again, number_reads, number_again}
 use Rattle.byte_format.proofs.NumberLaws.{word_reads, word_again}
 use Rattle.byte_format.proofs.Sequels.{Reads, Again, reads_then, reads_last, again_then, again_last}
-use Rattle.wire_msg.specs.Frames.{IsRequest, IsFrameId, IsToken}
+use Rattle.wire_msg.specs.Frames.{IsWireRequest, IsFrameId, IsToken}
 use Rattle.wire_msg.specs.Spelling.{request_bytes, frame_id_bytes, token_bytes}
 use Rattle.wire_msg.specs.Reading.{field_at, variable_at, entry_at, request_at, frame_id_at, token_at}
 
@@ -29,7 +29,7 @@ pub entry_reads : Reads entry_at (λ entry text. (text ≡ number_bytes entry.0)
 unfolding entry_at
 entry_reads = reads_last _ (number_reads _) (λ n lt. (refl, lt))
 
-pub request_reads : Reads request_at (λ request text. (text ≡ request_bytes request) × IsRequest request)
+pub request_reads : Reads request_at (λ request text. (text ≡ request_bytes request) × IsWireRequest request)
 unfolding request_at
 request_reads = reads_then (number_reads _) (λ at at_is. reads_last _ (word_reads _) (λ count is. (refl, (at_is, is))))
 
@@ -59,7 +59,7 @@ pub entry_again : (entry : EntryId) → entry.0 < 2 ^ 32 → Again entry_at entr
 unfolding entry_at
 entry_again entry is = again_last (λ n. record { 0 = n }) (number_again _ entry.0 is)
 
-pub request_again : (request : RequestId) → IsRequest request → Again request_at request (request_bytes request)
+pub request_again : (request : RequestId) → IsWireRequest request → Again request_at request (request_bytes request)
 unfolding request_at
 request_again request is =
     again_then _ (number_again _ request.at is.0)

@@ -21,7 +21,7 @@ use Rattle.wire_msg.specs.declared.frame.Frame.{Frame}
 use Rattle.wire_msg.specs.declared.frame.Frame.TheVariants as frame
 use Rattle.wire_msg.specs.Frames.{has_host, IsMessage, IsFrame, IsSent}
 use Rattle.wire_msg.specs.Spelling.{message_bytes, kinded_bytes, body_bytes, frame_bytes}
-use Rattle.wire_msg.specs.Reader.{Reader, Gives, known, whole}
+use Rattle.wire_msg.specs.Reader.{WireReader, GivesWire, known, whole}
 use Rattle.wire_msg.specs.Reading.{message_at, some_message_at, fields_at, sent_at, body_at, frame_at, reading_of}
 use Rattle.wire_msg.proofs.Sequels.{reads_known, whole_reads, again_known, whole_again}
 use Rattle.wire_msg.proofs.RiderLaws.{spelled_length}
@@ -53,7 +53,7 @@ abbrev IsOf : ℕ → Frame → List ℕ → Type 0
 IsOf kind sent text = (kind ∷ text ≡ kinded_bytes sent) × IsFrame sent
 
 -- what follows a kind is determined by what is read
-behind_kind : {A : Type 0} {reader : Reader A} (kind : ℕ) (s : A → List ℕ) (P : A → Type 0) →
+behind_kind : {A : Type 0} {reader : WireReader A} (kind : ℕ) (s : A → List ℕ) (P : A → Type 0) →
     Reads reader (λ x text. (kind ∷ text ≡ s x) × P x) →
     Reads reader (λ x text. (text ≡ drop 1 (s x)) × ((kind ∷ drop 1 (s x) ≡ s x) × P x))
 behind_kind kind s P one =
@@ -121,7 +121,7 @@ kinded_again (frame.Message sent) is named =
 kinded_again frame.Done is named = (10, [], refl, again_given frame.Done)
 
 -- what follows the kind
-abbrev Behind : HostId → ℕ → Reader (HostId × Frame)
+abbrev Behind : HostId → ℕ → WireReader (HostId × Frame)
 Behind from kind =
     sequel (fields_at kind) (λ sent. sequel (require (has_host sent) refusal.BadField) (λ _. given (from, sent)))
 
@@ -198,12 +198,12 @@ read_as from sent = Ok (from, sent)
 abbrev pub Answer : Type 0
 Answer = Result (HostId × Frame) WireError
 
-pub found_in : (bytes : List ℕ) (answer : Answer) → AreBytes bytes → Gives (λ x. x) answer (reading_of bytes) →
+pub found_in : (bytes : List ℕ) (answer : Answer) → AreBytes bytes → GivesWire (λ x. x) answer (reading_of bytes) →
     IfOk answer (λ x. IsSent x.0 x.1 × (bytes ≡ frame_bytes x.0 x.1))
 found_in bytes (Ok x) fits is = frame_read bytes x.0 x.1 fits is
 found_in bytes (Err what) fits is = tt
 
-pub only_in : (bytes : List ℕ) (answer : Answer) → Gives (λ x. x) answer (reading_of bytes) → (from : HostId)
+pub only_in : (bytes : List ℕ) (answer : Answer) → GivesWire (λ x. x) answer (reading_of bytes) → (from : HostId)
     (sent : Frame) → IsSent from sent → bytes ≡ frame_bytes from sent → answer ≡ Ok (from, sent)
 only_in bytes (Ok x) is from sent sent_is spelled =
     sym is ∙ ap reading_of spelled ∙ read_again from sent sent_is

@@ -15,7 +15,7 @@ use Rattle.wire_msg.specs.declared.frame.Frame.{Frame}
 use Rattle.wire_msg.specs.declared.frame.Frame.TheVariants as frame
 use Rattle.wire_msg.specs.declared.riding.Riding.{Riding}
 use Rattle.wire_msg.specs.Frames.{has_host, may_ride}
-use Rattle.wire_msg.specs.Reader.{Reader, to_the_end}
+use Rattle.wire_msg.specs.Reader.{WireReader, to_the_end}
 use Rattle.wire_msg.specs.Reading.{rider_at, rgoto_with_at, message_at, some_message_at, fields_at}
 use Rattle.wire_msg.specs.Faults.{Layout, without_token, with_pairs, message_layout, layout_of, left_fault, PAIR_BYTES}
 use Rattle.wire_msg.specs.Faults.{pairs_fault, fields_fault, fault_in}
@@ -24,7 +24,7 @@ use Rattle.wire_msg.proofs.Sizes.{rgoto_sized, lgoto_sized, value_sized, ack_siz
 use Rattle.wire_msg.proofs.Sizes.{riders_sized}
 
 -- what is read behind the fields
-abbrev pub named_by : HostId → Frame → Reader (HostId × Frame)
+abbrev pub named_by : HostId → Frame → WireReader (HostId × Frame)
 named_by from sent = sequel (require (has_host sent) refusal.BadField) (λ _. given (from, sent))
 
 -- why a body is refused of whose fields this was read
@@ -45,7 +45,7 @@ ended : (from : HostId) (sent : Frame) (left : List ℕ) →
 unfolding sequel
 ended from sent left = ends from sent (has_host sent) left
 
-abbrev as_frame : Message → Reader Frame
+abbrev as_frame : Message → WireReader Frame
 as_frame sent = given (frame.Message sent)
 
 -- the same of the fields of a message
@@ -61,10 +61,10 @@ message_ended from sent left = ended from (frame.Message sent) left
 -- ---- kinds of messages
 
 -- fields that this reader takes are refused as the layout says
-record IsLaid (layout : Option Layout) (reader : Reader Message) (fields : List ℕ) : Type 0 where
+record IsLaid (layout : Option Layout) (reader : WireReader Message) (fields : List ℕ) : Type 0 where
   is : (from : HostId) → message_fault from (reader fields) ≡ fields_fault layout fields
 
-laid_if : {one other : Option Layout} {first second : Reader Message} {fields : List ℕ} (test : Bool) →
+laid_if : {one other : Option Layout} {first second : WireReader Message} {fields : List ℕ} (test : Bool) →
     IsLaid one first fields → IsLaid other second fields →
     IsLaid (if test then one else other) (if test then first else second) fields
 laid_if true yes' no' = yes'
@@ -75,7 +75,7 @@ unfolding refused
 no_kind fields = record { is = λ from. refl }
 
 -- so many bytes, all that there are
-laid_out : (sure : ℕ) (token : Option ℕ) {reader : Reader Message} {fields : List ℕ} →
+laid_out : (sure : ℕ) (token : Option ℕ) {reader : WireReader Message} {fields : List ℕ} →
     Sized reader sure (Named has_message_host token) →
     IsLaid (Some (record { sure = sure; token = token; count = None })) reader fields
 laid_out sure token {fields = fields} sized = record {
@@ -95,7 +95,7 @@ abbrev with_riders : Riding → List Rider → Message
 with_riders riding riders = message.RgotoWith riding.frame riding.entry riding.token riders
 
 -- what is read behind the count
-abbrev pairs_behind : Riding → Reader Message
+abbrev pairs_behind : Riding → WireReader Message
 pairs_behind riding =
     sequel (items_at (λ _. rider_at) [] riding.count) (λ riders. given (with_riders riding riders))
 
@@ -134,7 +134,7 @@ rgoto_with_laid : (fields : List ℕ) → IsLaid (Some (with_pairs 58 16 57)) rg
 unfolding rgoto_with_at sequel
 rgoto_with_laid fields = record {
   is = λ from.
-      let tail : Riding → Reader Message = λ riding.
+      let tail : Riding → WireReader Message = λ riding.
       sequel (require (nat_lt riding.token.host.0 HOSTS) refusal.BadField)
       (λ _. sequel (require (may_ride riding.count) refusal.BadField) (λ _. pairs_behind riding)) in
       elim (cases_lt (length fields) 58) [

@@ -11,7 +11,7 @@ use Rattle.wire_msg.specs.declared.error.WireError.TheVariants as refusal
 use Rattle.wire_msg.specs.declared.frame.Frame.TheVariants as frame
 use Rattle.wire_msg.specs.Frames.{has_host, IsMessage}
 use Rattle.wire_msg.specs.Spelling.{message_bytes}
-use Rattle.wire_msg.specs.Reader.{Reader}
+use Rattle.wire_msg.specs.Reader.{WireReader}
 use Rattle.wire_msg.specs.Reading.{get_at, set_at, forward_at, sync_at, rgoto_at, lgoto_at, value_at, ack_at, answer_at}
 use Rattle.wire_msg.specs.Reading.{message_at}
 use Rattle.wire_msg.proofs.FieldLaws.{field_reads, field_again, variable_reads, variable_again, entry_reads}
@@ -78,7 +78,7 @@ answer_reads =
     reads_then request_reads (λ request request_is. reads_last _ token_reads (λ token is. (refl, (request_is, is))))
 
 -- the kind is this one
-reads_kind : {reader : Reader Message} (one kind : ℕ) → (kind == one) ≡ true → Reads reader (IsBehind one) →
+reads_kind : {reader : WireReader Message} (one kind : ℕ) → (kind == one) ≡ true → Reads reader (IsBehind one) →
     Reads reader (IsBehind kind)
 reads_kind {reader = reader} one kind is reads =
     subst (λ k. Reads reader (IsBehind k)) (sym (eqb-true kind one is)) reads

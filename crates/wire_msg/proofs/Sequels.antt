@@ -4,7 +4,7 @@ use Rattle.std.proofs.lemmas.List.{append-nil}
 use Rattle.byte_format.specs.Numbers.{AreBytes}
 use Rattle.byte_format.proofs.Sequels.{Reads, Again, read_as, ok_is}
 use Rattle.wire_msg.specs.declared.error.WireError.{WireError}
-use Rattle.wire_msg.specs.Reader.{Reader, known, ended, to_the_end, whole}
+use Rattle.wire_msg.specs.Reader.{WireReader, known, ended, to_the_end, whole}
 
 -- ---- to the end
 
@@ -20,7 +20,7 @@ ended_all (Ok p) x is =
 ended_all (Err what) x is = absurd cc
 
 -- all of the bytes are those of the value
-pub whole_reads : {A : Type 0} {reader : Reader A} {s : A → List ℕ} {P : A → Type 0} →
+pub whole_reads : {A : Type 0} {reader : WireReader A} {s : A → List ℕ} {P : A → Type 0} →
     Reads reader (λ x text. (text ≡ s x) × P x) → (bytes : List ℕ) (x : A) → AreBytes bytes →
     whole reader bytes ≡ Ok x → (bytes ≡ s x) × P x
 unfolding whole
@@ -28,7 +28,7 @@ whole_reads {reader = reader} one bytes x fits is =
     let front = one.taken bytes x [] fits (ended_all (reader bytes) x is) in
     (front.parts ∙ append-nil front.text ∙ front.is.0, front.is.1)
 
-pub whole_again : {A : Type 0} {reader : Reader A} {x : A} {text : List ℕ} → Again reader x text →
+pub whole_again : {A : Type 0} {reader : WireReader A} {x : A} {text : List ℕ} → Again reader x text →
     whole reader text ≡ Ok x
 unfolding whole
 whole_again {reader = reader} {text = text} one =

@@ -15,19 +15,20 @@ use Rattle.wire_msg.specs.declared.error.WireError.TheVariants as refusal
 use Rattle.wire_msg.specs.declared.riding.Riding.{Riding}
 use Rattle.wire_msg.specs.declared.frame.Frame.TheVariants as frame
 use Rattle.wire_msg.specs.Frames.{has_host}
-use Rattle.wire_msg.specs.Reader.{Reader}
+use Rattle.wire_msg.specs.Reader.{WireReader}
 use Rattle.wire_msg.specs.Reading.{field_at, variable_at, entry_at, request_at, frame_id_at, token_at, get_at, set_at}
 use Rattle.wire_msg.specs.Reading.{forward_at, sync_at, rgoto_at, lgoto_at, value_at, ack_at, answer_at, riding_at}
 use Rattle.wire_msg.specs.Reading.{rider_at}
 use Rattle.wire_msg.specs.Faults.{PAIR_BYTES, has_host_at}
 
 -- a reader takes so many of these bytes, of which what it reads is known, or finds too few
-pub record Takes {A : Type 0} (reader : Reader A) (count : ℕ) (P : A → List ℕ → Type 0) (bytes : List ℕ) : Type 0 where
-  pub short : length bytes < count → reader bytes ≡ Err refusal.Short
-  pub long : count ≤ length bytes → (x : A) × (reader bytes ≡ Ok (x, drop count bytes)) × P x bytes
+pub record Takes {A : Type 0} (reader : WireReader A) (count : ℕ) (P : A → List ℕ → Type 0) (bytes : List ℕ) : Type 0
+  where
+    pub short : length bytes < count → reader bytes ≡ Err refusal.Short
+    pub long : count ≤ length bytes → (x : A) × (reader bytes ≡ Ok (x, drop count bytes)) × P x bytes
 
 -- of any bytes
-abbrev pub Sized : {A : Type 0} → Reader A → ℕ → (A → List ℕ → Type 0) → Type 0
+abbrev pub Sized : {A : Type 0} → WireReader A → ℕ → (A → List ℕ → Type 0) → Type 0
 Sized reader count P = (bytes : List ℕ) → Takes reader count P bytes
 
 abbrev pub Any : {A : Type 0} → A → List ℕ → Type 0
@@ -35,7 +36,7 @@ Any x bytes = ⊤
 
 -- ---- readers in a row
 
-pub sized_then : {A B : Type 0} {first : Reader A} {next : A → Reader B} {n m : ℕ} {P : A → List ℕ → Type 0}
+pub sized_then : {A B : Type 0} {first : WireReader A} {next : A → WireReader B} {n m : ℕ} {P : A → List ℕ → Type 0}
     {Q : A → B → List ℕ → Type 0} (R : B → List ℕ → Type 0) → Sized first n P → ((x : A) → Sized (next x) m (Q x)) →
     ((x : A) (y : B) (bytes : List ℕ) → P x bytes → Q x y (drop n bytes) → R y bytes) →
     Sized (sequel first next) (n + m) R
@@ -59,7 +60,7 @@ sized_then {first = first} {next = next} {n = n} {m = m} R one others then_is by
 }
 
 -- the last reader of a row
-pub sized_last : {A B : Type 0} {first : Reader A} (f : A → B) {n : ℕ} {P : A → List ℕ → Type 0}
+pub sized_last : {A B : Type 0} {first : WireReader A} (f : A → B) {n : ℕ} {P : A → List ℕ → Type 0}
     (R : B → List ℕ → Type 0) → Sized first n P → ((x : A) (bytes : List ℕ) → P x bytes → R (f x) bytes) →
     Sized (sequel first (λ x. given (f x))) n R
 unfolding sequel given
@@ -73,11 +74,11 @@ sized_last f R one then_is bytes = record {
       );
 }
 
-any_then : {A B : Type 0} {first : Reader A} {next : A → Reader B} {n m : ℕ} → Sized first n Any →
+any_then : {A B : Type 0} {first : WireReader A} {next : A → WireReader B} {n m : ℕ} → Sized first n Any →
     ((x : A) → Sized (next x) m Any) → Sized (sequel first next) (n + m) Any
 any_then one others = sized_then Any one others (λ x y bytes p q. tt)
 
-any_last : {A B : Type 0} {first : Reader A} (f : A → B) {n : ℕ} → Sized first n Any →
+any_last : {A B : Type 0} {first : WireReader A} (f : A → B) {n : ℕ} → Sized first n Any →
     Sized (sequel first (λ x. given (f x))) n Any
 any_last f one = sized_last f Any one (λ x bytes p. tt)
 
@@ -171,7 +172,7 @@ has_host_behind : (n : ℕ) (place : Option ℕ) (bytes : List ℕ) →
 has_host_behind n None bytes = refl
 has_host_behind n (Some place) bytes = ap (λ byte. nat_lt byte HOSTS) (get_or-drop n bytes place 0)
 
-named_then : {A : Type 0} {first : Reader A} {next : A → Reader Message} {n m : ℕ} (place : Option ℕ) →
+named_then : {A : Type 0} {first : WireReader A} {next : A → WireReader Message} {n m : ℕ} (place : Option ℕ) →
     Sized first n Any → ((x : A) → Sized (next x) m (Named has_message_host place)) →
     Sized (sequel first next) (n + m) (Named has_message_host (behind n place))
 named_then {n = n} place one others =
@@ -179,7 +180,7 @@ named_then {n = n} place one others =
     (λ x y bytes p q. q ∙ has_host_behind n place bytes)
 
 -- the last of a message without a token, and the token of a message
-named_last : {A : Type 0} {first : Reader A} (f : A → Message) {n : ℕ} → Sized first n Any →
+named_last : {A : Type 0} {first : WireReader A} (f : A → Message) {n : ℕ} → Sized first n Any →
     ((x : A) → has_message_host (f x) ≡ true) →
     Sized (sequel first (λ x. given (f x))) n (Named has_message_host None)
 named_last f one is = sized_last f (Named has_message_host None) one (λ x bytes p. is x)

@@ -40,8 +40,8 @@ may_ride count = nat_le 1 count && nat_le count MOST_RIDERS
 
 -- ---- what the types of a frame keep
 
-abbrev pub IsRequest : RequestId → Type 0
-IsRequest request = (request.at < 2 ^ 32) × (request.count < 2 ^ 64)
+abbrev pub IsWireRequest : RequestId → Type 0
+IsWireRequest request = (request.at < 2 ^ 32) × (request.count < 2 ^ 64)
 
 abbrev pub IsFrameId : FrameId → Type 0
 IsFrameId id = (id.site.0 < 2 ^ 32) × (id.count < 2 ^ 64)
@@ -61,20 +61,20 @@ abbrev pub AreRiders : List Rider → Type 0
 AreRiders riders = AreFew riders × AllByRecursion IsRider riders
 
 abbrev pub IsMessage : Message → Type 0
-IsMessage (message.Get request field index) = IsRequest request × ((field.0 < 2 ^ 32) × FitsSigned w64 index)
+IsMessage (message.Get request field index) = IsWireRequest request × ((field.0 < 2 ^ 32) × FitsSigned w64 index)
 IsMessage (message.Set request field index value) =
-    IsRequest request × ((field.0 < 2 ^ 32) × (FitsSigned w64 index × FitsSigned w64 value))
+    IsWireRequest request × ((field.0 < 2 ^ 32) × (FitsSigned w64 index × FitsSigned w64 value))
 IsMessage (message.Forward request id variable value) =
-    IsRequest request × (IsFrameId id × ((variable.0 < 2 ^ 32) × FitsSigned w64 value))
+    IsWireRequest request × (IsFrameId id × ((variable.0 < 2 ^ 32) × FitsSigned w64 value))
 IsMessage (message.Sync request id entry token) =
-    IsRequest request × (IsFrameId id × ((entry.0 < 2 ^ 32) × IsToken token))
+    IsWireRequest request × (IsFrameId id × ((entry.0 < 2 ^ 32) × IsToken token))
 IsMessage (message.Rgoto id entry token) = IsFrameId id × ((entry.0 < 2 ^ 32) × IsToken token)
 IsMessage (message.RgotoWith id entry token riders) =
     IsFrameId id × ((entry.0 < 2 ^ 32) × (IsToken token × AreRiders riders))
 IsMessage (message.Lgoto token) = IsToken token
-IsMessage (message.Value request value) = IsRequest request × FitsSigned w64 value
-IsMessage (message.Ack request) = IsRequest request
-IsMessage (message.Token request token) = IsRequest request × IsToken token
+IsMessage (message.Value request value) = IsWireRequest request × FitsSigned w64 value
+IsMessage (message.Ack request) = IsWireRequest request
+IsMessage (message.Token request token) = IsWireRequest request × IsToken token
 
 -- each number fits its type, and 1 to 8 values ride where some do, as in every frame in memory
 abbrev pub IsFrame : Frame → Type 0

@@ -6,26 +6,26 @@ use Rattle.wire_msg.specs.declared.error.WireError.{WireError}
 use Rattle.wire_msg.specs.declared.error.WireError.TheVariants as refusal
 
 -- what is read from the front of bytes, and what is left of them
-abbrev pub Reader : Type 0 → Type 0
-Reader A = shared.Reader WireError A
+abbrev pub WireReader : Type 0 → Type 0
+WireReader A = shared.Reader WireError A
 
 -- reads nothing: what was read of other bytes
-unfoldable pub known : {A : Type 0} → Result A WireError → Reader A
+unfoldable pub known : {A : Type 0} → Result A WireError → WireReader A
 known (Ok x) bytes = Ok (x, bytes)
 known (Err what) bytes = Err what
 
 -- ---- numbers, which bytes that end too soon do not hold
 
-abbrev pub byte_at : Reader ℕ
+abbrev pub byte_at : WireReader ℕ
 byte_at = shared.byte_at refusal.Short
 
-abbrev pub bytes_at : ℕ → Reader (List ℕ)
+abbrev pub bytes_at : ℕ → WireReader (List ℕ)
 bytes_at count = shared.bytes_at refusal.Short count
 
-abbrev pub number_at : Width → Reader ℕ
+abbrev pub number_at : Width → WireReader ℕ
 number_at width = shared.number_at refusal.Short width
 
-abbrev pub integer_at : Reader ℤ
+abbrev pub integer_at : WireReader ℤ
 integer_at = shared.integer_at refusal.Short
 
 -- ---- to the end
@@ -39,11 +39,11 @@ to_the_end (Ok x) = ended x.0 x.1
 to_the_end (Err what) = Err what
 
 -- what all of some bytes are read as
-unfoldable pub whole : {A : Type 0} → Reader A → List ℕ → Result A WireError
+unfoldable pub whole : {A : Type 0} → WireReader A → List ℕ → Result A WireError
 whole reader bytes = to_the_end (reader bytes)
 
 -- ---- what a call answers
 
 -- what the call returned, as contracts see it, is what there is to read
-abbrev pub Gives : {X Y : Type 0} → (X → Y) → Result X WireError → Result Y WireError → Type 0
-Gives view result reading = MatchResult result (λ x. reading ≡ Ok (view x)) (λ what. reading ≡ Err what)
+abbrev pub GivesWire : {X Y : Type 0} → (X → Y) → Result X WireError → Result Y WireError → Type 0
+GivesWire view result reading = MatchResult result (λ x. reading ≡ Ok (view x)) (λ what. reading ≡ Err what)

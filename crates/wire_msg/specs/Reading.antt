@@ -22,38 +22,38 @@ use Rattle.wire_msg.specs.declared.frame.Frame.{Frame}
 use Rattle.wire_msg.specs.declared.frame.Frame.TheVariants as frame
 use Rattle.wire_msg.specs.declared.riding.Riding.{Riding}
 use Rattle.wire_msg.specs.Frames.{has_host, may_ride}
-use Rattle.wire_msg.specs.Reader.{Reader, known, byte_at, bytes_at, number_at, integer_at, whole}
+use Rattle.wire_msg.specs.Reader.{WireReader, known, byte_at, bytes_at, number_at, integer_at, whole}
 
 -- ---- what messages name
 
-unfoldable pub field_at : Reader FieldId
+unfoldable pub field_at : WireReader FieldId
 field_at = do
   field ← number_at w32
   given (record { 0 = field })
 
-unfoldable pub variable_at : Reader VarId
+unfoldable pub variable_at : WireReader VarId
 variable_at = do
   variable ← number_at w32
   given (record { 0 = variable })
 
-unfoldable pub entry_at : Reader EntryId
+unfoldable pub entry_at : WireReader EntryId
 entry_at = do
   entry ← number_at w32
   given (record { 0 = entry })
 
-unfoldable pub request_at : Reader RequestId
+unfoldable pub request_at : WireReader RequestId
 request_at = do
   at ← number_at w32
   count ← number_at w64
   given (record { at = at; count = count })
 
-unfoldable pub frame_id_at : Reader FrameId
+unfoldable pub frame_id_at : WireReader FrameId
 frame_id_at = do
   site ← number_at w32
   count ← number_at w64
   given (record { site = record { 0 = site }; count = count })
 
-unfoldable pub token_at : Reader Token
+unfoldable pub token_at : WireReader Token
 token_at = do
   host ← byte_at
   id ← frame_id_at
@@ -64,14 +64,14 @@ token_at = do
 
 -- ---- messages
 
-unfoldable pub get_at : Reader Message
+unfoldable pub get_at : WireReader Message
 get_at = do
   request ← request_at
   field ← field_at
   index ← integer_at
   given (message.Get request field index)
 
-unfoldable pub set_at : Reader Message
+unfoldable pub set_at : WireReader Message
 set_at = do
   request ← request_at
   field ← field_at
@@ -79,7 +79,7 @@ set_at = do
   value ← integer_at
   given (message.Set request field index value)
 
-unfoldable pub forward_at : Reader Message
+unfoldable pub forward_at : WireReader Message
 forward_at = do
   request ← request_at
   id ← frame_id_at
@@ -87,7 +87,7 @@ forward_at = do
   value ← integer_at
   given (message.Forward request id variable value)
 
-unfoldable pub sync_at : Reader Message
+unfoldable pub sync_at : WireReader Message
 sync_at = do
   request ← request_at
   id ← frame_id_at
@@ -95,37 +95,37 @@ sync_at = do
   token ← token_at
   given (message.Sync request id entry token)
 
-unfoldable pub rgoto_at : Reader Message
+unfoldable pub rgoto_at : WireReader Message
 rgoto_at = do
   id ← frame_id_at
   entry ← entry_at
   token ← token_at
   given (message.Rgoto id entry token)
 
-unfoldable pub lgoto_at : Reader Message
+unfoldable pub lgoto_at : WireReader Message
 lgoto_at = do
   token ← token_at
   given (message.Lgoto token)
 
-unfoldable pub value_at : Reader Message
+unfoldable pub value_at : WireReader Message
 value_at = do
   request ← request_at
   value ← integer_at
   given (message.Value request value)
 
-unfoldable pub ack_at : Reader Message
+unfoldable pub ack_at : WireReader Message
 ack_at = do
   request ← request_at
   given (message.Ack request)
 
-unfoldable pub answer_at : Reader Message
+unfoldable pub answer_at : WireReader Message
 answer_at = do
   request ← request_at
   token ← token_at
   given (message.Token request token)
 
 -- an rgoto, and how many values are said to ride with it
-unfoldable pub riding_at : Reader Riding
+unfoldable pub riding_at : WireReader Riding
 riding_at = do
   id ← frame_id_at
   entry ← entry_at
@@ -134,13 +134,13 @@ riding_at = do
   given (record { frame = id; entry = entry; token = token; count = count })
 
 -- a variable, and the value that rides for it
-unfoldable pub rider_at : Reader Rider
+unfoldable pub rider_at : WireReader Rider
 rider_at = do
   variable ← variable_at
   value ← integer_at
   given (variable, value)
 
-unfoldable pub rgoto_with_at : Reader Message
+unfoldable pub rgoto_with_at : WireReader Message
 rgoto_with_at = do
   riding ← riding_at
   _ ← require (nat_lt riding.token.host.0 HOSTS) refusal.BadField
@@ -149,7 +149,7 @@ rgoto_with_at = do
   given (message.RgotoWith riding.frame riding.entry riding.token riders)
 
 -- the fields of a message, by its kind
-unfoldable pub message_at : ℕ → Reader Message
+unfoldable pub message_at : ℕ → WireReader Message
 message_at kind =
     if kind == 1 then get_at
     else (if kind == 2 then set_at
@@ -165,17 +165,17 @@ message_at kind =
 
 -- ---- frames
 
-unfoldable pub some_message_at : ℕ → Reader Frame
+unfoldable pub some_message_at : ℕ → WireReader Frame
 some_message_at kind = do
   sent ← message_at kind
   given (frame.Message sent)
 
 -- the fields of a frame, by its kind
-unfoldable pub fields_at : ℕ → Reader Frame
+unfoldable pub fields_at : ℕ → WireReader Frame
 fields_at kind = if kind == 10 then given frame.Done else some_message_at kind
 
 -- who sent a body, and what it says
-unfoldable pub sent_at : Reader (HostId × Frame)
+unfoldable pub sent_at : WireReader (HostId × Frame)
 sent_at = do
   from ← byte_at
   kind ← byte_at
@@ -185,14 +185,14 @@ sent_at = do
   given (record { 0 = from }, sent)
 
 -- the body, behind its length
-unfoldable pub body_at : Reader (List ℕ)
+unfoldable pub body_at : WireReader (List ℕ)
 body_at = do
   len ← number_at w32
   _ ← require (nat_le len FRAME_BYTES) refusal.TooLong
   bytes_at len
 
 -- the body is read to its end
-unfoldable pub frame_at : Reader (HostId × Frame)
+unfoldable pub frame_at : WireReader (HostId × Frame)
 frame_at = do
   body ← body_at
   known (whole sent_at body)

@@ -1,7 +1,7 @@
 //! Readers of messages.
 #![tactic(auto, unfolding(byte_format::specs::Reader::sequel, byte_format::specs::Reader::given, byte_format::specs::Reader::refused, crate::specs::Reading::get_at, crate::specs::Reading::set_at, crate::specs::Reading::forward_at, crate::specs::Reading::sync_at, crate::specs::Reading::rgoto_at, crate::specs::Reading::lgoto_at, crate::specs::Reading::value_at, crate::specs::Reading::ack_at, crate::specs::Reading::answer_at, crate::specs::Reading::message_at))]
 
-ghost use Rattle.wire_msg.specs.Reader.{Gives};
+ghost use Rattle.wire_msg.specs.Reader.{GivesWire};
 ghost use Rattle.wire_msg.specs.Reading.{get_at, set_at, forward_at, sync_at, rgoto_at, lgoto_at, value_at, ack_at};
 ghost use Rattle.wire_msg.specs.Reading.{answer_at, message_at};
 
@@ -13,7 +13,7 @@ use host_code::Message;
 
 /// What a get asks for.
 fn get_of(bytes: &[u8]) -> Result<(Message, &[u8]), WireError>
-    ensures { Gives (λ x. (x.0, x.1.now)) result (get_at bytes.now) }
+    ensures { GivesWire (λ x. (x.0, x.1.now)) result (get_at bytes.now) }
 {
     let (request, rest) = request_of(bytes)?;
     let (field, rest) = field_of(rest)?;
@@ -28,7 +28,7 @@ fn get_of(bytes: &[u8]) -> Result<(Message, &[u8]), WireError>
 
 /// What a set changes.
 fn set_of(bytes: &[u8]) -> Result<(Message, &[u8]), WireError>
-    ensures { Gives (λ x. (x.0, x.1.now)) result (set_at bytes.now) }
+    ensures { GivesWire (λ x. (x.0, x.1.now)) result (set_at bytes.now) }
 {
     let (request, rest) = request_of(bytes)?;
     let (field, rest) = field_of(rest)?;
@@ -45,7 +45,7 @@ fn set_of(bytes: &[u8]) -> Result<(Message, &[u8]), WireError>
 
 /// What a forward changes.
 fn forward_of(bytes: &[u8]) -> Result<(Message, &[u8]), WireError>
-    ensures { Gives (λ x. (x.0, x.1.now)) result (forward_at bytes.now) }
+    ensures { GivesWire (λ x. (x.0, x.1.now)) result (forward_at bytes.now) }
 {
     let (request, rest) = request_of(bytes)?;
     let (frame, rest) = frame_id_of(rest)?;
@@ -62,7 +62,7 @@ fn forward_of(bytes: &[u8]) -> Result<(Message, &[u8]), WireError>
 
 /// What a sync pushes.
 fn sync_of(bytes: &[u8]) -> Result<(Message, &[u8]), WireError>
-    ensures { Gives (λ x. (x.0, x.1.now)) result (sync_at bytes.now) }
+    ensures { GivesWire (λ x. (x.0, x.1.now)) result (sync_at bytes.now) }
 {
     let (request, rest) = request_of(bytes)?;
     let (frame, rest) = frame_id_of(rest)?;
@@ -79,7 +79,7 @@ fn sync_of(bytes: &[u8]) -> Result<(Message, &[u8]), WireError>
 
 /// Where an rgoto starts a thread.
 fn rgoto_of(bytes: &[u8]) -> Result<(Message, &[u8]), WireError>
-    ensures { Gives (λ x. (x.0, x.1.now)) result (rgoto_at bytes.now) }
+    ensures { GivesWire (λ x. (x.0, x.1.now)) result (rgoto_at bytes.now) }
 {
     let (frame, rest) = frame_id_of(bytes)?;
     let (entry, rest) = entry_of(rest)?;
@@ -94,7 +94,7 @@ fn rgoto_of(bytes: &[u8]) -> Result<(Message, &[u8]), WireError>
 
 /// What an lgoto takes off the control stack.
 fn lgoto_of(bytes: &[u8]) -> Result<(Message, &[u8]), WireError>
-    ensures { Gives (λ x. (x.0, x.1.now)) result (lgoto_at bytes.now) }
+    ensures { GivesWire (λ x. (x.0, x.1.now)) result (lgoto_at bytes.now) }
 {
     let (token, rest) = token_of(bytes)?;
     Ok((Message::Lgoto { token }, rest))
@@ -102,7 +102,7 @@ fn lgoto_of(bytes: &[u8]) -> Result<(Message, &[u8]), WireError>
 
 /// The answer to a get.
 fn value_of(bytes: &[u8]) -> Result<(Message, &[u8]), WireError>
-    ensures { Gives (λ x. (x.0, x.1.now)) result (value_at bytes.now) }
+    ensures { GivesWire (λ x. (x.0, x.1.now)) result (value_at bytes.now) }
 {
     let (request, rest) = request_of(bytes)?;
     let (value, rest) = i64_of(rest)?;
@@ -111,7 +111,7 @@ fn value_of(bytes: &[u8]) -> Result<(Message, &[u8]), WireError>
 
 /// The answer to a set or a forward.
 fn ack_of(bytes: &[u8]) -> Result<(Message, &[u8]), WireError>
-    ensures { Gives (λ x. (x.0, x.1.now)) result (ack_at bytes.now) }
+    ensures { GivesWire (λ x. (x.0, x.1.now)) result (ack_at bytes.now) }
 {
     let (request, rest) = request_of(bytes)?;
     Ok((Message::Ack { request }, rest))
@@ -119,7 +119,7 @@ fn ack_of(bytes: &[u8]) -> Result<(Message, &[u8]), WireError>
 
 /// The answer to a sync.
 fn answer_of(bytes: &[u8]) -> Result<(Message, &[u8]), WireError>
-    ensures { Gives (λ x. (x.0, x.1.now)) result (answer_at bytes.now) }
+    ensures { GivesWire (λ x. (x.0, x.1.now)) result (answer_at bytes.now) }
 {
     let (request, rest) = request_of(bytes)?;
     let (token, rest) = token_of(rest)?;
@@ -128,7 +128,7 @@ fn answer_of(bytes: &[u8]) -> Result<(Message, &[u8]), WireError>
 
 /// The fields of a message of this kind.
 pub fn message_of(kind: u8, bytes: &[u8]) -> Result<(Message, &[u8]), WireError>
-    ensures { Gives (λ x. (x.0, x.1.now)) result (message_at kind bytes.now) }
+    ensures { GivesWire (λ x. (x.0, x.1.now)) result (message_at kind bytes.now) }
 {
     match kind {
         1 => get_of(bytes),

@@ -3,14 +3,14 @@
 
 ghost use Rattle.std.specs.Int.{w32, w64};
 ghost use Rattle.capability.specs.declared.tags.TheConstants.{TAG_BYTES};
-ghost use Rattle.wire_msg.specs.Reader.{Gives, byte_at, bytes_at, number_at, integer_at};
+ghost use Rattle.wire_msg.specs.Reader.{GivesWire, byte_at, bytes_at, number_at, integer_at};
 
 use crate::error::WireError;
 use capability::TAG_BYTES;
 
 /// The first byte.
 pub fn byte_of(bytes: &[u8]) -> Result<(u8, &[u8]), WireError>
-    ensures { Gives (λ x. (x.0, x.1.now)) result (byte_at bytes.now) }
+    ensures { GivesWire (λ x. (x.0, x.1.now)) result (byte_at bytes.now) }
 {
     match bytes {
         [] => Err(WireError::Short),
@@ -20,7 +20,7 @@ pub fn byte_of(bytes: &[u8]) -> Result<(u8, &[u8]), WireError>
 
 /// So many bytes.
 pub fn bytes_of(count: usize, bytes: &[u8]) -> Result<(&[u8], &[u8]), WireError>
-    ensures { Gives (λ x. (x.0.now, x.1.now)) result (bytes_at count bytes.now) }
+    ensures { GivesWire (λ x. (x.0.now, x.1.now)) result (bytes_at count bytes.now) }
 {
     if bytes.len() < count {
         return Err(WireError::Short);
@@ -30,7 +30,7 @@ pub fn bytes_of(count: usize, bytes: &[u8]) -> Result<(&[u8], &[u8]), WireError>
 
 /// A tag.
 pub fn tag_of(bytes: &[u8]) -> Result<([u8; TAG_BYTES], &[u8]), WireError>
-    ensures { Gives (λ x. (x.0, x.1.now)) result (bytes_at TAG_BYTES bytes.now) }
+    ensures { GivesWire (λ x. (x.0, x.1.now)) result (bytes_at TAG_BYTES bytes.now) }
 {
     if bytes.len() < TAG_BYTES {
         return Err(WireError::Short);
@@ -43,7 +43,7 @@ pub fn tag_of(bytes: &[u8]) -> Result<([u8; TAG_BYTES], &[u8]), WireError>
 
 /// A number of four bytes.
 pub fn u32_of(bytes: &[u8]) -> Result<(u32, &[u8]), WireError>
-    ensures { Gives (λ x. (x.0, x.1.now)) result (number_at w32 bytes.now) }
+    ensures { GivesWire (λ x. (x.0, x.1.now)) result (number_at w32 bytes.now) }
 {
     if bytes.len() < 4 {
         return Err(WireError::Short);
@@ -55,7 +55,7 @@ pub fn u32_of(bytes: &[u8]) -> Result<(u32, &[u8]), WireError>
 
 /// A number of eight bytes.
 pub fn u64_of(bytes: &[u8]) -> Result<(u64, &[u8]), WireError>
-    ensures { Gives (λ x. (x.0, x.1.now)) result (number_at w64 bytes.now) }
+    ensures { GivesWire (λ x. (x.0, x.1.now)) result (number_at w64 bytes.now) }
 {
     if bytes.len() < 8 {
         return Err(WireError::Short);
@@ -69,7 +69,7 @@ pub fn u64_of(bytes: &[u8]) -> Result<(u64, &[u8]), WireError>
 
 /// A signed number of eight bytes.
 pub fn i64_of(bytes: &[u8]) -> Result<(i64, &[u8]), WireError>
-    ensures { Gives (λ x. (x.0, x.1.now)) result (integer_at bytes.now) }
+    ensures { GivesWire (λ x. (x.0, x.1.now)) result (integer_at bytes.now) }
 {
     let (word, rest) = u64_of(bytes)?;
     Ok((word.cast_signed(), rest))

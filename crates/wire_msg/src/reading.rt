@@ -6,7 +6,7 @@ ghost use Rattle.js_base.specs.declared.ids.HostId.{HostId};
 ghost use Rattle.wire_msg.specs.declared.frame.Frame.{Frame};
 ghost use Rattle.wire_msg.specs.Faults.{first_fault, fault_in};
 ghost use Rattle.wire_msg.specs.Frames.{token_in, has_host, IsSent};
-ghost use Rattle.wire_msg.specs.Reader.{Gives, whole};
+ghost use Rattle.wire_msg.specs.Reader.{GivesWire, whole};
 ghost use Rattle.wire_msg.specs.Reading.{fields_at, sent_at, body_at, reading_of};
 ghost use Rattle.wire_msg.specs.Spelling.{frame_bytes};
 
@@ -55,7 +55,7 @@ fn has_host(frame: &Frame) -> bool
 
 /// The fields of a frame of this kind.
 fn fields_of(kind: u8, bytes: &[u8]) -> Result<(Frame, &[u8]), WireError>
-    ensures { Gives (λ x. (x.0, x.1.now)) result (fields_at kind bytes.now) }
+    ensures { GivesWire (λ x. (x.0, x.1.now)) result (fields_at kind bytes.now) }
 {
     if kind == DONE {
         return Ok((Frame::Done, bytes));
@@ -69,7 +69,7 @@ fn fields_of(kind: u8, bytes: &[u8]) -> Result<(Frame, &[u8]), WireError>
 
 /// Who sent a body, and what it says.
 fn sent_of(body: &[u8]) -> Result<(HostId, Frame), WireError>
-    ensures { Gives (λ x. x) result (whole sent_at body.now) }
+    ensures { GivesWire (λ x. x) result (whole sent_at body.now) }
 {
     let (from, rest) = byte_of(body)?;
     let (kind, rest) = byte_of(rest)?;
@@ -92,7 +92,7 @@ fn sent_of(body: &[u8]) -> Result<(HostId, Frame), WireError>
 
 /// The body of a frame, and the bytes behind the frame.
 fn body_of(bytes: &[u8]) -> Result<(&[u8], &[u8]), WireError>
-    ensures { Gives (λ x. (x.0.now, x.1.now)) result (body_at bytes.now) }
+    ensures { GivesWire (λ x. (x.0.now, x.1.now)) result (body_at bytes.now) }
 {
     let (len, rest) = u32_of(bytes)?;
     if len as usize > FRAME_BYTES {
@@ -103,7 +103,7 @@ fn body_of(bytes: &[u8]) -> Result<(&[u8], &[u8]), WireError>
 
 /// Who sent the frame of these bytes, and what it says, or the first cause why there is none.
 fn frame_of(bytes: &[u8]) -> Result<(HostId, Frame), WireError>
-    ensures { Gives (λ x. x) result (reading_of bytes.now) }
+    ensures { GivesWire (λ x. x) result (reading_of bytes.now) }
 {
     let (body, behind) = body_of(bytes)?;
     let sent = sent_of(body)?;
@@ -135,7 +135,7 @@ pub fn read(bytes: &[u8]) -> Result<(HostId, Frame), WireError>
     ensures only { (from : HostId) (sent : Frame) → IsSent from sent → bytes.now ≡ frame_bytes from sent →
         result ≡ Ok (from, sent) }
     // Which frame it is, or which cause is told.
-    ensures exact { Gives (λ x. x) result (reading_of bytes.now) }
+    ensures exact { GivesWire (λ x. x) result (reading_of bytes.now) }
     // The cause is the first of all, told by places and lengths alone.
     ensures cause { fault_in result ≡ first_fault bytes.now }
 {

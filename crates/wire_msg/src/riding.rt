@@ -4,7 +4,7 @@
 ghost use Rattle.std.specs.Prelude.{◌≤◌, []};
 ghost use Rattle.host_code.specs.declared.riders.TheConstants.{MOST_RIDERS};
 ghost use Rattle.byte_format.specs.Reader.{items_at};
-ghost use Rattle.wire_msg.specs.Reader.{Gives};
+ghost use Rattle.wire_msg.specs.Reader.{GivesWire};
 ghost use Rattle.wire_msg.specs.Reading.{riding_at, rider_at, rgoto_with_at};
 
 use crate::error::WireError;
@@ -26,7 +26,7 @@ pub struct Riding {
 
 /// An rgoto, and how many values ride with it. The host of its token and the count are any bytes.
 fn riding_of(bytes: &[u8]) -> Result<(Riding, &[u8]), WireError>
-    ensures { Gives (λ x. (x.0, x.1.now)) result (riding_at bytes.now) }
+    ensures { GivesWire (λ x. (x.0, x.1.now)) result (riding_at bytes.now) }
 {
     let (frame, rest) = frame_id_of(bytes)?;
     let (entry, rest) = entry_of(rest)?;
@@ -43,7 +43,7 @@ fn riding_of(bytes: &[u8]) -> Result<(Riding, &[u8]), WireError>
 
 /// A variable, and the value that rides for it.
 fn rider_of(bytes: &[u8]) -> Result<((VarId, i64), &[u8]), WireError>
-    ensures { Gives (λ x. (x.0, x.1.now)) result (rider_at bytes.now) }
+    ensures { GivesWire (λ x. (x.0, x.1.now)) result (rider_at bytes.now) }
 {
     let (var, rest) = var_of(bytes)?;
     let (value, rest) = i64_of(rest)?;
@@ -54,7 +54,7 @@ fn rider_of(bytes: &[u8]) -> Result<((VarId, i64), &[u8]), WireError>
 fn riders_of(count: u8, bytes: &[u8]) -> Result<(Riders, &[u8]), WireError>
     requires some { 1 ≤ count }
     requires few { count ≤ MOST_RIDERS }
-    ensures { Gives (λ x. (x.0, x.1.now)) result (items_at (λ _. rider_at) [] count bytes.now) }
+    ensures { GivesWire (λ x. (x.0, x.1.now)) result (items_at (λ _. rider_at) [] count bytes.now) }
 {
     let (first, mut rest) = rider_of(bytes)?;
     let mut riders = Riders::one(first);
@@ -69,7 +69,7 @@ fn riders_of(count: u8, bytes: &[u8]) -> Result<(Riders, &[u8]), WireError>
 /// Where an rgoto starts a thread, and what rides with it. The host of its token is tested first, and then how many
 /// values ride.
 pub fn rgoto_with_of(bytes: &[u8]) -> Result<(Message, &[u8]), WireError>
-    ensures { Gives (λ x. (x.0, x.1.now)) result (rgoto_with_at bytes.now) }
+    ensures { GivesWire (λ x. (x.0, x.1.now)) result (rgoto_with_at bytes.now) }
 {
     let (riding, rest) = riding_of(bytes)?;
     if riding.token.host.0 as usize >= HOSTS {

@@ -21,7 +21,7 @@ use std::alloc::Global;
 use std::fmt::Write;
 
 /// What is due for `check P H`.
-pub fn due_for_check<F: Files>(
+pub fn verdict_for_check<F: Files>(
     alloc: Global,
     program: &str,
     hosts: &str,
@@ -37,11 +37,11 @@ pub fn due_for_check<F: Files>(
     let [p, h] = loaded.as_slice() else {
         unreachable!();
     };
-    due_for_loaded(alloc, p, h)
+    verdict_for_loaded(alloc, p, h)
 }
 
 /// What is due for a program and a host file that were loaded.
-fn due_for_loaded(alloc: Global, program: &Loaded, hosts: &Loaded) -> Result<Verdict, Stop>
+fn verdict_for_loaded(alloc: Global, program: &Loaded, hosts: &Loaded) -> Result<Verdict, Stop>
     ensures { (names others p h : List ℕ) →
         IsLoaded PROGRAM_BYTES p program.now → IsLoaded HOSTS_BYTES h hosts.now →
         EndsIn (DueForBytes (command.Check names others) (p ∷ h ∷ [])) result }

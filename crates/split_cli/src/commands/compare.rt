@@ -4,18 +4,17 @@ ghost use Rattle.std.specs.Prelude.{◌≡◌, ◌≤◌, ◌+◌, ◌∷◌, []
 ghost use Rattle.js_base.specs.declared.limits.TheConstants.{PROGRAM_BYTES, HOSTS_BYTES, SCRIPT_BYTES};
 ghost use Rattle.event_text.specs.OwnTokens.{IsOwnEvent};
 ghost use Rattle.split_words.specs.Commands as command;
-ghost use Rattle.run_comparison.specs.Compare.{DueForSaid};
+ghost use Rattle.run_comparison.specs.Compare.{DueForReadScripts};
 ghost use Rattle.front_end.specs.PlacedCode.{code_of};
 ghost use Rattle.split_cli.specs.Due.{DueForBytes, IsDueForCommand};
 ghost use Rattle.front_end.specs.Loading.{EndsIn, IsLoaded};
 ghost use Rattle.front_end.specs.Loads.{AreKept, files_change};
 ghost use Rattle.front_end.specs.PlacedShapes.{placed_shape};
 
-use crate::commands::script_file;
 use event_text::Script;
 use front_end::{
     Loaded, PlacedSource, Stop, Verdict, code_of, host_file, load_all, program_file, read_places,
-    releases_of,
+    releases_of, script_file,
 };
 use host_code::Code;
 use js_base::Files;
@@ -26,7 +25,7 @@ use script_stages::{first_world, read_script};
 use std::alloc::Global;
 
 /// What is due for `compare P H EVENTS1 EVENTS2`.
-pub fn due_for_compare<F: Files>(
+pub fn verdict_for_compare<F: Files>(
     alloc: Global,
     program: &str,
     hosts: &str,
@@ -49,11 +48,11 @@ pub fn due_for_compare<F: Files>(
     let [p, h, s, t] = loaded.as_slice() else {
         unreachable!();
     };
-    due_for_loaded(alloc, one, other, p, h, s, t)
+    verdict_for_loaded(alloc, one, other, p, h, s, t)
 }
 
 /// What is due for a program, a host file and two scripts of these names that were loaded.
-fn due_for_loaded(
+fn verdict_for_loaded(
     alloc: Global,
     name: &str,
     other_name: &str,
@@ -71,11 +70,11 @@ fn due_for_loaded(
     let code = code_of(alloc, &placed)?;
     let one = read_script(alloc, name, &code, one)?;
     let other = read_script(alloc, other_name, &code, other)?;
-    due_for_said(alloc, &placed, &code, name, &one, other_name, &other)
+    verdict_for_said(alloc, &placed, &code, name, &one, other_name, &other)
 }
 
 /// What is due for two scripts of files of these names. Each is followed to its end, and then the premises are tested.
-fn due_for_said(
+fn verdict_for_said(
     alloc: Global,
     placed: &PlacedSource,
     code: &Code,
@@ -87,7 +86,7 @@ fn due_for_said(
     requires code { code.now ≡ code_of (placed_shape placed.now) }
     requires own { All (λ it. IsOwnEvent code.now.hosts one.now.bad it.1) one.now.events }
     requires own_too { All (λ it. IsOwnEvent code.now.hosts other.now.bad it.1) other.now.events }
-    ensures { EndsIn (DueForSaid (placed_shape placed.now) name.now one.now other_name.now other.now) result }
+    ensures { EndsIn (DueForReadScripts (placed_shape placed.now) name.now one.now other_name.now other.now) result }
 {
     let table = releases_of(alloc, placed, code)?;
     let world = first_world(alloc, placed, code, one)?;

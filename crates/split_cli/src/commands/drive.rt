@@ -12,12 +12,11 @@ ghost use Rattle.front_end.specs.Loads.{AreKept, files_change};
 ghost use Rattle.front_end.specs.PlacedShapes.{placed_shape};
 ghost use Rattle.front_end.specs.Verdicts.{verdict_shape};
 
-use crate::commands::script_file;
 use crate::driving::drive;
 use crate::world_report::drive_text;
 use front_end::{
     Loaded, PlacedSource, Stop, Verdict, code_of, host_file, load_all, program_file, read_places,
-    starting_values,
+    script_file, starting_values,
 };
 use jif_tree::Store;
 use js_base::{Files, OutOfMemory};
@@ -25,7 +24,7 @@ use net_world::World;
 use std::alloc::Global;
 
 /// What is due for `drive P H START N`.
-pub fn due_for_drive<F: Files>(
+pub fn verdict_for_drive<F: Files>(
     alloc: Global,
     program: &str,
     hosts: &str,
@@ -44,11 +43,11 @@ pub fn due_for_drive<F: Files>(
     let [p, h, s] = loaded.as_slice() else {
         unreachable!();
     };
-    due_for_loaded(alloc, start, events, p, h, s)
+    verdict_for_loaded(alloc, start, events, p, h, s)
 }
 
 /// What is due for a program, a host file and a file of starting values of this name that were loaded.
-fn due_for_loaded(
+fn verdict_for_loaded(
     alloc: Global,
     name: &str,
     most: u64,

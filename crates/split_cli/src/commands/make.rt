@@ -27,17 +27,21 @@ use net_world::World;
 use std::alloc::Global;
 
 /// What is due for `make N`. No file is loaded or saved.
-pub fn due_for_make<F: Files>(alloc: Global, statements: u64, files: &F) -> Result<Verdict, Stop>
+pub fn verdict_for_make<F: Files>(
+    alloc: Global,
+    statements: u64,
+    files: &F,
+) -> Result<Verdict, Stop>
     ensures { EndsIn (IsDueForCommand (command.Make statements)
         (files_change F.Files files.now files.now)) result }
 {
     let program = as_loaded(made_program(alloc, statements)?, PROGRAM_BYTES);
     let hosts = as_loaded(made_hosts(alloc)?, HOSTS_BYTES);
-    due_for_made(alloc, statements, &program, &hosts)
+    verdict_for_made(alloc, statements, &program, &hosts)
 }
 
 /// What is due for the program and the host file that were made for so many statements.
-fn due_for_made(
+fn verdict_for_made(
     alloc: Global,
     statements: u64,
     program: &Loaded,

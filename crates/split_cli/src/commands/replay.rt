@@ -11,11 +11,11 @@ ghost use Rattle.front_end.specs.Loads.{AreKept, files_change};
 ghost use Rattle.front_end.specs.PlacedShapes.{placed_shape};
 ghost use Rattle.split_cli.specs.Replay.{DueForSaid};
 
-use crate::commands::script_file;
 use crate::world_report::replay_text;
 use event_text::Script;
 use front_end::{
     Loaded, PlacedSource, Stop, Verdict, code_of, host_file, load_all, program_file, read_places,
+    script_file,
 };
 use host_code::Code;
 use js_base::{Files, Status};
@@ -23,7 +23,7 @@ use script_stages::{events_happen, first_world, read_script};
 use std::alloc::Global;
 
 /// What is due for `replay P H EVENTS`.
-pub fn due_for_replay<F: Files>(
+pub fn verdict_for_replay<F: Files>(
     alloc: Global,
     program: &str,
     hosts: &str,
@@ -40,11 +40,11 @@ pub fn due_for_replay<F: Files>(
     let [p, h, e] = loaded.as_slice() else {
         unreachable!();
     };
-    due_for_loaded(alloc, events, p, h, e)
+    verdict_for_loaded(alloc, events, p, h, e)
 }
 
 /// What is due for a program, a host file and a script of this name that were loaded.
-fn due_for_loaded(
+fn verdict_for_loaded(
     alloc: Global,
     name: &str,
     program: &Loaded,
@@ -59,11 +59,11 @@ fn due_for_loaded(
     let placed = read_places(alloc, program, hosts)?;
     let code = code_of(alloc, &placed)?;
     let said = read_script(alloc, name, &code, events)?;
-    due_for_said(alloc, &placed, &code, name, &said)
+    verdict_for_said(alloc, &placed, &code, name, &said)
 }
 
 /// What is due for a script of a file of this name that was read.
-fn due_for_said(
+fn verdict_for_said(
     alloc: Global,
     placed: &PlacedSource,
     code: &Code,

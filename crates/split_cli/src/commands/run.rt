@@ -12,10 +12,10 @@ ghost use Rattle.split_cli.specs.PlainRun.{IsRunReport, end_line, end_status, ru
 ghost use Rattle.front_end.specs.Text.{line_text, lines_text};
 ghost use Rattle.front_end.specs.Verdicts.{verdict_shape};
 
-use crate::commands::script_file;
 use crate::row_line::push_row_line;
 use front_end::{
-    Loaded, Stop, Verdict, host_file, load_all, program_file, read_sources, starting_values,
+    Loaded, Stop, Verdict, host_file, load_all, program_file, read_sources, script_file,
+    starting_values,
 };
 use jif_tree::{Field, Program, Row, Store};
 use js_base::{Files, OutOfMemory, Status};
@@ -24,7 +24,7 @@ use std::alloc::Global;
 use std::fmt::Write;
 
 /// What is due for `run P H START N`.
-pub fn due_for_run<F: Files>(
+pub fn verdict_for_run<F: Files>(
     alloc: Global,
     program: &str,
     hosts: &str,
@@ -42,11 +42,11 @@ pub fn due_for_run<F: Files>(
     let [p, h, s] = loaded.as_slice() else {
         unreachable!();
     };
-    due_for_loaded(alloc, start, steps, p, h, s)
+    verdict_for_loaded(alloc, start, steps, p, h, s)
 }
 
 /// What is due for a program, a host file and a file of starting values of this name that were loaded.
-fn due_for_loaded(
+fn verdict_for_loaded(
     alloc: Global,
     name: &str,
     steps: u64,

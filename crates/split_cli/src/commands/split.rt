@@ -33,7 +33,7 @@ pub struct Split {
 }
 
 /// What is due for `split P H OUT`.
-pub fn due_for_split<F: Files>(
+pub fn verdict_for_split<F: Files>(
     alloc: Global,
     program: &str,
     hosts: &str,

@@ -1,6 +1,6 @@
 use Rattle.jif_grammar.specs.DraftShapes.{draft_shape}
 use Rattle.front_end.specs.SourceShapes.{source_shape}
-use Rattle.front_end.specs.Sources.{Drafted, HostsRead, Accepted, AcceptedWith, Sources}
+use Rattle.front_end.specs.Sources.{Drafted, HostsRead, DraftAccepted, AcceptedWith, Sources}
 use Rattle.front_end.proofs.Stages.{handed_on, then_ends, then_stops}
 use Rattle.front_end.proofs.Reading.{after_draft}
 use Rattle.front_end.proofs.sources.read_sources.Goals as goal
@@ -16,7 +16,7 @@ returns-in_err-hosts c = λ p h loaded_p loaded_h.
     c.from_residual-in_err-hosts.ensures
     (after_draft p h (draft_shape c.in_ok-draft.draft) c.in_err-hosts.field-0.0
     (c.in_ok-draft.ensures.drafted p loaded_p)
-    (then_stops (HostsRead h) (λ file. Accepted file (draft_shape c.in_ok-draft.draft)) c.in_err-hosts.field-0.0
+    (then_stops (HostsRead h) (λ file. DraftAccepted file (draft_shape c.in_ok-draft.draft)) c.in_err-hosts.field-0.0
     (c.in_err-hosts.ensures.read h loaded_h)))
 
 pub returns : goal.returns
@@ -24,5 +24,5 @@ returns c = λ p h loaded_p loaded_h.
     let draft = draft_shape c.in_ok-draft.draft in
     then_ends draft_shape source_shape (Drafted p) (AcceptedWith h) c.in_ok-draft.draft c.accepted.result
     (c.in_ok-draft.ensures.drafted p loaded_p)
-    (then_ends (λ file. file) source_shape (HostsRead h) (λ file. Accepted file draft) c.in_ok-hosts.hosts
+    (then_ends (λ file. file) source_shape (HostsRead h) (λ file. DraftAccepted file draft) c.in_ok-hosts.hosts
     c.accepted.result (c.in_ok-hosts.ensures.read h loaded_h) c.accepted.ensures)

@@ -4,7 +4,7 @@ use Rattle.js_base.specs.declared.ids.HostId.{HostId}
 use Rattle.host_code.specs.Sound.{IsEntryOn}
 use Rattle.ignored_reasons.specs.declared.why.Why.{Why}
 use Rattle.ignored_reasons.specs.declared.why.Why.TheVariants as reason
-use Rattle.ignored_reasons.specs.Reasons.{Holds, IsFirstFalse}
+use Rattle.ignored_reasons.specs.Reasons.{PartHolds, IsFirstFalse}
 use Rattle.ignored_reasons.proofs.FirstFalse.{last_part, untrue}
 use Rattle.ignored_reasons.proofs.reasons.why_not_enter.Goals as goal
 
@@ -26,8 +26,8 @@ returns c =
       subst (λ (me : HostId). IsEntryOn code me c.args.entry) (sym here) on,
       inl (
         trusted,
-        subst (λ (found : Option Why). IsFirstFalse (Holds code host c.args.from taken) (part ∷ []) found)
+        subst (λ (found : Option Why). IsFirstFalse (PartHolds code host c.args.from taken) (part ∷ []) found)
             (sym c.unless.ensures)
-            (last_part (Holds code host c.args.from taken) part c.knows_of.result c.knows_of.ensures),
+            (last_part (PartHolds code host c.args.from taken) part c.knows_of.result c.knows_of.ensures),
       ),
     )

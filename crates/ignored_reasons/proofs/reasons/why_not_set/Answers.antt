@@ -4,7 +4,7 @@ use Rattle.js_base.specs.declared.ids.HostId.{HostId}
 use Rattle.ignored_reasons.specs.declared.why.Why.{Why}
 use Rattle.ignored_reasons.specs.declared.why.Why.TheVariants as reason
 use Rattle.ignored_reasons.specs.Parts.{IsFieldOn}
-use Rattle.ignored_reasons.specs.Reasons.{Holds, IsFirstFalse}
+use Rattle.ignored_reasons.specs.Reasons.{PartHolds, IsFirstFalse}
 use Rattle.ignored_reasons.proofs.FirstFalse.{last_part}
 use Rattle.ignored_reasons.proofs.reasons.why_not_set.Goals as goal
 
@@ -15,9 +15,9 @@ returns c =
     let on = c.is_field_on.ensures.0 c.if-not-is_field_on.false in
     λ host taken here. inl (
       subst (λ (me : HostId). IsFieldOn code me field) (sym here) on,
-      subst (λ (found : Option Why). IsFirstFalse (Holds code host c.args.from taken)
+      subst (λ (found : Option Why). IsFirstFalse (PartHolds code host c.args.from taken)
           (reason.MayNotSet field ∷ []) found)
           (sym c.unless.ensures)
-          (last_part (Holds code host c.args.from taken) (reason.MayNotSet field) c.sets_field.result
+          (last_part (PartHolds code host c.args.from taken) (reason.MayNotSet field) c.sets_field.result
           c.sets_field.ensures),
     )

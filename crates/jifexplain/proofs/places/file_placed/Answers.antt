@@ -5,7 +5,7 @@ use Rattle.explain_texts.specs.DraftPlaces.{places_shape}
 use Rattle.explain_texts.specs.Told.{told_shape}
 use Rattle.need_labels.specs.Labelled.{labelled_of}
 use Rattle.front_end.specs.SourceShapes.{SourceModel, source_shape}
-use Rattle.front_end.specs.Sources.{Accepted}
+use Rattle.front_end.specs.Sources.{DraftAccepted}
 use Rattle.front_end.specs.Stages.{given}
 use Rattle.jifexplain.specs.Questions.{asked_shape}
 use Rattle.jifexplain.proofs.PlacesAgain.{few_methods_read, few_read, verdict_is}
@@ -34,7 +34,7 @@ returns c = λ p text_is.
     let model : SourceModel = record { hosts = c.source.inside.hosts; checked = c.source.inside.checked } in
     inl (
       source_shape model,
-      subst (λ (s : SourceModel). Accepted c.args.file (draft_shape c.args.draft) (given (source_shape s)))
+      subst (λ (s : SourceModel). DraftAccepted c.args.file (draft_shape c.args.draft) (given (source_shape s)))
           (sym c.source.view_is) c.in_ok-source.ensures,
       verdict_is question.shown.name.now question.shown.text.now p (asked_shape question.asked) question.why
           c.args.tokens.now (draft_shape c.args.draft) (source_shape model) (option_map told_shape c.in_ok-head.head)

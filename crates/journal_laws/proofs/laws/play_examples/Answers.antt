@@ -8,10 +8,10 @@ use Rattle.host_code.specs.declared.message.Message.TheVariants as message
 use Rattle.host_core.specs.Host.{Outcome}
 use Rattle.event_text.specs.JournalText.{sent_words}
 use Rattle.event_text.specs.Words.{Word}
-use Rattle.journal_laws.specs.Plays.{AreNotedOf, MayStep}
+use Rattle.journal_laws.specs.Plays.{AreNotedOf, MayMakeStep}
 use Rattle.journal_laws.specs.PlayExamples.{answer, answered, asking, host_a, host_b, reading, request, send_line}
 use Rattle.journal_laws.specs.PlayExamples.{take_line, turn_line, waiting_for}
-use Rattle.journal_laws.specs.Steps.{turns, takes, IsStep}
+use Rattle.journal_laws.specs.Steps.{turns, takes, IsStepOfHost}
 use Rattle.journal_laws.proofs.laws.play_examples.Goals as goal
 
 abbrev asked : Option (HostId × Message)
@@ -23,16 +23,16 @@ behind_asking = record { state = waiting_for; sent = asked }
 abbrev behind_answer : Outcome
 behind_answer = record { state = answered; sent = None }
 
-asks : (label : Label) → IsStep (reading label) asking turns behind_asking
+asks : (label : Label) → IsStepOfHost (reading label) asking turns behind_asking
 asks label = (true, (λ a. tt, λ a. refl), refl)
 
-is_answered : (label : Label) → IsStep (reading label) waiting_for (takes host_b answer) behind_answer
+is_answered : (label : Label) → IsStepOfHost (reading label) waiting_for (takes host_b answer) behind_answer
 is_answered label = (true, (λ a. refl, λ a. refl), refl)
 
 other : host_b ≢ host_a
 other same = let e : 1 ≡ 0 = ap (λ (host : HostId). host.0) same in omega (arith, e)
 
-may_take : (label : Label) → MayStep (reading label) waiting_for (takes host_b answer)
+may_take : (label : Label) → MayMakeStep (reading label) waiting_for (takes host_b answer)
 may_take label = record {
   rest = refl;
   other = (omega arith, other);

@@ -3,7 +3,7 @@ use Rattle.host_core.specs.Host.{state_of}
 use Rattle.host_core.specs.Start.{host_at_start}
 use Rattle.host_core.specs.Told.{told_key}
 use Rattle.record_merge.specs.JournalLines.{journal_of}
-use Rattle.journal_player.specs.Playing.{IsRefusal}
+use Rattle.journal_player.specs.Playing.{IsPlayRefusal}
 use Rattle.journal_player.proofs.Played.{error_on, line_here, refused_by, played_more, played_whole, still_within}
 use Rattle.journal_player.proofs.player.play_all.Goals as goal
 
@@ -40,7 +40,7 @@ returns-clause-played c =
 pub returns-in_err-more-clause-refused : goal.returns-in_err-more-clause-refused
 returns-in_err-more-clause-refused c =
     let start = host_at_start c.args.code.now c.args.store.now told_key c.args.me in
-    error_on (IsRefusal c.args.code.now start c.args.lines.now) c.in_err-more.field-0.0
+    error_on (IsPlayRefusal c.args.code.now start c.args.lines.now) c.in_err-more.field-0.0
     c.from_residual-in_err-more.result c.from_residual-in_err-more.ensures
     (refused_by c.args.code.now start (state_of c.loop-place.host) c.args.lines.now c.loop-place.place _
     c.in_err-more.field-0.0 c.loop-place-test.true c.loop-place.invariant.played c.in_err-more.ensures.refused)

@@ -5,7 +5,7 @@ use Rattle.js_base.proofs.Lists.{next_of}
 use Rattle.principals.specs.ActsFor.{Declared, AreDeclared}
 use Rattle.jif_tree.specs.declared.program.Method.{Method}
 use Rattle.jif_tree.specs.Trees.{MethodTree, program_tree, method_tree}
-use Rattle.label_check.specs.Parts.{Refuses}
+use Rattle.label_check.specs.Parts.{RefusesFor}
 use Rattle.label_check.specs.Places.{PassesMethods, asks_of_methods}
 use Rattle.label_check.proofs.Exits.{handed_on}
 use Rattle.label_check.proofs.Passing.{passes_on, refused_left}
@@ -39,7 +39,7 @@ returns-in_err-check_method-clause-err c =
     let is = rw c.deref-method-items.ensures.value at c.method-item.is in
     let within = rw c.deref-method-items.ensures.value at c.loop-method-test.true in
     let Q : List MethodTree → Type 0 = λ left.
-    Refuses c.args.principals.now
+    RefusesFor c.args.principals.now
     (asks_of_methods c.args.principals.now (program_tree c.args.program.now) c.loop-method.found left)
     c.in_err-check_method.field-0.0 in
     handed_on c.from_residual.result c.from_residual.ensures

@@ -1,6 +1,6 @@
 use Rattle.std.proofs.Common.{◌≡◌, ◌∙◌, map, sym, ap, subst, ℕ, ◌<◌, suc, List, ◌∷◌, drop, add-one, arith}
 use Rattle.std.proofs.Common.{length, get_or}
-use Rattle.label_check.specs.Parts.{asked, Refuses}
+use Rattle.label_check.specs.Parts.{asked, RefusesFor}
 use Rattle.std.proofs.lemmas.List.{drop_all}
 use Rattle.std.proofs.lemmas.Result.{on_ok_weaker}
 use Rattle.jif_tree.specs.declared.program.Stmt.{Stmt}
@@ -30,7 +30,7 @@ pub check_block-returns-in_err-check_statement-clause-err :
 check_block-returns-in_err-check_statement-clause-err t c =
     let rest = drop (suc c.loop-statement.statement-index) c.args.statements.now in
     let Q : List Stmt → Type 0 = λ left.
-    Refuses c.args.place.now.principals.now
+    RefusesFor c.args.place.now.principals.now
     (asks_of c.args.place.now c.args.pc.now c.loop-statement.found (block_tree left))
     c.in_err-check_statement.field-0.0 in
     handed_on c.from_residual.result c.from_residual.ensures
@@ -91,7 +91,7 @@ pub check_statement-returns-in_err-check_call-in-Call-clause-err :
     goal.check_statement-returns-in_err-check_call-in-Call-clause-err
 check_statement-returns-in_err-check_call-in-Call-clause-err t c =
     let Q : VariableLabels → List Expr → Type 0 = λ labels args.
-    Refuses c.args.place.now.principals.now (asked c.args.statement.now.id
+    RefusesFor c.args.place.now.principals.now (asked c.args.statement.now.id
     (call_asks (setting_at c.args.place.now) c.args.pc.now labels
     (method_at (program_tree c.args.place.now.program.now) c.in-Call.method) (map expr_tree args) c.in-Call.into))
     c.in_err-check_call-in-Call.field-0.0 in

@@ -3,7 +3,7 @@ use Rattle.label_lattice.specs.Lattice.{join_of}
 use Rattle.jif_tree.specs.Trees.{expr_tree}
 use Rattle.jif_tree.specs.LabelRules.{labels_after_assignment, may_flow, variable_label}
 use Rattle.label_reasons.specs.Causes.{or_else, causes_after_assignment}
-use Rattle.label_reasons.specs.Asks.{Spot}
+use Rattle.label_reasons.specs.Asks.{StatementSpot}
 use Rattle.label_reasons.specs.Asks.{cause_at}
 use Rattle.label_reasons.specs.Search.{listed_cause, spot_at}
 use Rattle.label_reasons.proofs.Walking.{local_walks}
@@ -23,7 +23,7 @@ returns c rest line =
     (λ y. c.assign.ensures.causes y ∙ ap (λ one. causes_after_assignment old.labels.items
     (listed_cause old.causes.items) c.args.var c.args.here one y) cause) c.assign.ensures.long c.search_expr.ensures
     (λ of_pc causes sees.
-    let spot : Spot = spot_at c.args.place.now c.args.stand.now c.args.known.now of_pc causes in
+    let spot : StatementSpot = spot_at c.args.place.now c.args.stand.now c.args.known.now of_pc causes in
     c.offered.ensures _ (record {
       statement = refl;
       wanted = refl;
@@ -31,5 +31,6 @@ returns c rest line =
           (c.variable_in.ensures ∙ ap (λ list. variable_label list c.args.var) labels);
       cause = c.or_else-cause.ensures ∙ joined_seen c.args.place.now c.args.stand.now c.args.known.now of_pc causes
           c.cause_of.result (cause_at spot c.args.here value c.args.place.now.held) sees
-          (c.cause_of.ensures ∙ cause_seen c.args.place.now c.args.stand.now c.args.known.now c.args.here value of_pc causes sees);
+          (c.cause_of.ensures ∙ cause_seen c.args.place.now c.args.stand.now c.args.known.now c.args.here value of_pc
+          causes sees);
     }))

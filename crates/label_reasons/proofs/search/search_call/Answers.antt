@@ -1,7 +1,7 @@
 use Rattle.std.proofs.Common.{[], ◌∷◌, ◌++◌, map, flat_map, refl, sym, ap}
 use Rattle.jif_tree.specs.Trees.{expr_tree, program_tree}
 use Rattle.jif_tree.specs.LabelRules.{method_at, params_of, result_of, may_begin}
-use Rattle.label_reasons.specs.Asks.{Spot, begin_ask}
+use Rattle.label_reasons.specs.Asks.{StatementSpot, begin_ask}
 use Rattle.label_reasons.specs.Asks.{expr_asks, argument_asks, result_asks}
 use Rattle.label_reasons.specs.Search.{spot_at}
 use Rattle.label_reasons.proofs.Searching.{at_then}
@@ -22,7 +22,7 @@ returns c =
     ++ result_asks spot c.args.here c.args.method (result_of called) c.args.into) c.search_arguments.new.found
     c.offered.result c.search_result.new.found
     (λ of_pc causes sees.
-    let spot : Spot = spot_at c.args.place.now c.args.stand.now c.args.known.now of_pc causes in
+    let spot : StatementSpot = spot_at c.args.place.now c.args.stand.now c.args.known.now of_pc causes in
     c.offered.ensures (begin_ask spot c.args.here c.args.method) (record {
       statement = refl;
       wanted = refl;

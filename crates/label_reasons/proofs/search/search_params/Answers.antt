@@ -7,12 +7,12 @@ use Rattle.label_reasons.specs.declared.reason.Wanted.TheVariants.{Given}
 use Rattle.js_base.specs.declared.ids.MethodId.{MethodId}
 use Rattle.js_base.specs.declared.ids.StmtId.{StmtId}
 use Rattle.jif_tree.specs.Trees.{ExprTree, expr_tree}
-use Rattle.label_reasons.specs.Asks.{Spot, value_ask, argument_asks}
+use Rattle.label_reasons.specs.Asks.{StatementSpot, value_ask, argument_asks}
 use Rattle.label_reasons.specs.Search.{authority_at, spot_at, Finds}
 use Rattle.label_reasons.proofs.Searching.{finds_none, finds_two}
 use Rattle.label_reasons.proofs.search.search_params.Goals as goal
 
-no_params : (spot : Spot) (here : StmtId) (method : MethodId) (place : ℕ) (values : List ExprTree) →
+no_params : (spot : StatementSpot) (here : StmtId) (method : MethodId) (place : ℕ) (values : List ExprTree) →
     argument_asks spot here method place values [] ≡ []
 no_params spot here method place [] = refl
 no_params spot here method place (value ∷ values) = refl
@@ -22,7 +22,8 @@ returns c =
     c.loop-number.invariant c.loop-number.found (λ of_pc causes sees.
     rw (
       drop_all c.loop-number.number c.args.params.now c.loop-number-test.false,
-      no_params (spot_at c.args.place.now c.args.stand.now c.args.known.now of_pc causes) c.args.here c.args.method c.loop-number.number
+      no_params (spot_at c.args.place.now c.args.stand.now c.args.known.now of_pc causes) c.args.here c.args.method
+          c.loop-number.number
           (map expr_tree (drop c.loop-number.number c.args.args.now)),
     )
     (finds_none c.args.place.now.principals.now c.args.place.now.held (authority_at c.args.place.now)
@@ -41,7 +42,7 @@ loop-number-preserved c =
     let params_left : drop n c.args.params.now ≡ param ∷ drop (n + 1) c.args.params.now =
     drop_more c.args.params.now n (record { 0 = 0 }) (omega (arith, c.loop-number-test.true)) in
     λ end at. c.loop-number.invariant end (λ of_pc causes sees.
-    let spot : Spot = spot_at c.args.place.now c.args.stand.now c.args.known.now of_pc causes in
+    let spot : StatementSpot = spot_at c.args.place.now c.args.stand.now c.args.known.now of_pc causes in
     let Q : List Expr → List VarId → Type 0 = λ xs ps. Finds c.args.place.now.principals.now c.args.place.now.held
     (authority_at c.args.place.now) (argument_asks spot here c.args.method n (map expr_tree xs) ps) c.loop-number.found
     end in

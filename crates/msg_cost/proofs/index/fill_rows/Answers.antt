@@ -3,7 +3,7 @@ use Rattle.std.proofs.lemmas.List.{take_more, take_all, map-append}
 use Rattle.jif_tree.specs.Trees.{program_tree}
 use Rattle.msg_cost.specs.declared.piece.Piece.{Piece as Kept}
 use Rattle.msg_cost.specs.PieceViews.{piece_shape, all_pieces}
-use Rattle.msg_cost.specs.Pieces.{Piece}
+use Rattle.msg_cost.specs.Pieces.{CostPiece}
 use Rattle.msg_cost.specs.Rows.{AreRows, numbers_of, rows_of}
 use Rattle.msg_cost.proofs.Noting.{rows_more, next_turn}
 use Rattle.msg_cost.proofs.TrustTables.{table_of}
@@ -32,7 +32,7 @@ loop-place-preserved c =
     let long = noted.long in
     let marked = noted.marked in
     record {
-      rows = subst (λ (all : List Piece). AreRows touched all after) (sym shapes)
+      rows = subst (λ (all : List CostPiece). AreRows touched all after) (sym shapes)
           (rows_more touched (all_pieces (take place pieces)) (piece_shape piece) (place + 1) before after
           c.note_all.new.marks c.loop-place.invariant.rows noted);
       long = marked ∙ sym long;

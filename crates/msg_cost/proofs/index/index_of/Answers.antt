@@ -1,7 +1,7 @@
 use Rattle.std.proofs.Common.{List, ◌∙◌, length, ap, subst}
 use Rattle.jif_tree.specs.Trees.{program_tree}
 use Rattle.msg_cost.specs.declared.index.Kind.TheVariants as kind
-use Rattle.msg_cost.specs.Pieces.{Piece}
+use Rattle.msg_cost.specs.Pieces.{CostPiece}
 use Rattle.msg_cost.specs.PieceViews.{all_pieces}
 use Rattle.msg_cost.specs.Rows.{AreRows, numbers_of, rows_of}
 use Rattle.msg_cost.proofs.index.index_of.Goals as goal
@@ -15,10 +15,10 @@ returns c =
     let tables = c.in_ok-pieces.ensures.tables in
     record {
       rows = record {
-        fields = subst (λ (all : List Piece).
+        fields = subst (λ (all : List CostPiece).
             AreRows (numbers_of kind.Fields program needs) all (rows_of c.in_ok-fields.fields.items))
             (ap all_pieces c.deref.ensures.value ∙ pieces) c.in_ok-fields.ensures.rows;
-        statements = subst (λ (all : List Piece).
+        statements = subst (λ (all : List CostPiece).
             AreRows (numbers_of kind.Statements program needs) all (rows_of c.in_ok-statements.statements.items))
             (ap all_pieces c.deref-2.ensures.value ∙ pieces) c.in_ok-statements.ensures.rows;
       };

@@ -1,7 +1,7 @@
 use Rattle.std.proofs.Common.{◌≡◌, ◌∙◌, ◌+◌, ◌++◌, ◌∷◌, [], List, ℕ, take, get_or, true, false, sym, subst}
 use Rattle.std.proofs.lemmas.List.{take_more}
 use Rattle.msg_cost.specs.PieceViews.{piece_shape}
-use Rattle.msg_cost.specs.Pieces.{Piece}
+use Rattle.msg_cost.specs.Pieces.{CostPiece}
 use Rattle.msg_cost.specs.Rows.{AreNoted, rows_of}
 use Rattle.msg_cost.proofs.Noting.{noted_first, noted_here, noted_again}
 use Rattle.msg_cost.proofs.index.note_all.Goals as goal
@@ -19,7 +19,7 @@ loop-number-preserved c =
     let done = take i c.args.numbers.now in
     let after = rows_of c.loop-number.rows.items in
     let marks = c.loop-number.marks in
-    let Noted : List ℕ → List (List Piece) → List ℕ → Type 0 = λ numbers rows noted.
+    let Noted : List ℕ → List (List CostPiece) → List ℕ → Type 0 = λ numbers rows noted.
     AreNoted c.args.turn piece numbers before rows noted in
     let more : done ++ number ∷ [] ≡ take (i + 1) c.args.numbers.now =
     sym (take_more c.args.numbers.now i 0 c.loop-number-test.true) in

@@ -3,7 +3,7 @@ use Rattle.std.proofs.lemmas.List.{length-map, length-replicate, get_or-replicat
 use Rattle.std.specs.Global.{Vec}
 use Rattle.msg_cost.specs.declared.piece.Piece.{Piece as Kept}
 use Rattle.msg_cost.specs.PieceViews.{all_pieces}
-use Rattle.msg_cost.specs.Pieces.{Piece}
+use Rattle.msg_cost.specs.Pieces.{CostPiece}
 use Rattle.msg_cost.proofs.Noting.{no_rows}
 use Rattle.msg_cost.proofs.TrustTables.{empty_tables}
 use Rattle.msg_cost.proofs.index.pieces_by_part.Goals as goal
@@ -16,7 +16,7 @@ fill_rows-requires-clause-long c =
     let zeros : c.deref_mut.result.now ≡ replicate c.args.count 0 =
     c.deref_mut.ensures.value ∙ c.in_ok-marks.ensures.items_if_clones_equal (λ mark is. is) in
     ap length zeros ∙ length-replicate c.args.count 0
-    ∙ sym (ap length c.in_ok-rows.ensures ∙ length-replicate {A = List Piece} c.args.count [])
+    ∙ sym (ap length c.in_ok-rows.ensures ∙ length-replicate {A = List CostPiece} c.args.count [])
 
 pub fill_rows-requires-clause-unmarked : goal.fill_rows-requires-clause-unmarked
 fill_rows-requires-clause-unmarked c number below =
@@ -31,10 +31,10 @@ returns-clause-rows c = c.in_ok-fill_rows.ensures.rows
 
 pub returns-clause-long : goal.returns-clause-long
 returns-clause-long c =
-    let shape : Vec Kept → List Piece = λ row. all_pieces row.items in
+    let shape : Vec Kept → List CostPiece = λ row. all_pieces row.items in
     sym (length-map c.fill_rows.new.rows.items shape)
     ∙ c.in_ok-fill_rows.ensures.long ∙ ap length c.in_ok-rows.ensures
-    ∙ length-replicate {A = List Piece} c.args.count []
+    ∙ length-replicate {A = List CostPiece} c.args.count []
 
 pub returns-clause-tables : goal.returns-clause-tables
 returns-clause-tables c hosts have =

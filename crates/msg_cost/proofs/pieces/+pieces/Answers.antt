@@ -6,7 +6,7 @@ use Rattle.jif_tree.specs.declared.program.StmtKind.{StmtKind}
 use Rattle.jif_tree.specs.Trees.{BlockTree, done, expr_tree, statement_tree, block_tree, tree_before, head_of}
 use Rattle.jif_tree.specs.Trees.{program_tree}
 use Rattle.jif_tree.proofs.StatementCounts.{part_counts, first_counts, second_counts, body_counts}
-use Rattle.msg_cost.specs.Pieces.{Piece, given_statements, walk, block_pieces}
+use Rattle.msg_cost.specs.Pieces.{CostPiece, given_statements, walk, block_pieces}
 use Rattle.msg_cost.specs.PieceViews.{givens_of, all_pieces}
 use Rattle.msg_cost.proofs.PieceWalks.{one_more, walk_is, walked_added, branch_pieces, loop_pieces}
 use Rattle.msg_cost.proofs.pieces.+pieces.Goals as goal
@@ -45,7 +45,7 @@ add_nested-returns-clause-pieces t c =
     let block = c.args.block.now in
     let shape = c.walk_of-walk.ensures.shape in
     let pushed = c.in_ok-add_piece.ensures.pieces
-    ∙ ap (λ (one : Piece). old ++ one ∷ [])
+    ∙ ap (λ (one : CostPiece). old ++ one ∷ [])
     (walk_is c.walk_of-walk.result c.args.weight c.args.home true block shape.0 shape.1 shape.2 shape.3) in
     IfOk-weaker c.add_block.result
     (λ (done : Unit {0}). all_pieces c.add_block.new.pieces.items

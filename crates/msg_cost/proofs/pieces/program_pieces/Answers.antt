@@ -3,7 +3,7 @@ use Rattle.std.specs.List.{flat_map}
 use Rattle.js_base.proofs.Lists.{next_of}
 use Rattle.jif_tree.specs.declared.program.Method.{Method}
 use Rattle.jif_tree.specs.Trees.{method_tree, program_tree}
-use Rattle.msg_cost.specs.Pieces.{Piece, method_pieces}
+use Rattle.msg_cost.specs.Pieces.{CostPiece, method_pieces}
 use Rattle.msg_cost.specs.PieceViews.{all_pieces}
 use Rattle.msg_cost.proofs.PieceWalks.{walk_is, walked_added, method_more}
 use Rattle.msg_cost.proofs.pieces.program_pieces.Goals as goal
@@ -20,7 +20,7 @@ loop-method-preserved c =
     let shape = c.walk_of-walk.ensures.shape in
     let block = method.body.items in
     let pushed = c.in_ok-add_piece.ensures.pieces
-    ∙ ap (λ (one : Piece). so_far ++ one ∷ [])
+    ∙ ap (λ (one : CostPiece). so_far ++ one ∷ [])
     (walk_is c.walk_of-walk.result 1 method.head false block shape.0 shape.1 shape.2
     (shape.3 ∙ c.deref.ensures.value)) in
     let added = rw (shape.0, shape.1, shape.3 ∙ c.deref.ensures.value) at c.in_ok-add_block.ensures.pieces in

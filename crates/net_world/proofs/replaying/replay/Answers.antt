@@ -1,7 +1,7 @@
 use Rattle.std.proofs.Common.{◌≡◌, ℕ, ap, subst, Some, Err, get_or}
 use Rattle.event_text.specs.declared.event.Event.{Event}
 use Rattle.net_world.specs.Fits.{world_of}
-use Rattle.net_world.specs.Replay.{IsErrorOf}
+use Rattle.net_world.specs.Replay.{IsReplayErrorOf}
 use Rattle.net_world.specs.World.{IsStep, refusal_of, not_bad, not_there, host_busy, no_such_token}
 use Rattle.net_world.proofs.ReplayedEvents.{run_more, stops}
 use Rattle.net_world.proofs.replaying.replay.Goals as goal
@@ -13,7 +13,7 @@ returns-in-Err-clause-refused c =
     let refusal = λ (it : ℕ × Event). refusal_of (world_of c.loop-line.world) it.1 in
     stops c.args.code.now (world_of c.args.world.now) (world_of c.loop-line.world) c.args.events.now
     c.loop-line.line-index one c.in-Err.error c.refused.result c.loop-line-test.true c.loop-line.invariant.ran
-    (subst (λ (it : ℕ × Event). IsErrorOf it.0 it.1 c.in-Err.error c.refused.result) here c.refused.ensures)
+    (subst (λ (it : ℕ × Event). IsReplayErrorOf it.0 it.1 c.in-Err.error c.refused.result) here c.refused.ensures)
     (λ same. subst (λ it. refusal it ≡ Some not_bad) here (c.in-Err.ensures.not_bad.0 (ap Err same)))
     (λ same. subst (λ it. refusal it ≡ Some not_there) here (c.in-Err.ensures.not_there.0 (ap Err same)))
     (λ same. subst (λ it. refusal it ≡ Some host_busy) here (c.in-Err.ensures.busy.0 (ap Err same)))

@@ -6,8 +6,8 @@ use Rattle.node_engine.proofs.top.asked.Goals as goal
 
 pub returns-in-Err-clause-answer : goal.returns-in-Err-clause-answer
 returns-in-Err-clause-answer g c =
-    stopped_answer (asked_shape c.args.options.now) _ c.in-Err.stop (end_shape c.ended.result) _ _
-    c.in-Err.ensures.due c.ended.ensures (record { outside = refl; names = refl })
+    stopped_answer (asked_shape c.args.options.now) _ c.in-Err.stop (end_shape c.node_end.result) _ _
+    c.in-Err.ensures.due c.node_end.ensures (record { outside = refl; names = refl })
 
 pub returns-in-Err-clause-faults : goal.returns-in-Err-clause-faults
-returns-in-Err-clause-faults g c = stopped_calmly c.in-Err.stop (end_shape c.ended.result) _ c.ended.ensures
+returns-in-Err-clause-faults g c = stopped_calmly c.in-Err.stop (end_shape c.node_end.result) _ c.node_end.ensures

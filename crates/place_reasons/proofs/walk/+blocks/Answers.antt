@@ -4,7 +4,7 @@ use Rattle.jif_tree.specs.declared.program.Stmt.{Stmt}
 use Rattle.jif_tree.specs.Trees.{done, block_tree, tree_before, head_of, expr_tree}
 use Rattle.jif_tree.proofs.StatementCounts.{part_counts, first_counts, second_counts, body_counts}
 use Rattle.jif_tree.proofs.NestingTrees.{if_is, while_is}
-use Rattle.place_reasons.specs.Search.{Answers}
+use Rattle.place_reasons.specs.Search.{AnswersInBlock}
 use Rattle.place_reasons.proofs.Walking.{answers_on, branch_answers, loop_answers}
 use Rattle.place_reasons.proofs.walk.+blocks.Goals as goal
 
@@ -13,7 +13,8 @@ use Rattle.place_reasons.proofs.walk.+blocks.Goals as goal
 pub answer_block-loop-statement-preserved : goal.answer_block-loop-statement-preserved
 answer_block-loop-statement-preserved t c =
     let rest = drop (suc c.loop-statement.statement-index) c.args.statements.now in
-    let Q : List Stmt → Type 0 = λ left. Answers c.args.place.now c.args.question c.args.stand.now c.loop-statement.known
+    let Q : List Stmt → Type 0 = λ left. AnswersInBlock c.args.place.now c.args.question c.args.stand.now
+    c.loop-statement.known
     c.loop-statement.answers.items (block_tree left) c.answer_statement.new.known c.answer_statement.new.answers.items
     (block_tree rest) in
     rw add-one (answers_on c.args.place.now c.args.question c.args.stand.now c.args.known.now c.loop-statement.known

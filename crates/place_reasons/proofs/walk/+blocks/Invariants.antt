@@ -1,13 +1,14 @@
 use Rattle.std.proofs.Common.{drop, ◌+◌, ◌*◌}
 use Rattle.jif_tree.specs.Trees.{block_tree, done, tree_before}
 use Rattle.jif_tree.proofs.StatementCounts.{count_in}
-use Rattle.place_reasons.specs.Search.{Answers}
+use Rattle.place_reasons.specs.Search.{AnswersInBlock}
 use Rattle.place_reasons.proofs.walk.+blocks.Given as goal
 
 -- the statements so far are answered
 abbrev pub invariant-answer_block-loop-statement : goal.invariant-answer_block-loop-statement
 invariant-answer_block-loop-statement l =
-    Answers l.place l.question l.stand l.fn.known l.fn.answers.items (block_tree l.statements) l.known l.answers.items
+    AnswersInBlock l.place l.question l.stand l.fn.known l.fn.answers.items (block_tree l.statements) l.known
+    l.answers.items
     (block_tree (drop l.statement-index l.statements))
 
 abbrev pub decreases-answer_block : goal.decreases-answer_block

@@ -4,7 +4,7 @@ use Rattle.jif_tree.specs.Trees.{field_tree}
 use Rattle.need_labels.specs.Labelled.{labelled_of}
 use Rattle.place_rules.specs.Allowed.{AllowedShape}
 use Rattle.place_rules.specs.PlaceRules.{MayHoldField, MayHoldStatement, AreAllowed, told_fields, needed_statements}
-use Rattle.place_rules.specs.Refusal.{IsRefused}
+use Rattle.place_rules.specs.Refusal.{IsPlaceRefused}
 use Rattle.place_rules.specs.declared.place_error.PlaceError.{PlaceError}
 use Rattle.place_rules.proofs.Held.{AreWordsOf, is_empty, all_held, first_unheld, same_words}
 use Rattle.place_rules.proofs.rules.allowed_on.Goals as goal
@@ -14,7 +14,7 @@ returns-in-Some-clause-refused c =
     let labelled = labelled_of c.args.checked.now in
     let needs = c.args.needs.now in
     let hosts = c.args.hosts.now in
-    let Refused : PlaceError → Type 0 = λ why. IsRefused labelled needs hosts why in
+    let Refused : PlaceError → Type 0 = λ why. IsPlaceRefused labelled needs hosts why in
     let words : AreWordsOf MayHoldField hosts.hosts (told_fields labelled needs) c.in_ok-fields.fields.items =
     same_words MayHoldField hosts.hosts c.hosts-rows.result.now (told_fields labelled needs)
     (zip (map field_tree c.deref.result.now) c.loc.result.now) c.in_ok-fields.fields.items
@@ -33,7 +33,7 @@ returns-in-Some-first_empty-clause-refused c =
     let labelled = labelled_of c.args.checked.now in
     let needs = c.args.needs.now in
     let hosts = c.args.hosts.now in
-    let Refused : PlaceError → Type 0 = λ why. IsRefused labelled needs hosts why in
+    let Refused : PlaceError → Type 0 = λ why. IsPlaceRefused labelled needs hosts why in
     let field_words : AreWordsOf MayHoldField hosts.hosts (told_fields labelled needs) c.in_ok-fields.fields.items =
     same_words MayHoldField hosts.hosts c.hosts-rows.result.now (told_fields labelled needs)
     (zip (map field_tree c.deref.result.now) c.loc.result.now) c.in_ok-fields.fields.items

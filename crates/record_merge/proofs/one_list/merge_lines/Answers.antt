@@ -1,7 +1,7 @@
 use Rattle.std.proofs.Common.{◌∙◌, length, ap, subst}
 use Rattle.net_world.specs.World.{world_at_start}
 use Rattle.record_merge.specs.JournalLines.{all_of}
-use Rattle.record_merge.specs.Meeting.{IsAtEnd}
+use Rattle.record_merge.specs.Meeting.{IsMetToEnd}
 use Rattle.record_merge.proofs.Merged.{not_merged, all_met}
 use Rattle.record_merge.proofs.one_list.merge_lines.Goals as goal
 
@@ -16,7 +16,7 @@ returns-in-Some-clause-refused c =
     let places = c.walk.new.places.items in
     not_merged code (world_at_start code rows 0 store) c.args.journals.now places c.in_ok-events.events.items
     c.in-Some.host c.in-Some.number (c.single_laws.ensures.start code rows store)
-    (subst (λ w. IsAtEnd code w (all_of c.args.journals.now) places c.in_ok-events.events.items)
+    (subst (λ w. IsMetToEnd code w (all_of c.args.journals.now) places c.in_ok-events.events.items)
     c.in_ok-world.ensures.start c.in_ok-events.ensures.end)
     (rw c.deref.ensures.value at c.in-Some.ensures.some) (rw c.deref.ensures.value at c.in-Some.ensures.number)
 
@@ -26,6 +26,6 @@ returns-clause-meets c =
     let places = c.walk.new.places.items in
     let world = world_at_start code c.args.hosts.now.hosts 0 c.args.start.now in
     all_met code world (all_of c.args.journals.now) places c.in_ok-events.events.items
-    (subst (λ w. IsAtEnd code w (all_of c.args.journals.now) places c.in_ok-events.events.items)
+    (subst (λ w. IsMetToEnd code w (all_of c.args.journals.now) places c.in_ok-events.events.items)
     c.in_ok-world.ensures.start c.in_ok-events.ensures.end)
     (rw c.deref.ensures.value at c.in-None.ensures.none)

@@ -1,6 +1,6 @@
 use Rattle.std.proofs.Common.{◌≡◌, ℕ}
 use Rattle.std.proofs.lemmas.Result.{IfOk-weaker}
-use Rattle.net_world.specs.Released.{AreAlike}
+use Rattle.net_world.specs.Released.{OneIsFront}
 use Rattle.run_comparison.specs.Compare.{GoApart, holds}
 use Rattle.run_comparison.specs.FollowedRuns.{run_with}
 use Rattle.net_world.specs.Replay.{events_in}
@@ -16,7 +16,7 @@ pub returns-in-Some : goal.returns-in-Some
 returns-in-Some c = λ last last_too.
     let one = (run_with c.args.one.now last).seen in
     let other = (run_with c.args.other.now last_too).seen in
-    premise_stops (AreAlike (events_in one) (events_in other))
+    premise_stops (OneIsFront (events_in one) (events_in other))
     (λ verdict. (line : ℕ) × GoApart one other line × (verdict ≡ events_differ c.args.name.now line))
     c.at_line.result c.stopped.result
     (IfOk-weaker c.at_line.result _ _ (λ verdict is. (

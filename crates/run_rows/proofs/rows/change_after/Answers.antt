@@ -6,7 +6,7 @@ use Rattle.net_world.specs.Fits.{world_of}
 use Rattle.net_world.specs.World.{mover, state_at}
 use Rattle.run_rows.specs.declared.seen.Seen.{Seen}
 use Rattle.run_rows.specs.Rows.{seen_in}
-use Rattle.run_rows.specs.Stacks.{IsFollowed, pushed_in, stack_at}
+use Rattle.run_rows.specs.Stacks.{IsStackChange, pushed_in, stack_at}
 use Rattle.run_rows.proofs.Changes.{did_after, ok_both}
 use Rattle.run_rows.proofs.SeenAfter.{depth_is}
 use Rattle.run_rows.proofs.rows.change_after.Goals as goal
@@ -28,9 +28,9 @@ returns c =
     (ap (λ (s : Seen). s.depth) before.host ∙ depth_is (state_at old (mover event)))
     (ap (λ (s : Seen). s.depth) seen ∙ depth_is (state_at next (mover event)))
     (subst (λ (h : HostId). h.0 < length stacks →
-    IsFollowed pushes depth later (stack_at stacks h) (stack_at new h) did) c.mover-host.ensures
+    IsStackChange pushes depth later (stack_at stacks h) (stack_at new h) did) c.mover-host.ensures
     (subst (λ (p : Option EntryId). c.mover-host.result.0 < length stacks →
-    IsFollowed p depth later (stack_at stacks c.mover-host.result) (stack_at new c.mover-host.result) did)
+    IsStackChange p depth later (stack_at stacks c.mover-host.result) (stack_at new c.mover-host.result) did)
     c.pushed_in.ensures follows))
     (subst (λ (h : HostId). h.0 < length stacks → new ≡ slice_set stacks h.0 (stack_at new h)) c.mover-host.ensures
     puts))

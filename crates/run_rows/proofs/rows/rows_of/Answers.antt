@@ -5,11 +5,12 @@ use Rattle.std.proofs.lemmas.List.Elements.{All-append}
 use Rattle.js_base.specs.declared.ids.HostId.{HostId}
 use Rattle.event_text.specs.declared.event.Event.{Event}
 use Rattle.net_world.specs.Fits.{world_of}
-use Rattle.net_world.specs.Replay.{IsErrorOf}
+use Rattle.net_world.specs.Replay.{IsReplayErrorOf}
 use Rattle.net_world.specs.World.{IsStep, refusal_of, not_bad, not_there, host_busy, no_such_token}
 use Rattle.net_world.proofs.ReplayedEvents.{stops}
 use Rattle.run_rows.specs.declared.row.Row.{Row}
-use Rattle.run_rows.specs.Rows.{Moment, IsBefore, IsRow, IsSending, IsPictured, WhatFits, first_moment, moment_after}
+use Rattle.run_rows.specs.Rows.{Moment, IsSeenBefore, IsRunRow, IsSending, IsPictured, WhatFits, first_moment}
+use Rattle.run_rows.specs.Rows.{moment_after}
 use Rattle.run_rows.specs.Senders.{AreBeside, IsPosting, senders_after}
 use Rattle.run_rows.proofs.Changes.{are_first}
 use Rattle.run_rows.proofs.FittingRows.{single, what_fits}
@@ -27,7 +28,7 @@ returns-in-Err-clause-refused c =
     stops c.args.code.now (world_of c.args.world.now) (world_of c.loop-line.world) c.args.events.now
     c.loop-line.line-index c.loop-line-item.result c.in-Err.error c.refused.result c.loop-line-test.true
     (pictured_ran _ _ _ _ _ c.loop-line.invariant.pictured)
-    (subst (λ (it : ℕ × Event). IsErrorOf it.0 it.1 c.in-Err.error c.refused.result) here c.refused.ensures)
+    (subst (λ (it : ℕ × Event). IsReplayErrorOf it.0 it.1 c.in-Err.error c.refused.result) here c.refused.ensures)
     (λ same. subst (λ it. refusal it ≡ Some not_bad) here (c.in-Err.ensures.not_bad.0 (ap Err same)))
     (λ same. subst (λ it. refusal it ≡ Some not_there) here (c.in-Err.ensures.not_there.0 (ap Err same)))
     (λ same. subst (λ it. refusal it ≡ Some host_busy) here (c.in-Err.ensures.busy.0 (ap Err same)))
@@ -67,11 +68,11 @@ loop-line-preserved c =
     let step = c.in_default.ensures.ok in
     let fits = c.fits_laws.ensures.world code c.loop-line.world c.loop-line.invariant.fits in
     let later = c.fits_laws.ensures.world code c.apply.new.self c.apply.ensures.fits in
-    let before = subst (λ (root : HostId). IsBefore root old event c.in-Some.before) c.loop-line.invariant.fits.root
+    let before = subst (λ (root : HostId). IsSeenBefore root old event c.in-Some.before) c.loop-line.invariant.fits.root
     c.in-Some.ensures.before in
     let changed = c.in_ok-change.ensures old fits before step c.loop-line.invariant.stacks in
     let posted = c.in_ok-posts.ensures old fits later step c.loop-line.invariant.beside in
-    let its : IsRow code old c.loop-line-item.result next row =
+    let its : IsRunRow code old c.loop-line-item.result next row =
     c.row_after-row.ensures.row old fits before step changed.0 in
     let marks = c.row_after-row.ensures.marks in
     let middle : Moment = record { world = old; senders = senders; count = at } in
@@ -86,7 +87,7 @@ loop-line-preserved c =
     let more = pictured_more code first middle next c.args.events.now at c.loop-line-item.result
     c.loop-line.rows.items row c.loop-line-test.true c.loop-line.invariant.pictured
     (subst (λ (it : ℕ × Event). IsStep code old it.1 next) c.loop-line-item.is step)
-    (subst (λ (it : ℕ × Event). IsRow code old it next row) c.loop-line-item.is its)
+    (subst (λ (it : ℕ × Event). IsRunRow code old it next row) c.loop-line-item.is its)
     (subst (λ (it : ℕ × Event). IsSending middle it.1 next row) c.loop-line-item.is sends) in
     let here = subst (λ (it : ℕ × Event). IsPictured code first all rows (moment_after middle it.1 next row.posts))
     (sym c.loop-line-item.is) more in

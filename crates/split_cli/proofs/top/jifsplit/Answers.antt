@@ -13,7 +13,7 @@ use Rattle.split_cli.proofs.top.jifsplit.Goals as goal
 
 pub returns-clause-answer : goal.returns-clause-answer
 returns-clause-answer g c =
-    answers_to (codes "jifsplit") _ _ c.due-found.result _ _ _ c.due-found.ensures.saves c.due-found.ensures.due c.answer.ensures.due
+    answers_to (codes "jifsplit") _ _ c.due_verdict-found.result _ _ _ c.due_verdict-found.ensures.saves c.due_verdict-found.ensures.due c.answer.ensures.due
     c.answer.ensures.undue
 
 pub returns-clause-headline : goal.returns-clause-headline

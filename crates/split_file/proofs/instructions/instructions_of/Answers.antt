@@ -6,7 +6,7 @@ use Rattle.host_code.specs.declared.instruction.Instr.{Instr}
 use Rattle.host_code.specs.CodeParts.{shape_of}
 use Rattle.host_code.specs.Sound.{is_entrance, temporaries_at, temporaries_after}
 use Rattle.byte_format.proofs.Items.{items_more}
-use Rattle.split_file.specs.Reader.{Reader, Fails}
+use Rattle.split_file.specs.Reader.{SplitReader, ReadFails}
 use Rattle.split_file.specs.Reading.{next_instruction_at}
 use Rattle.split_file.proofs.Items.{items_fail}
 use Rattle.split_file.proofs.NextItems.{next_instruction}
@@ -20,7 +20,8 @@ returns-in_err-instruction c =
     let same = next_instruction c.args.version code c.args.me c.args.places c.loop-number.instructions.items
     c.loop-number.temporaries
     c.loop-number.number c.loop-number.invariant.count c.loop-number.invariant.temporaries in
-    let fails = subst (λ (item : Reader Instr). Fails c.in_err-instruction.field-0.0 (item c.loop-number.rest.now))
+    let fails = subst (λ (item : SplitReader Instr). ReadFails c.in_err-instruction.field-0.0
+    (item c.loop-number.rest.now))
     (sym same) c.in_err-instruction.ensures in
     rw (p.1, p.2) (items_fail (next_instruction_at c.args.version code c.args.me c.args.places)
     c.loop-number.instructions.items
@@ -36,7 +37,8 @@ loop-number-preserved c =
     let same = next_instruction c.args.version code c.args.me c.args.places before c.loop-number.temporaries
     c.loop-number.number
     inv.count inv.temporaries in
-    let read = subst (λ (item : Reader Instr). item c.loop-number.rest.now ≡ Ok (next, c.in_ok-instruction.after.now))
+    let read = subst (λ (item : SplitReader Instr). item c.loop-number.rest.now
+    ≡ Ok (next, c.in_ok-instruction.after.now))
     (sym same) c.in_ok-instruction.ensures in
     let is_there = c.contains-is_entrance.ensures ∙ c.requires (c.loop-number.number + 1) in
     let more : temporaries_at code.entries c.args.me (before ++ next ∷ []) (c.loop-number.number + 1)

@@ -3,16 +3,16 @@ use Rattle.std.proofs.lemmas.Result.{err_from_is_err_and}
 use Rattle.std.proofs.lemmas.List.{length_push}
 use Rattle.host_code.specs.declared.code.Entry.{Entry}
 use Rattle.byte_format.proofs.Items.{items_more, items_done}
-use Rattle.split_file.specs.Reader.{Reader, Fails}
+use Rattle.split_file.specs.Reader.{SplitReader, ReadFails}
 use Rattle.split_file.specs.Reading.{entry_row_at, is_empty}
 use Rattle.split_file.proofs.Items.{items_fail, some_pushed}
 use Rattle.split_file.proofs.starts.entry_rows_of.Goals as goal
 
 pub returns-in_err-entry-clause-entries : goal.returns-in_err-entry-clause-entries
 returns-in_err-entry-clause-entries c =
-    let item : List Entry → Reader Entry = λ before. entry_row_at c.args.hosts c.args.labels (is_empty before) in
+    let item : List Entry → SplitReader Entry = λ before. entry_row_at c.args.hosts c.args.labels (is_empty before) in
     let p = err_from_is_err_and c.from_residual.result c.from_residual.ensures.1 in
-    let fails = subst (λ first. Fails c.in_err-entry.field-0.0 (entry_row_at c.args.hosts c.args.labels first
+    let fails = subst (λ first. ReadFails c.in_err-entry.field-0.0 (entry_row_at c.args.hosts c.args.labels first
     c.loop.rest.now))
     c.loop.invariant.first c.in_err-entry.ensures in
     rw (p.1, p.2) (items_fail item c.loop.entries.items c.args.count c.loop.counter _ c.loop.rest.now _
@@ -20,7 +20,7 @@ returns-in_err-entry-clause-entries c =
 
 pub loop-preserved : goal.loop-preserved
 loop-preserved c =
-    let item : List Entry → Reader Entry = λ before. entry_row_at c.args.hosts c.args.labels (is_empty before) in
+    let item : List Entry → SplitReader Entry = λ before. entry_row_at c.args.hosts c.args.labels (is_empty before) in
     let next = subst (λ first. entry_row_at c.args.hosts c.args.labels first c.loop.rest.now
     ≡ Ok (c.in_ok-entry.entry, c.in_ok-entry.after.now))
     c.loop.invariant.first c.in_ok-entry.ensures in

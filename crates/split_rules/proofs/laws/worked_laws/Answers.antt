@@ -1,6 +1,6 @@
 use Rattle.std.proofs.Common.{◌≡◌, ◌∙◌, zero, suc, refl, arith, ◌∷◌, [], Any}
 use Rattle.msg_cost.specs.Moves.{is_trusted_by}
-use Rattle.split_rules.specs.Positions.{IsIn}
+use Rattle.split_rules.specs.Positions.{IsStatementOfMethod}
 use Rattle.split_rules.specs.Worked.{called, calling, returning, loop_end}
 use Rattle.split_rules.proofs.laws.worked_laws.Goals as goal
 
@@ -84,7 +84,7 @@ pub returns-clause-call_entries : goal.returns-clause-call_entries
 unfolding is_trusted_by
 returns-clause-call_entries c = refl
 
-returning_in : IsIn called.program (record { 0 = 1 }) returning
+returning_in : IsStatementOfMethod called.program (record { 0 = 1 }) returning
 returning_in = (0, returning, omega arith, refl, refl)
 
 pub returns-clause-is_in : goal.returns-clause-is_in

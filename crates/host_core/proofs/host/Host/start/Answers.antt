@@ -1,7 +1,7 @@
 -- The host fits the code at the start.
 use Rattle.std.proofs.Common.{◌≡◌, ℕ, sym, subst, ap, ◌∙◌, refl, arith}
 use Rattle.js_base.specs.declared.ids.HostId.{HostId}
-use Rattle.host_core.specs.Host.{HostShape, state_of}
+use Rattle.host_core.specs.Host.{HostState, state_of}
 use Rattle.host_core.specs.Fits.{StateFits}
 use Rattle.host_core.specs.Start.{idle_host, root_host}
 use Rattle.host_core.proofs.CallsKept.{same_checks}
@@ -25,7 +25,7 @@ returns-clause-fits c =
     let code = c.args.code.now in
     let host = c.in_ok-host.host in
     let after = c.begin_program.new.self in
-    let idle : HostShape = idle_host code c.args.store.now c.args.key c.args.me in
+    let idle : HostState = idle_host code c.args.store.now c.args.key c.args.me in
     let number : c.args.me.0 ≡ c.root.result.0 = grind arith in
     let make : ℕ → HostId = λ n. record { 0 = n } in
     let root : c.args.me ≡ code.root = ap make number ∙ c.root.ensures.root in

@@ -2,7 +2,7 @@
 use Rattle.std.proofs.Common.{◌≡◌, ap, ◌∙◌, rules, subst}
 use Rattle.std.specs.Prelude.{Option}
 use Rattle.host_code.specs.Thread.{ThreadShape}
-use Rattle.host_core.specs.Host.{HostShape, HostModel, state_of, Outcome}
+use Rattle.host_core.specs.Host.{HostState, HostModel, state_of, Outcome}
 use Rattle.host_core.specs.Turn.{IsTurn, IsTurnOf}
 use Rattle.host_core.specs.contracts.host.Host.{the_view}
 use Rattle.host_core.proofs.CallsKept.{turn_call_kept, made_keeps, thread_taken}
@@ -16,7 +16,7 @@ returns-in-Ok-clause-ok c =
     let taken =
     subst (λ (r : Option ThreadShape). IsTurnOf code host r outcome) c.in-Some.ensures.value c.in-Ok.ensures.ok.step in
     let same : host ≡ state_of c.args.self.now = ap state_of c.self.view_is ∙ c.begin.ensures.same in
-    subst (λ (h : HostShape). IsTurn code h outcome) same taken
+    subst (λ (h : HostState). IsTurn code h outcome) same taken
 
 pub returns-in-Ok-clause-keeps : goal.returns-in-Ok-clause-keeps
 returns-in-Ok-clause-keeps c =
@@ -27,8 +27,10 @@ returns-in-Ok-clause-keeps c =
     (ap (λ (h : HostModel). h.checks) c.self.view_is ∙ c.begin.ensures.checks)
     (thread_taken (the_view c.self.inside) c.run.new.self c.take.new.self c.in-Ok.ensures.ok.same)
     (returns-in-Ok-clause-ok c)).0 in
-    made_keeps c.args.code.now c.args.self.now (the_view c.self.inside) c.run.new.self fits (search rules) (search rules)
-    (thread_taken (the_view c.self.inside) c.run.new.self c.take.new.self c.in-Ok.ensures.ok.same) c.in_ok-begin.ensures.stopped
+    made_keeps c.args.code.now c.args.self.now (the_view c.self.inside) c.run.new.self fits (search rules)
+    (search rules)
+    (thread_taken (the_view c.self.inside) c.run.new.self c.take.new.self c.in-Ok.ensures.ok.same)
+    c.in_ok-begin.ensures.stopped
 
 pub returns-in-Ok-clause-sent : goal.returns-in-Ok-clause-sent
 returns-in-Ok-clause-sent c =

@@ -2,7 +2,7 @@ use Rattle.std.proofs.Common.{rules, ◌≡◌, ◌≤◌, ◌++◌, ◌∷◌, 
 use Rattle.std.specs.Prelude.{if◌then◌else◌}
 use Rattle.std.specs.Result.{is_ok}
 use Rattle.host_code.specs.declared.message.Message.{Message}
-use Rattle.net_world.specs.Flying.{Flight, Queue, IsCounted, flights_with, hidden_in}
+use Rattle.net_world.specs.Flying.{Flight, Queue, IsQueueCounted, flights_with, hidden_in}
 use Rattle.net_world.proofs.Counted.{hidden_few, hidden_push}
 use Rattle.net_world.proofs.Flights.{flights_push, length_flights}
 use Rattle.net_world.proofs.flying.Queue.push.Goals as goal
@@ -13,7 +13,7 @@ overflow_add-self c =
     let messages : List Message = c.self.inside.messages.items in
     let flights : List Flight = flights_with messages c.self.inside.labels.items in
     let counted : c.self.inside.hidden ≡ hidden_in readable flights =
-    subst (λ (q : Queue). IsCounted readable q) (sym c.self.view_is) c.requires.counted in
+    subst (λ (q : Queue). IsQueueCounted readable q) (sym c.self.view_is) c.requires.counted in
     let few : hidden_in readable flights ≤ length flights = hidden_few readable flights in
     let long : length flights ≡ length messages =
     length_flights messages c.self.inside.labels.items c.self.invariant in
@@ -29,7 +29,7 @@ returns-clause-counted c =
     let message : Message = c.args.message.now in
     let label : ℕ = c.args.label in
     let counted : c.self.inside.hidden ≡ hidden_in readable (flights_with messages labels) =
-    subst (λ (q : Queue). IsCounted readable q) (sym c.self.view_is) c.requires.counted in
+    subst (λ (q : Queue). IsQueueCounted readable q) (sym c.self.view_is) c.requires.counted in
     let ok : is_ok c.push-pushed.result ≡ true = sym c.is_ok.ensures.value ∙ c.if-prove.false in
     let ok_too : is_ok c.push-labelled.result ≡ true = sym c.is_ok-2.ensures.value ∙ c.if-prove-2.false in
     let pushed : c.push-pushed.new.self.items ≡ messages ++ message ∷ [] =

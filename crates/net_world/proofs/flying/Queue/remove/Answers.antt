@@ -1,5 +1,5 @@
 use Rattle.std.proofs.Common.{◌≡◌, ◌<◌, sym, subst, length, List, ℕ, Bool, arith}
-use Rattle.net_world.specs.Flying.{Queue, IsCounted, flights_with, hidden_in}
+use Rattle.net_world.specs.Flying.{Queue, IsQueueCounted, flights_with, hidden_in}
 use Rattle.net_world.proofs.Counted.{taken_from}
 use Rattle.net_world.proofs.flying.Queue.remove.Goals as goal
 
@@ -8,7 +8,7 @@ overflow_sub-self c =
     let labels : List ℕ = c.self.inside.labels.items in
     let readable : List Bool = c.args.readable.now in
     let counted : c.self.inside.hidden ≡ hidden_in readable (flights_with c.self.inside.messages.items labels) =
-    subst (λ (q : Queue). IsCounted readable q) (sym c.self.view_is) c.requires.counted in
+    subst (λ (q : Queue). IsQueueCounted readable q) (sym c.self.view_is) c.requires.counted in
     let there : c.args.place < length (flights_with c.self.inside.messages.items labels) =
     subst (λ (q : Queue). c.args.place < length q.flights) (sym c.self.view_is) c.requires.there in
     let all =
@@ -22,7 +22,7 @@ returns-clause-counted c =
     let labels : List ℕ = c.self.inside.labels.items in
     let readable : List Bool = c.args.readable.now in
     let counted : c.self.inside.hidden ≡ hidden_in readable (flights_with c.self.inside.messages.items labels) =
-    subst (λ (q : Queue). IsCounted readable q) (sym c.self.view_is) c.requires.counted in
+    subst (λ (q : Queue). IsQueueCounted readable q) (sym c.self.view_is) c.requires.counted in
     let there : c.args.place < length (flights_with c.self.inside.messages.items labels) =
     subst (λ (q : Queue). c.args.place < length q.flights) (sym c.self.view_is) c.requires.there in
     let all =

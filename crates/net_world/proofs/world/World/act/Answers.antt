@@ -1,7 +1,7 @@
 -- The message is taken at once, and its answer is told to the sender.
 use Rattle.std.proofs.Common.{◌≡◌, ◌∙◌, ◌<◌, ap, sym, subst, length, inr, None}
 use Rattle.net_world.specs.Fits.{MailFits, world_of}
-use Rattle.net_world.specs.Steps.{IsReady}
+use Rattle.net_world.specs.Steps.{IsReadyToTake}
 use Rattle.net_world.proofs.Present.{get_lt, length_states}
 use Rattle.net_world.proofs.StepsOf.{acted, act_due, has_some, state_rests}
 use Rattle.net_world.specs.World.{state_at}
@@ -22,7 +22,8 @@ move_host-requires-clause-move_fits c =
         bad_within world a.from (length code.hosts) count actable.bad,
         bad_differs world a.from a.to there.0 actable.bad there.1,
       ),
-      made_tokens_fit code world a.made.now c.in_ok-message.message count c.requires.fits.mail c.requires.own actable.makes,
+      made_tokens_fit code world a.made.now c.in_ok-message.message count c.requires.fits.mail c.requires.own
+          actable.makes,
     )
 
 pub returns-in_default-clause-answer : goal.returns-in_default-clause-answer
@@ -49,7 +50,7 @@ returns-clause-fits c =
     let a = c.args in
     let code = a.code.now in
     let within : a.to.0 < length a.self.now.hosts =
-    get_lt a.self.now.hosts a.to.0 IsReady c.in_ok-message.ensures.ok.host in
+    get_lt a.self.now.hosts a.to.0 IsReadyToTake c.in_ok-message.ensures.ok.host in
     let is_host : a.to.0 < length code.hosts = subst (λ n. a.to.0 < n) c.requires.fits.count within in
     let moved =
     mail_stepped code _ (world_of a.self.now) (world_of c.reserve_told.new.self) (world_of c.move_host.new.self) a.to

@@ -1,6 +1,6 @@
 use Rattle.std.proofs.Common.{subst}
 use Rattle.std.proofs.lemmas.Result.{on_ok_weaker, IfErr-weaker}
-use Rattle.node_engine.specs.Told.{Does, Stops, seen}
+use Rattle.node_engine.specs.Told.{PartsAreDone, Stops, seen}
 use Rattle.node_engine.specs.Units.{posting_parts}
 use Rattle.node_engine.proofs.Breaking.{breaks_first, breaks_later, done_later, handed}
 use Rattle.node_engine.proofs.node.Node.stepped.Goals as goal
@@ -21,7 +21,7 @@ returns-in-Some-clause-ok g c =
     (λ does.
     done_later _ _ _ _ _ c.in_ok-noted.ensures.ok
     (subst (λ seals.
-    Does (posting_parts node.code.now node.me seals c.in-Some.to c.in-Some.message)
+    PartsAreDone (posting_parts node.code.now node.me seals c.in-Some.to c.in-Some.message)
     (seen g.L.Links g.R.Sink c.noted.new.self) (seen g.L.Links g.R.Sink c.posted.new.self)) same.seals_is does))
     (rw (code, me) at c.posted.ensures.ok))
 

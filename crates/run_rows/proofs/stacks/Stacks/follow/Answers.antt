@@ -2,7 +2,7 @@
 use Rattle.std.proofs.Common.{◌≡◌, ◌∙◌, List, map, reverse, ap, sym, subst, Vec, Global, slice_set}
 use Rattle.std.proofs.lemmas.Result.{IfOk-weaker}
 use Rattle.js_base.specs.declared.ids.EntryId.{EntryId}
-use Rattle.run_rows.specs.Stacks.{IsFollowed, stack_at}
+use Rattle.run_rows.specs.Stacks.{IsStackChange, stack_at}
 use Rattle.run_rows.proofs.StackLists.{stack_there, replaced, all_replaced}
 use Rattle.run_rows.proofs.stacks.Stacks.follow.Goals as goal
 
@@ -18,9 +18,9 @@ returns-then-place-len-clause-change c =
     let old : top_first c.index_mut.result.now ≡ stack_at c.args.self.now c.args.host =
     ap top_first c.index_mut.ensures.value
     ∙ sym (stack_there top_first items c.args.host _ c.args.self.now (sym c.self.view_is) within) in
-    subst (λ (stack : List EntryId). IsFollowed c.args.pushes c.args.before c.args.after stack
+    subst (λ (stack : List EntryId). IsStackChange c.args.pushes c.args.before c.args.after stack
     (stack_at (map top_first (slice_set items c.args.host.0 new)) c.args.host) did) old
-    (subst (λ (stack : List EntryId). IsFollowed c.args.pushes c.args.before c.args.after
+    (subst (λ (stack : List EntryId). IsStackChange c.args.pushes c.args.before c.args.after
     (top_first c.index_mut.result.now) stack did)
     (sym (replaced top_first items c.args.host new c.args.self.now (sym c.self.view_is) within)) follows))
     c.follow_one.ensures
