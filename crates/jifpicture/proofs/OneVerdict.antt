@@ -1,94 +1,131 @@
 -- For words and for files that tell what they hold, one verdict is due.
-use Rattle.std.proofs.Common.{◌≡◌, ℕ, ◌+◌, ◌<◌, List, [], ◌∷◌, length, Option, Some, refl, sym, ap, ◌∙◌}
-use Rattle.std.proofs.Common.{subst, ⊎_elim}
+use Rattle.std.proofs.Common.{◌≡◌, ℕ, ◌+◌, ◌<◌, List, [], ◌∷◌, Option, Some, refl, sym, ap, ◌∙◌}
+use Rattle.std.proofs.Common.{subst, inl, inr, ⊎_elim}
+use Rattle.std.specs.List.{AllByRecursion, AllZip}
 use Rattle.js_base.specs.Counts.{last_count}
 use Rattle.front_end.specs.Loads.{FilesChange, Told, IsHeld, IsFirstAbsent}
 use Rattle.front_end.specs.PlacedSources.{PlacedSources}
 use Rattle.front_end.specs.Verdicts.{VerdictShape, no_such_file}
-use Rattle.front_end.proofs.Answering.{no_fault_and_fault}
+use Rattle.front_end.proofs.DueByFiles.{IsDueOrFault, due_or_fault_once}
 use Rattle.front_end.proofs.Places.{of_all}
 use Rattle.front_end.proofs.Stages.{IsOne, one_due}
 use Rattle.front_end.proofs.AbsentFiles.{held_once, told_held, absent_not_held, absent_once}
-use Rattle.jifpicture.specs.Due.{DueForBytes, DueForNames, absent, loaded, Due, no_words, two_words, IsDue}
+use Rattle.run_picture.specs.RunDue.{DueForChart}
+use Rattle.jifpicture.specs.Due.{DueForBytes, DueForFiles, DueForPlan, Due, no_form, absent, loaded, HaveForm}
+use Rattle.jifpicture.specs.Due.{HaveNoForm, IsDue}
 use Rattle.jifpicture.specs.Picture.{picture_report}
 
--- a program and a host file have one plan, or are refused for one cause
-abbrev pub OnePlan : Type 0
-OnePlan = (program hosts : List ℕ) → IsOne (PlacedSources program hosts)
+-- a program and a host file have one plan, or are refused for one cause; and with a script one run, or the same
+pub record OneOfEach : Type 0 where
+  pub plans : (program hosts : List ℕ) → IsOne (PlacedSources program hosts)
+  pub runs : (file program hosts script : List ℕ) (first second : VerdictShape) →
+      DueForChart file program hosts script first → DueForChart file program hosts script second → first ≡ second
 
-bytes_once : OnePlan → (p h : List ℕ) (first second : VerdictShape) → DueForBytes p h first →
-    DueForBytes p h second → first ≡ second
-bytes_once plans p h first second one two =
-    one_due (PlacedSources p h) (λ placed verdict. verdict ≡ picture_report placed) first second (plans p h)
+-- ---- what is due for the bytes of all files
+
+plan_once : OneOfEach → (p h : List ℕ) (first second : VerdictShape) → DueForPlan p h first → DueForPlan p h second →
+    first ≡ second
+plan_once laws p h first second one two =
+    one_due (PlacedSources p h) (λ placed verdict. verdict ≡ picture_report placed) first second (laws.plans p h)
     (λ placed was here there. here ∙ sym there) one two
+
+bytes_once : OneOfEach → (words bytes : List (List ℕ)) (first second : VerdictShape) →
+    DueForBytes words bytes first → DueForBytes words bytes second → first ≡ second
+bytes_once laws (program ∷ hosts ∷ []) (p ∷ h ∷ []) first second one two = plan_once laws p h first second one two
+bytes_once laws (program ∷ hosts ∷ events ∷ []) (p ∷ h ∷ e ∷ []) first second one two =
+    laws.runs events p h e first second one two
+bytes_once laws [] bytes first second one two = absurd one
+bytes_once laws (program ∷ []) bytes first second one two = absurd one
+bytes_once laws (program ∷ hosts ∷ []) [] first second one two = absurd one
+bytes_once laws (program ∷ hosts ∷ []) (p ∷ []) first second one two = absurd one
+bytes_once laws (program ∷ hosts ∷ []) (p ∷ h ∷ e ∷ more) first second one two = absurd one
+bytes_once laws (program ∷ hosts ∷ events ∷ []) [] first second one two = absurd one
+bytes_once laws (program ∷ hosts ∷ events ∷ []) (p ∷ []) first second one two = absurd one
+bytes_once laws (program ∷ hosts ∷ events ∷ []) (p ∷ h ∷ []) first second one two = absurd one
+bytes_once laws (program ∷ hosts ∷ events ∷ []) (p ∷ h ∷ e ∷ x ∷ more) first second one two = absurd one
+bytes_once laws (program ∷ hosts ∷ events ∷ word ∷ words) bytes first second one two = absurd one
+
+-- words for whose files something is due have a form
+form_of : (words bytes : List (List ℕ)) (verdict : VerdictShape) → DueForBytes words bytes verdict → HaveForm words
+form_of [] bytes verdict due = absurd due
+form_of (program ∷ []) bytes verdict due = absurd due
+form_of (program ∷ hosts ∷ []) bytes verdict due = inl refl
+form_of (program ∷ hosts ∷ events ∷ []) bytes verdict due = inr refl
+form_of (program ∷ hosts ∷ events ∷ word ∷ words) bytes verdict due = absurd due
+
+form_or_none : (words : List (List ℕ)) → HaveNoForm words → ¬ HaveForm words
+form_or_none words none = λ form. ⊎_elim (λ two. none.0 two) (λ three. none.1 three) form
 
 -- ---- files that tell what they hold
 
-absent_or_held : (holds : List ℕ → Option (List ℕ)) (program hosts p h : List ℕ) (place : ℕ) (file : List ℕ) →
-    IsFirstAbsent (Some holds) (program ∷ hosts ∷ []) place file → Told (Some holds) program (Some p) →
-    Told (Some holds) hosts (Some h) → ⊥
-absent_or_held holds program hosts p h place file first p_told h_told =
-    absent_not_held holds file first.absent
-    (of_all (IsHeld (Some holds)) (program ∷ hosts ∷ []) place file
-    (told_held holds program p p_told, (told_held holds hosts h h_told, tt)) first.here)
+-- they hold some bytes
+all_once : (holds : List ℕ → Option (List ℕ)) (names bytes others : List (List ℕ)) →
+    AllZip (λ file content. Told (Some holds) file (Some content)) names bytes →
+    AllZip (λ file content. Told (Some holds) file (Some content)) names others → bytes ≡ others
+all_once holds [] [] [] one two = refl
+all_once holds [] [] (o ∷ others) one two = absurd two
+all_once holds [] (b ∷ bytes) others one two = absurd one
+all_once holds (n ∷ names) [] others one two = absurd one
+all_once holds (n ∷ names) (b ∷ bytes) [] one two = absurd two
+all_once holds (n ∷ names) (b ∷ bytes) (o ∷ others) one two =
+    ap (λ x. x ∷ bytes) (held_once holds n b o one.0 two.0)
+    ∙ ap (λ xs. o ∷ xs) (all_once holds names bytes others one.1 two.1)
 
-names_once : OnePlan → (holds : List ℕ → Option (List ℕ)) (program hosts : List ℕ) (number other : ℕ)
-    (first second : VerdictShape) → DueForNames (Some holds) program hosts number first →
-    DueForNames (Some holds) program hosts other second → (number ≡ other) × (first ≡ second)
-names_once plans holds program hosts _ _ _ _ (absent place file one) (absent other second two) =
-    let same = absent_once holds (program ∷ hosts ∷ []) place other file second one two in
-    (ap (λ n. n + 1) same.0, ap no_such_file same.1)
-names_once plans holds program hosts _ _ _ _ (absent place file one) (loaded p h verdict p_told h_told due) =
-    absurd (absent_or_held holds program hosts p h place file one p_told h_told)
-names_once plans holds program hosts _ _ _ _ (loaded p h verdict p_told h_told due) (absent place file two) =
-    absurd (absent_or_held holds program hosts p h place file two p_told h_told)
-names_once plans holds program hosts _ _ _ _ (loaded p h first p_told h_told one)
-    (loaded q i second q_told i_told two) =
-    let program_same : q ≡ p = held_once holds program q p q_told p_told in
-    let hosts_same : i ≡ h = held_once holds hosts i h i_told h_told in (
-      refl,
-      bytes_once plans p h first second one
-          (subst (λ (bytes : List ℕ). DueForBytes bytes h second) program_same
-          (subst (λ (bytes : List ℕ). DueForBytes q bytes second) hosts_same two)),
-    )
+files_once : OneOfEach → (holds : List ℕ → Option (List ℕ)) (words : List (List ℕ)) (first second : VerdictShape) →
+    DueForFiles (Some holds) words first → DueForFiles (Some holds) words second → first ≡ second
+files_once laws holds words first second one two =
+    let same : two.bytes ≡ one.bytes = all_once holds words two.bytes one.bytes two.told one.told in
+    bytes_once laws words one.bytes first second one.due
+    (subst (λ (bytes : List (List ℕ)). DueForBytes words bytes second) same two.due)
+
+-- where all files are held, each is
+all_held : (holds : List ℕ → Option (List ℕ)) (names bytes : List (List ℕ)) →
+    AllZip (λ file content. Told (Some holds) file (Some content)) names bytes →
+    AllByRecursion (IsHeld (Some holds)) names
+all_held holds [] bytes told = tt
+all_held holds (n ∷ names) [] told = absurd told
+all_held holds (n ∷ names) (b ∷ bytes) told = (told_held holds n b told.0, all_held holds names bytes told.1)
+
+absent_or_held : (holds : List ℕ → Option (List ℕ)) (words : List (List ℕ)) (place : ℕ) (file : List ℕ)
+    (verdict : VerdictShape) → IsFirstAbsent (Some holds) words place file → ¬ DueForFiles (Some holds) words verdict
+absent_or_held holds words place file verdict first = λ due.
+    absent_not_held holds file first.absent
+    (of_all (IsHeld (Some holds)) words place file (all_held holds words due.bytes due.told) first.here)
 
 -- ---- words
 
-pub due_once : OnePlan → (words : List (List ℕ)) (holds : List ℕ → Option (List ℕ)) (number other : ℕ)
+pub due_once : OneOfEach → (words : List (List ℕ)) (holds : List ℕ → Option (List ℕ)) (number other : ℕ)
     (first second : VerdictShape) →
     Due words (Some holds) number first → Due words (Some holds) other second → (number ≡ other) × (first ≡ second)
-due_once plans words holds _ _ _ _ (no_words none) (no_words also) = (refl, refl)
-due_once plans words holds _ _ _ _ (no_words none) (two_words program hosts number verdict asked due) =
-    absurd (none (ap length asked))
-due_once plans words holds _ _ _ _ (two_words program hosts number verdict asked due) (no_words none) =
-    absurd (none (ap length asked))
-due_once plans words holds _ _ _ _ (two_words program hosts number first asked one)
-    (two_words other file place second asked_too two) =
-    let both : program ∷ hosts ∷ [] ≡ other ∷ file ∷ [] = sym asked ∙ asked_too in
-    let program_same : other ≡ program = cc in
-    let hosts_same : file ≡ hosts = cc in
-    names_once plans holds program hosts number place first second one
-    (subst (λ (name : List ℕ). DueForNames (Some holds) name hosts place second) program_same
-    (subst (λ (name : List ℕ). DueForNames (Some holds) other name place second) hosts_same two))
+due_once laws words holds _ _ _ _ (no_form none) (no_form also) = (refl, refl)
+due_once laws words holds _ _ _ _ (no_form none) (absent place file form two) = absurd (form_or_none words none form)
+due_once laws words holds _ _ _ _ (no_form none) (loaded verdict due) =
+    absurd (form_or_none words none (form_of words due.bytes verdict due.due))
+due_once laws words holds _ _ _ _ (absent place file form one) (no_form none) = absurd (form_or_none words none form)
+due_once laws words holds _ _ _ _ (absent place file form one) (absent other second also two) =
+    let same = absent_once holds words place other file second one two in
+    (ap (λ n. n + 1) same.0, ap no_such_file same.1)
+due_once laws words holds _ _ _ _ (absent place file form one) (loaded verdict due) =
+    absurd (absent_or_held holds words place file verdict one due)
+due_once laws words holds _ _ _ _ (loaded verdict due) (no_form none) =
+    absurd (form_or_none words none (form_of words due.bytes verdict due.due))
+due_once laws words holds _ _ _ _ (loaded verdict due) (absent place file form two) =
+    absurd (absent_or_held holds words place file verdict two due)
+due_once laws words holds _ _ _ _ (loaded first one) (loaded second two) =
+    (refl, files_once laws holds words first second one two)
 
 -- ---- what is due for words and for what the files did
 
-pub answer_once : OnePlan → (words : List (List ℕ)) (files : FilesChange) (holds : List ℕ → Option (List ℕ))
+-- for a file whose load failed its line is due
+pub due_or_fault : (words : List (List ℕ)) (files : FilesChange) (verdict : VerdictShape) → IsDue words files verdict →
+    IsDueOrFault (Due words) files verdict
+due_or_fault words files verdict due =
+    ⊎_elim (λ by_files. inl by_files) (λ fault. inr (fault.1.rose, fault.1.verdict_is)) due
+
+pub answer_once : OneOfEach → (words : List (List ℕ)) (files : FilesChange) (holds : List ℕ → Option (List ℕ))
     (first second : VerdictShape) →
     files.held ≡ Some holds → files.faults_before < last_count → IsDue words files first →
     IsDue words files second → first ≡ second
-answer_once plans words files holds first second tells below one two =
-    ⊎_elim
-    (λ by_files. ⊎_elim
-    (λ also. (due_once plans words holds by_files.0 also.0 first second
-    (subst (λ (held : Option (List ℕ → Option (List ℕ))). Due words held by_files.0 first) tells by_files.1)
-    (subst (λ (held : Option (List ℕ → Option (List ℕ))). Due words held also.0 second) tells also.1)).1)
-    (λ fault. absurd (no_fault_and_fault files.faults_before files.faults_after below by_files.2.no_fault
-    fault.3.rose))
-    two)
-    (λ fault. ⊎_elim
-    (λ also. absurd (no_fault_and_fault files.faults_before files.faults_after below also.2.no_fault
-    fault.3.rose))
-    (λ also. fault.3.verdict_is ∙ sym also.3.verdict_is)
-    two)
-    one
+answer_once laws words files holds first second tells below one two =
+    due_or_fault_once (Due words) files holds (due_once laws words holds) tells below first second
+    (due_or_fault words files first one) (due_or_fault words files second two)

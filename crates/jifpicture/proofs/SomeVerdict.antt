@@ -1,49 +1,115 @@
 -- For all words something is due, whatever the files hold and whether they tell or not.
-use Rattle.std.proofs.Common.{◌≡◌, ℕ, List, [], ◌∷◌, Option, Some, None, refl, arith}
+use Rattle.std.proofs.Common.{◌≡◌, ◌⊎◌, ℕ, suc, ◌+◌, List, [], ◌∷◌, length, Option, Some, None, refl, inl, inr}
+use Rattle.std.proofs.Common.{⊎_elim, arith}
+use Rattle.std.specs.List.{AllZip}
+use Rattle.front_end.specs.Loads.{IsFirstAbsent, Told}
 use Rattle.front_end.specs.PlacedSources.{PlacedSources}
 use Rattle.front_end.specs.Verdicts.{VerdictShape, no_such_file}
-use Rattle.front_end.proofs.SomeStages.{HasOutcome, HasVerdict, some_due}
-use Rattle.jifpicture.specs.Due.{DueForBytes, DueForNames, absent, loaded, Due, no_words, two_words, usage}
-use Rattle.jifpicture.specs.Picture.{picture_report}
 use Rattle.front_end.proofs.AbsentFiles.{told_held}
+use Rattle.front_end.proofs.SomeStages.{HasOutcome, HasVerdict, some_due}
+use Rattle.run_picture.specs.RunDue.{DueForChart}
+use Rattle.jifpicture.specs.Due.{DueForBytes, Due, no_form, absent, loaded, HaveForm, usage}
+use Rattle.jifpicture.specs.Picture.{picture_report}
 
--- a program and a host file have some plan, or are refused
-abbrev pub SomePlan : Type 0
-SomePlan = (program hosts : List ℕ) → HasOutcome (PlacedSources program hosts)
+-- a program and a host file have some plan, or are refused, and with a script there is something due
+pub record SomeOfEach : Type 0 where
+  pub plans : (program hosts : List ℕ) → HasOutcome (PlacedSources program hosts)
+  pub runs : (file program hosts script : List ℕ) → HasVerdict (DueForChart file program hosts script)
 
-bytes_due : SomePlan → (p h : List ℕ) → HasVerdict (DueForBytes p h)
-bytes_due plans p h =
-    some_due (PlacedSources p h) (λ placed verdict. verdict ≡ picture_report placed) (plans p h)
+-- ---- files that are all held
+
+-- what the files hold, where they tell
+abbrev Held : Type 0
+Held = Option (List ℕ → Option (List ℕ))
+
+-- there are bytes for each of the files
+abbrev AreHeld : Held → (files bytes : List (List ℕ)) → Type 0
+AreHeld held files bytes = AllZip (λ file content. Told held file (Some content)) files bytes
+
+plan_some : SomeOfEach → (held : Held) (program hosts : List ℕ) (bytes : List (List ℕ)) →
+    AreHeld held (program ∷ hosts ∷ []) bytes → HasVerdict (DueForBytes (program ∷ hosts ∷ []) bytes)
+plan_some laws held program hosts (p ∷ h ∷ []) all =
+    some_due (PlacedSources p h) (λ placed verdict. verdict ≡ picture_report placed) (laws.plans p h)
     (λ placed was. (picture_report placed, refl))
+plan_some laws held program hosts [] all = absurd all
+plan_some laws held program hosts (p ∷ []) all = absurd all.1
+plan_some laws held program hosts (p ∷ h ∷ e ∷ more) all = absurd all.1.1
+
+run_some : SomeOfEach → (held : Held) (program hosts events : List ℕ) (bytes : List (List ℕ)) →
+    AreHeld held (program ∷ hosts ∷ events ∷ []) bytes →
+    HasVerdict (DueForBytes (program ∷ hosts ∷ events ∷ []) bytes)
+run_some laws held program hosts events (p ∷ h ∷ e ∷ []) all = laws.runs events p h e
+run_some laws held program hosts events [] all = absurd all
+run_some laws held program hosts events (p ∷ []) all = absurd all.1
+run_some laws held program hosts events (p ∷ h ∷ []) all = absurd all.1.1
+run_some laws held program hosts events (p ∷ h ∷ e ∷ x ∷ more) all = absurd all.1.1.1
+
+-- ---- files of which one may be absent
+
+abbrev AnAbsent : Held → List (List ℕ) → Type 0
+AnAbsent held files = (place : ℕ) × (file : List ℕ) × IsFirstAbsent held files place file
+
+abbrev AllTheirBytes : Held → List (List ℕ) → Type 0
+AllTheirBytes held files = (bytes : List (List ℕ)) × AreHeld held files bytes
+
+-- a first file, and others
+first_told : (holds : List ℕ → Option (List ℕ)) (first : List ℕ) (files : List (List ℕ)) (found : Option (List ℕ)) →
+    holds first ≡ found → AnAbsent (Some holds) files ⊎ AllTheirBytes (Some holds) files →
+    AnAbsent (Some holds) (first ∷ files) ⊎ AllTheirBytes (Some holds) (first ∷ files)
+first_told holds first files None is others = inl (0, first, record { here = refl; absent = is; before = tt })
+first_told holds first files (Some bytes) is (inl (place, file, lacks)) =
+    inl (
+      suc place,
+      file,
+      record {
+        here = lacks.here;
+        absent = lacks.absent;
+        before = (told_held holds first bytes is, lacks.before);
+      },
+    )
+first_told holds first files (Some bytes) is (inr (others, held)) = inr (bytes ∷ others, (is, held))
+
+files_told : (holds : List ℕ → Option (List ℕ)) (files : List (List ℕ)) →
+    AnAbsent (Some holds) files ⊎ AllTheirBytes (Some holds) files
+files_told holds [] = inr ([], tt)
+files_told holds (first ∷ files) = first_told holds first files (holds first) refl (files_told holds files)
+
+-- files that do not tell may hold nothing but empty texts
+none_told : (files : List (List ℕ)) → AllTheirBytes None files
+none_told [] = ([], tt)
+none_told (first ∷ files) = let others = none_told files in ([] ∷ others.0, (tt, others.1))
+
+any_told : (held : Held) (files : List (List ℕ)) → AnAbsent held files ⊎ AllTheirBytes held files
+any_told None files = inr (none_told files)
+any_told (Some holds) files = files_told holds files
+
+-- ---- words
 
 -- a number of loads and a verdict
 abbrev pub HasDue : (ℕ → VerdictShape → Type 0) → Type 0
 HasDue P = (number : ℕ) × (verdict : VerdictShape) × P number verdict
 
--- two files, of which each is held or is not
-told_due : SomePlan → (holds : List ℕ → Option (List ℕ)) (program hosts : List ℕ) (p h : Option (List ℕ)) →
-    holds program ≡ p → holds hosts ≡ h → HasDue (DueForNames (Some holds) program hosts)
-told_due plans holds program hosts None h p_is h_is =
-    (1, no_such_file program, absent 0 program (record { here = refl; absent = p_is; before = tt }))
-told_due plans holds program hosts (Some p) None p_is h_is = (
-  2,
-  no_such_file hosts,
-  absent 1 hosts (record { here = refl; absent = h_is; before = (told_held holds program p p_is, tt) }),
-)
-told_due plans holds program hosts (Some p) (Some h) p_is h_is =
-    let due = bytes_due plans p h in (2, due.0, loaded p h due.0 p_is h_is due.1)
+-- words of a form, for whose bytes something is due
+form_some : (held : Held) (words : List (List ℕ)) → HaveForm words →
+    ((bytes : List (List ℕ)) → AreHeld held words bytes → HasVerdict (DueForBytes words bytes)) →
+    HasDue (Due words held)
+form_some held words form some =
+    ⊎_elim
+    (λ lacks. (lacks.0 + 1, no_such_file lacks.1, absent lacks.0 lacks.1 form lacks.2))
+    (λ all. let due = some all.0 all.1 in (
+      length words,
+      due.0,
+      loaded due.0 (record { bytes = all.0; told = all.1; due = due.1 }),
+    ))
+    (any_told held words)
 
-names_due : SomePlan → (held : Option (List ℕ → Option (List ℕ))) (program hosts : List ℕ) →
-    HasDue (DueForNames held program hosts)
-names_due plans None program hosts =
-    let due = bytes_due plans [] [] in (2, due.0, loaded [] [] due.0 tt tt due.1)
-names_due plans (Some holds) program hosts =
-    told_due plans holds program hosts (holds program) (holds hosts) refl refl
-
-pub due_some : SomePlan → (words : List (List ℕ)) (held : Option (List ℕ → Option (List ℕ))) → HasDue (Due words held)
-due_some plans [] held = (0, usage, no_words (λ same. omega arith))
-due_some plans (word ∷ []) held = (0, usage, no_words (λ same. omega arith))
-due_some plans (program ∷ hosts ∷ []) held =
-    let due = names_due plans held program hosts in
-    (due.0, due.1, two_words program hosts due.0 due.1 refl due.2)
-due_some plans (one ∷ two ∷ three ∷ others) held = (0, usage, no_words (λ same. omega arith))
+pub due_some : SomeOfEach → (words : List (List ℕ)) (held : Option (List ℕ → Option (List ℕ))) →
+    HasDue (Due words held)
+due_some laws [] held = (0, usage, no_form ((λ same. omega arith), (λ same. omega arith)))
+due_some laws (word ∷ []) held = (0, usage, no_form ((λ same. omega arith), (λ same. omega arith)))
+due_some laws (program ∷ hosts ∷ []) held =
+    form_some held (program ∷ hosts ∷ []) (inl refl) (plan_some laws held program hosts)
+due_some laws (program ∷ hosts ∷ events ∷ []) held =
+    form_some held (program ∷ hosts ∷ events ∷ []) (inr refl) (run_some laws held program hosts events)
+due_some laws (one ∷ two ∷ three ∷ four ∷ others) held =
+    (0, usage, no_form ((λ same. omega arith), (λ same. omega arith)))

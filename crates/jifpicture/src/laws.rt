@@ -40,6 +40,7 @@ use jif_resolve::program_laws;
 use plan_picture::plan_laws;
 use plan_ways::way_laws;
 use releasing_statements::release_laws;
+use run_picture::run_picture_laws;
 use statement_texts::text_laws;
 
 /// Laws of the picture of a program and of what is due, for who reads the one or reasons about the other. The call does
@@ -111,10 +112,16 @@ pub fn picture_laws()
     ensures some_verdict { (words : List (List ℕ)) (held : Option (List ℕ → Option (List ℕ))) →
         (number : ℕ) × (verdict : VerdictShape) × Due words held number verdict }
 
-    // Worked: no words are due the usage line after no load, and where no file is held, two are due the line that the
-    // program is absent, after one load.
+    // Worked: no words, and four, are due the usage line after no load. Where no file is held, two words are due the
+    // line that the program is absent, after one load. Where the program is held and the host file is absent, three are
+    // due the line that says so, after two loads.
     ensures worked_no_words { (held : Option (List ℕ → Option (List ℕ))) → Due [] held 0 usage }
+    ensures worked_four_words { (held : Option (List ℕ → Option (List ℕ))) →
+        Due (codes "P" ∷ codes "H" ∷ codes "E" ∷ codes "F" ∷ []) held 0 usage }
     ensures worked_absent { Due (codes "P" ∷ codes "H" ∷ []) (Some (λ name. None)) 1 (no_such_file (codes "P")) }
+    ensures worked_no_hosts { (holds : List ℕ → Option (List ℕ)) (program : List ℕ) →
+        holds (codes "P") ≡ Some program → holds (codes "H") ≡ None →
+        Due (codes "P" ∷ codes "H" ∷ codes "E" ∷ []) (Some holds) 2 (no_such_file (codes "H")) }
 {
     source_laws();
     host_file_laws();
@@ -124,4 +131,5 @@ pub fn picture_laws()
     way_laws();
     release_laws();
     text_laws();
+    run_picture_laws();
 }

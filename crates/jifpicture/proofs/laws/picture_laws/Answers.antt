@@ -1,19 +1,19 @@
-use Rattle.std.proofs.Common.{codes, refl, arith, ◌≡◌}
+use Rattle.std.proofs.Common.{codes, refl, inl, inr, arith}
 use Rattle.front_end.specs.PlacedCode.{code_of}
-use Rattle.front_end.specs.Verdicts.{no_such_file}
+use Rattle.front_end.proofs.AbsentFiles.{told_held}
 use Rattle.plan_ways.specs.Asks.{asked_ways}
 use Rattle.plan_ways.specs.Whole as ways
-use Rattle.jifpicture.specs.Due.{absent, no_words, two_words}
+use Rattle.jifpicture.specs.Due.{absent, no_form}
 use Rattle.jifpicture.specs.Picture.{sheet_of}
 use Rattle.jifpicture.proofs.Between.{all_between}
 use Rattle.jifpicture.proofs.Numbers.{each_field, each_statement}
-use Rattle.jifpicture.proofs.OneVerdict.{answer_once, due_once}
+use Rattle.jifpicture.proofs.OneVerdict.{OneOfEach, answer_once, due_once}
 use Rattle.jifpicture.proofs.Read.{ReadLaws, marked, read_placed}
 use Rattle.jifpicture.proofs.Shown.{as_many_fields, as_many_hosts, field_shown, host_shown}
-use Rattle.jifpicture.proofs.SomeVerdict.{due_some}
+use Rattle.jifpicture.proofs.SomeVerdict.{SomeOfEach, due_some}
 use Rattle.jifpicture.proofs.laws.picture_laws.Goals as goal
 
-read_laws : (c : goal.After-text_laws) → ReadLaws
+read_laws : (c : goal.After-run_picture_laws) → ReadLaws
 read_laws c = record {
   named = c.named_laws.ensures.of_text;
   numbered = c.program_laws.ensures.statements;
@@ -70,19 +70,32 @@ returns-clause-between c = λ placed.
     let tree = placed.source.tree in
     all_between (ways.sheet_of code placed.plan (ways.known_of code tree)) (ways.places_in code tree)
 
+one_of_each : (c : goal.After-run_picture_laws) → OneOfEach
+one_of_each c = record { plans = c.source_laws.ensures.one_plan; runs = c.run_picture_laws.ensures.one }
+
+some_of_each : (c : goal.After-run_picture_laws) → SomeOfEach
+some_of_each c = record { plans = c.source_laws.ensures.some_plan; runs = c.run_picture_laws.ensures.some }
+
 pub returns-clause-one_verdict : goal.returns-clause-one_verdict
-returns-clause-one_verdict c = due_once c.source_laws.ensures.one_plan
+returns-clause-one_verdict c = due_once (one_of_each c)
 
 pub returns-clause-one_answer : goal.returns-clause-one_answer
-returns-clause-one_answer c = answer_once c.source_laws.ensures.one_plan
+returns-clause-one_answer c = answer_once (one_of_each c)
 
 pub returns-clause-some_verdict : goal.returns-clause-some_verdict
-returns-clause-some_verdict c = due_some c.source_laws.ensures.some_plan
+returns-clause-some_verdict c = due_some (some_of_each c)
 
 pub returns-clause-worked_no_words : goal.returns-clause-worked_no_words
-returns-clause-worked_no_words c = λ held. no_words (λ same. omega arith)
+returns-clause-worked_no_words c = λ held. no_form ((λ same. omega arith), (λ same. omega arith))
+
+pub returns-clause-worked_four_words : goal.returns-clause-worked_four_words
+returns-clause-worked_four_words c = λ held. no_form ((λ same. omega arith), (λ same. omega arith))
 
 pub returns-clause-worked_absent : goal.returns-clause-worked_absent
 returns-clause-worked_absent c =
-    two_words (codes "P") (codes "H") 1 (no_such_file (codes "P")) refl
-    (absent 0 (codes "P") (record { here = refl; absent = refl; before = tt }))
+    absent 0 (codes "P") (inl refl) (record { here = refl; absent = refl; before = tt })
+
+pub returns-clause-worked_no_hosts : goal.returns-clause-worked_no_hosts
+returns-clause-worked_no_hosts c = λ holds program first second.
+    absent 1 (codes "H") (inr refl)
+    (record { here = refl; absent = second; before = (told_held holds (codes "P") program first, tt) })

@@ -5,7 +5,7 @@ use Rattle.jifpicture.proofs.top.jifpicture.Goals as goal
 
 pub returns-clause-answer : goal.returns-clause-answer
 returns-clause-answer g c =
-    answers_to (codes "jifpicture") _ _ c.due-found.result _ _ _ tt c.due-found.ensures.due c.answer.ensures.due c.answer.ensures.undue
+    answers_to (codes "jifpicture") _ _ c.due_verdict-found.result _ _ _ tt c.due_verdict-found.ensures.due c.answer.ensures.due c.answer.ensures.undue
 
 pub returns-clause-complete : goal.returns-clause-complete
 returns-clause-complete g c = λ holds number status text tells due calm below quiet under.

@@ -1,0 +1,12 @@
+mod FlightLists
+mod HostLists
+mod KeptFields
+mod LaneCounts
+mod LetterWalks
+mod ListWalks
+mod ShownRows
+mod ToldLetters
+mod TopEntries
+mod TrackLists
+mod TrustedAlike
+mod WrittenWords

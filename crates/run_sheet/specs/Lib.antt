@@ -1,0 +1,13 @@
+pub mod ChartColumns
+pub mod ChartLaws
+pub mod ChartRows
+pub mod ChartStrokes
+pub mod Charts
+pub mod FieldMarks
+pub mod FlightsLeft
+pub mod ReasonWords
+pub mod RunEvents
+pub mod RunSources
+pub mod SendLanes
+pub mod StackNotes
+pub mod StatementNotes

@@ -1,9 +1,0 @@
-use Rattle.std.proofs.Common.{refl}
-use Rattle.front_end.specs.Loads.{files_change}
-use Rattle.split_cli.proofs.MakeDue.{made_due}
-use Rattle.split_cli.proofs.commands.make.due_for_make.Goals as goal
-
-pub returns : goal.returns
-returns g c =
-    made_due c.args.statements (files_change g.F.Files c.args.files.now c.args.files.now) c.due_for_made.result
-    (record { loads = refl; no_fault = refl }) (record { saves = refl; held = refl }) c.due_for_made.ensures
