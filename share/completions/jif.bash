@@ -97,7 +97,7 @@ _jifexplain() {
 }
 
 _jifpicture() {
-  _jif_in_order .jif .toml
+  _jif_in_order .jif .toml ''
 }
 
 _jiftokens() {
