@@ -6,6 +6,7 @@
 -- `ReadSources`, `ReadLaws`: what is known of a program that was accepted, and that it can be split
 -- `NativeSources` and what it cites: its tree is that of a program of the code
 -- `Stops`, `LoadedFiles`, `Loading`: what loads say of what is held
+-- `AbsentFiles`, `HeldFiles`: of files that tell, which is the first that is absent, or what all of them hold
 -- `BlockParts`: what a walk of nested blocks collects
 -- `Answering`: what a put leaves, and what follows of answers
 -- `DueByFiles`: what is due by what files hold, or for a load that failed, is one verdict
@@ -13,6 +14,7 @@ pub mod AbsentFiles
 pub mod Answering
 pub mod BlockParts
 pub mod DueByFiles
+pub mod HeldFiles
 pub mod LineCounts
 pub mod ListLimits
 pub mod LoadedFiles

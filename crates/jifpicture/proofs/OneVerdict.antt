@@ -1,15 +1,15 @@
 -- For words and for files that tell what they hold, one verdict is due.
 use Rattle.std.proofs.Common.{◌≡◌, ℕ, ◌+◌, ◌<◌, List, [], ◌∷◌, Option, Some, refl, sym, ap, ◌∙◌}
 use Rattle.std.proofs.Common.{subst, inl, inr, ⊎_elim}
-use Rattle.std.specs.List.{AllByRecursion, AllZip}
 use Rattle.js_base.specs.Counts.{last_count}
-use Rattle.front_end.specs.Loads.{FilesChange, Told, IsHeld, IsFirstAbsent}
+use Rattle.front_end.specs.Loads.{FilesChange, IsHeld, IsFirstAbsent}
 use Rattle.front_end.specs.PlacedSources.{PlacedSources}
 use Rattle.front_end.specs.Verdicts.{VerdictShape, no_such_file}
 use Rattle.front_end.proofs.DueByFiles.{IsDueOrFault, due_or_fault_once}
 use Rattle.front_end.proofs.Places.{of_all}
 use Rattle.front_end.proofs.Stages.{IsOne, one_due}
-use Rattle.front_end.proofs.AbsentFiles.{held_once, told_held, absent_not_held, absent_once}
+use Rattle.front_end.proofs.AbsentFiles.{absent_not_held, absent_once}
+use Rattle.front_end.proofs.HeldFiles.{all_held, all_once}
 use Rattle.run_picture.specs.RunDue.{DueForChart}
 use Rattle.jifpicture.specs.Due.{DueForBytes, DueForFiles, DueForPlan, Due, no_form, absent, loaded, HaveForm}
 use Rattle.jifpicture.specs.Due.{HaveNoForm, IsDue}
@@ -58,33 +58,12 @@ form_or_none words none = λ form. ⊎_elim (λ two. none.0 two) (λ three. none
 
 -- ---- files that tell what they hold
 
--- they hold some bytes
-all_once : (holds : List ℕ → Option (List ℕ)) (names bytes others : List (List ℕ)) →
-    AllZip (λ file content. Told (Some holds) file (Some content)) names bytes →
-    AllZip (λ file content. Told (Some holds) file (Some content)) names others → bytes ≡ others
-all_once holds [] [] [] one two = refl
-all_once holds [] [] (o ∷ others) one two = absurd two
-all_once holds [] (b ∷ bytes) others one two = absurd one
-all_once holds (n ∷ names) [] others one two = absurd one
-all_once holds (n ∷ names) (b ∷ bytes) [] one two = absurd two
-all_once holds (n ∷ names) (b ∷ bytes) (o ∷ others) one two =
-    ap (λ x. x ∷ bytes) (held_once holds n b o one.0 two.0)
-    ∙ ap (λ xs. o ∷ xs) (all_once holds names bytes others one.1 two.1)
-
 files_once : OneOfEach → (holds : List ℕ → Option (List ℕ)) (words : List (List ℕ)) (first second : VerdictShape) →
     DueForFiles (Some holds) words first → DueForFiles (Some holds) words second → first ≡ second
 files_once laws holds words first second one two =
     let same : two.bytes ≡ one.bytes = all_once holds words two.bytes one.bytes two.told one.told in
     bytes_once laws words one.bytes first second one.due
     (subst (λ (bytes : List (List ℕ)). DueForBytes words bytes second) same two.due)
-
--- where all files are held, each is
-all_held : (holds : List ℕ → Option (List ℕ)) (names bytes : List (List ℕ)) →
-    AllZip (λ file content. Told (Some holds) file (Some content)) names bytes →
-    AllByRecursion (IsHeld (Some holds)) names
-all_held holds [] bytes told = tt
-all_held holds (n ∷ names) [] told = absurd told
-all_held holds (n ∷ names) (b ∷ bytes) told = (told_held holds n b told.0, all_held holds names bytes told.1)
 
 absent_or_held : (holds : List ℕ → Option (List ℕ)) (words : List (List ℕ)) (place : ℕ) (file : List ℕ)
     (verdict : VerdictShape) → IsFirstAbsent (Some holds) words place file → ¬ DueForFiles (Some holds) words verdict

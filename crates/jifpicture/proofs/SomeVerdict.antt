@@ -1,11 +1,9 @@
 -- For all words something is due, whatever the files hold and whether they tell or not.
-use Rattle.std.proofs.Common.{◌≡◌, ◌⊎◌, ℕ, suc, ◌+◌, List, [], ◌∷◌, length, Option, Some, None, refl, inl, inr}
+use Rattle.std.proofs.Common.{◌≡◌, ◌⊎◌, ℕ, ◌+◌, List, [], ◌∷◌, length, Option, refl, inl, inr}
 use Rattle.std.proofs.Common.{⊎_elim, arith}
-use Rattle.std.specs.List.{AllZip}
-use Rattle.front_end.specs.Loads.{IsFirstAbsent, Told}
 use Rattle.front_end.specs.PlacedSources.{PlacedSources}
 use Rattle.front_end.specs.Verdicts.{VerdictShape, no_such_file}
-use Rattle.front_end.proofs.AbsentFiles.{told_held}
+use Rattle.front_end.proofs.HeldFiles.{AreHeld, Held, any_told}
 use Rattle.front_end.proofs.SomeStages.{HasOutcome, HasVerdict, some_due}
 use Rattle.run_picture.specs.RunDue.{DueForChart}
 use Rattle.jifpicture.specs.Due.{DueForBytes, Due, no_form, absent, loaded, HaveForm, usage}
@@ -17,14 +15,6 @@ pub record SomeOfEach : Type 0 where
   pub runs : (file program hosts script : List ℕ) → HasVerdict (DueForChart file program hosts script)
 
 -- ---- files that are all held
-
--- what the files hold, where they tell
-abbrev Held : Type 0
-Held = Option (List ℕ → Option (List ℕ))
-
--- there are bytes for each of the files
-abbrev AreHeld : Held → (files bytes : List (List ℕ)) → Type 0
-AreHeld held files bytes = AllZip (λ file content. Told held file (Some content)) files bytes
 
 plan_some : SomeOfEach → (held : Held) (program hosts : List ℕ) (bytes : List (List ℕ)) →
     AreHeld held (program ∷ hosts ∷ []) bytes → HasVerdict (DueForBytes (program ∷ hosts ∷ []) bytes)
@@ -43,45 +33,6 @@ run_some laws held program hosts events [] all = absurd all
 run_some laws held program hosts events (p ∷ []) all = absurd all.1
 run_some laws held program hosts events (p ∷ h ∷ []) all = absurd all.1.1
 run_some laws held program hosts events (p ∷ h ∷ e ∷ x ∷ more) all = absurd all.1.1.1
-
--- ---- files of which one may be absent
-
-abbrev AnAbsent : Held → List (List ℕ) → Type 0
-AnAbsent held files = (place : ℕ) × (file : List ℕ) × IsFirstAbsent held files place file
-
-abbrev AllTheirBytes : Held → List (List ℕ) → Type 0
-AllTheirBytes held files = (bytes : List (List ℕ)) × AreHeld held files bytes
-
--- a first file, and others
-first_told : (holds : List ℕ → Option (List ℕ)) (first : List ℕ) (files : List (List ℕ)) (found : Option (List ℕ)) →
-    holds first ≡ found → AnAbsent (Some holds) files ⊎ AllTheirBytes (Some holds) files →
-    AnAbsent (Some holds) (first ∷ files) ⊎ AllTheirBytes (Some holds) (first ∷ files)
-first_told holds first files None is others = inl (0, first, record { here = refl; absent = is; before = tt })
-first_told holds first files (Some bytes) is (inl (place, file, lacks)) =
-    inl (
-      suc place,
-      file,
-      record {
-        here = lacks.here;
-        absent = lacks.absent;
-        before = (told_held holds first bytes is, lacks.before);
-      },
-    )
-first_told holds first files (Some bytes) is (inr (others, held)) = inr (bytes ∷ others, (is, held))
-
-files_told : (holds : List ℕ → Option (List ℕ)) (files : List (List ℕ)) →
-    AnAbsent (Some holds) files ⊎ AllTheirBytes (Some holds) files
-files_told holds [] = inr ([], tt)
-files_told holds (first ∷ files) = first_told holds first files (holds first) refl (files_told holds files)
-
--- files that do not tell may hold nothing but empty texts
-none_told : (files : List (List ℕ)) → AllTheirBytes None files
-none_told [] = ([], tt)
-none_told (first ∷ files) = let others = none_told files in ([] ∷ others.0, (tt, others.1))
-
-any_told : (held : Held) (files : List (List ℕ)) → AnAbsent held files ⊎ AllTheirBytes held files
-any_told None files = inr (none_told files)
-any_told (Some holds) files = files_told holds files
 
 -- ---- words
 

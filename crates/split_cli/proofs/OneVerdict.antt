@@ -2,14 +2,13 @@
 use Rattle.std.proofs.Common.{◌≡◌, ℕ, ◌+◌, ◌<◌, List, [], ◌∷◌, Option, Some, refl, sym, ap, ◌∙◌}
 use Rattle.std.proofs.Common.{codes, subst, inl, inr, ⊎_elim}
 use Rattle.std.specs.Fmt.{decimal}
-use Rattle.std.specs.List.{AllZip, AllByRecursion}
 use Rattle.js_base.specs.Counts.{last_count, Rose}
 use Rattle.js_base.specs.declared.status.Status.TheVariants.{Done}
 use Rattle.split_words.specs.Commands.{CommandShape, Check, Run, Replay, Drive, Compare, Split, Make}
 use Rattle.split_words.specs.Commands.{IsCommand, words_of, files_of}
 use Rattle.front_end.specs.declared.step_counts.TheConstants.{STEPS}
 use Rattle.front_end.specs.Verdicts.{VerdictShape, Print, no_such_file, file_fault}
-use Rattle.front_end.specs.Loads.{FilesChange, Told, IsHeld, IsFirstAbsent}
+use Rattle.front_end.specs.Loads.{FilesChange, IsHeld, IsFirstAbsent}
 use Rattle.front_end.specs.Sources.{Sources}
 use Rattle.front_end.specs.PlacedSources.{PlacedSources}
 use Rattle.split_cli.specs.Check.{plan_report}
@@ -33,7 +32,8 @@ use Rattle.front_end.proofs.Answering.{no_fault_and_fault}
 use Rattle.front_end.proofs.Places.{of_all}
 use Rattle.front_end.proofs.Stages.{IsOne, one_due}
 use Rattle.front_end.proofs.StepCounts.{same_steps}
-use Rattle.front_end.proofs.AbsentFiles.{held_once, told_held, absent_not_held, absent_once}
+use Rattle.front_end.proofs.AbsentFiles.{absent_not_held, absent_once}
+use Rattle.front_end.proofs.HeldFiles.{all_held, all_once}
 use Rattle.split_words.proofs.MadeCounts.{as_steps}
 
 -- what is known of the parts of a command
@@ -100,34 +100,12 @@ bytes_once laws (Make statements) (p ∷ more) first second one two = absurd one
 
 -- ---- what is due for a command
 
--- files that tell hold some bytes
-all_once : (holds : List ℕ → Option (List ℕ)) (names bytes others : List (List ℕ)) →
-    AllZip (λ file content. Told (Some holds) file (Some content)) names bytes →
-    AllZip (λ file content. Told (Some holds) file (Some content)) names others → bytes ≡ others
-all_once holds [] [] [] one two = refl
-all_once holds [] [] (o ∷ others) one two = absurd two
-all_once holds [] (b ∷ bytes) others one two = absurd one
-all_once holds (n ∷ names) [] others one two = absurd one
-all_once holds (n ∷ names) (b ∷ bytes) [] one two = absurd two
-all_once holds (n ∷ names) (b ∷ bytes) (o ∷ others) one two =
-    ap (λ x. x ∷ bytes) (held_once holds n b o one.0 two.0)
-    ∙ ap (λ xs. o ∷ xs) (all_once holds names bytes others one.1 two.1)
-
 files_once : AllLaws → (holds : List ℕ → Option (List ℕ)) (command : CommandShape) (first second : VerdictShape) →
     DueForFiles (Some holds) command first → DueForFiles (Some holds) command second → first ≡ second
 files_once laws holds command first second one two =
     let same : two.bytes ≡ one.bytes = all_once holds (files_of command) two.bytes one.bytes two.told one.told in
     bytes_once laws command one.bytes first second one.due
     (subst (λ (bytes : List (List ℕ)). DueForBytes command bytes second) same two.due)
-
--- where all files are held, each is
-all_held : (holds : List ℕ → Option (List ℕ)) (names bytes : List (List ℕ)) →
-    AllZip (λ file content. Told (Some holds) file (Some content)) names bytes →
-    AllByRecursion (IsHeld (Some holds)) names
-all_held holds [] bytes told = tt
-all_held holds (n ∷ names) [] told = absurd told
-all_held holds (n ∷ names) (b ∷ bytes) told =
-    (told_held holds n b told.0, all_held holds names bytes told.1)
 
 absent_or_held : (holds : List ℕ → Option (List ℕ)) (command : CommandShape) (place : ℕ) (file : List ℕ)
     (verdict : VerdictShape) →

@@ -1,7 +1,5 @@
 -- For all words something is due, whatever the files hold and whether they tell or not.
-use Rattle.std.proofs.Common.{◌≡◌, ◌⊎◌, ℕ, suc, ◌+◌, List, [], ◌∷◌, length, Option, Some, None, refl, ⊎_elim}
-use Rattle.std.proofs.Common.{inl, inr}
-use Rattle.std.specs.List.{AllZip}
+use Rattle.std.proofs.Common.{◌≡◌, ◌⊎◌, ℕ, ◌+◌, List, [], ◌∷◌, length, refl, ⊎_elim}
 use Rattle.js_base.specs.declared.status.Status.TheVariants.{Done}
 use Rattle.front_end.specs.declared.step_counts.TheConstants.{STEPS}
 use Rattle.split_cli.specs.Check.{plan_report}
@@ -10,7 +8,6 @@ use Rattle.split_words.specs.Commands.{CommandShape, Check, Run, Replay, Drive, 
 use Rattle.run_comparison.specs.Compare.{DueForCompare}
 use Rattle.split_cli.specs.Drive.{DueForDrive, drive_text}
 use Rattle.split_cli.specs.Due.{DueForBytes, DueForCommand, absent, loaded, Due, no_words, for_command}
-use Rattle.front_end.specs.Loads.{Told, IsFirstAbsent}
 use Rattle.made_laws.specs.MadePrograms.{made_hosts, made_program}
 use Rattle.split_cli.specs.Making.{DueForMade, made_text}
 use Rattle.front_end.specs.PlacedSources.{PlacedSource, PlacedSources}
@@ -23,7 +20,7 @@ use Rattle.front_end.specs.Verdicts.{VerdictShape, Print, usage, no_such_file}
 use Rattle.jif_tree.specs.Trees.{program_tree}
 use Rattle.front_end.proofs.NativeParts.{IsSeen}
 use Rattle.front_end.proofs.NativeSources.{NativeLaws, source_seen}
-use Rattle.front_end.proofs.AbsentFiles.{told_held}
+use Rattle.front_end.proofs.HeldFiles.{AreHeld, Held, any_told}
 use Rattle.split_cli.proofs.SomeCompare.{CompareCauses, compare_some}
 use Rattle.split_cli.proofs.SomeDrive.{CodeLaws, drive_some}
 use Rattle.front_end.proofs.ReadSources.{source_given}
@@ -54,14 +51,6 @@ placed_seen laws program hosts placed was =
     source_seen laws program hosts placed.source (source_given program hosts placed was)
 
 -- ---- files that are all held
-
--- What the files hold, where they tell.
-abbrev Held : Type 0
-Held = Option (List ℕ → Option (List ℕ))
-
--- there are bytes for each of the files
-abbrev AreHeld : Held → List (List ℕ) → List (List ℕ) → Type 0
-AreHeld held files bytes = AllZip (λ file content. Told held file (Some content)) files bytes
 
 bytes_due : AllCauses → (files : Held) (command : CommandShape) (bytes : List (List ℕ)) →
     AreHeld files (files_of command) bytes → HasVerdict (DueForBytes command bytes)
@@ -117,46 +106,6 @@ bytes_due laws files (Split program hosts out) [] held = absurd held
 bytes_due laws files (Split program hosts out) (p ∷ []) held = absurd held.1
 bytes_due laws files (Split program hosts out) (p ∷ h ∷ s ∷ more) held = absurd held.1.1
 bytes_due laws files (Make statements) (p ∷ more) held = absurd held
-
--- ---- files of which one may be absent
-
-abbrev AnAbsent : Held → List (List ℕ) → Type 0
-AnAbsent held files = (place : ℕ) × (file : List ℕ) × IsFirstAbsent held files place file
-
-abbrev AllTheirBytes : Held → List (List ℕ) → Type 0
-AllTheirBytes held files = (bytes : List (List ℕ)) × AreHeld held files bytes
-
--- a first file, and others
-first_told : (holds : List ℕ → Option (List ℕ)) (first : List ℕ) (files : List (List ℕ)) (found : Option (List ℕ)) →
-    holds first ≡ found → AnAbsent (Some holds) files ⊎ AllTheirBytes (Some holds) files →
-    AnAbsent (Some holds) (first ∷ files) ⊎ AllTheirBytes (Some holds) (first ∷ files)
-first_told holds first files None is others =
-    inl (0, first, record { here = refl; absent = is; before = tt })
-first_told holds first files (Some bytes) is (inl (place, file, lacks)) =
-    inl (
-      suc place,
-      file,
-      record {
-        here = lacks.here;
-        absent = lacks.absent;
-        before = (told_held holds first bytes is, lacks.before);
-      },
-    )
-first_told holds first files (Some bytes) is (inr (others, held)) = inr (bytes ∷ others, (is, held))
-
-files_told : (holds : List ℕ → Option (List ℕ)) (files : List (List ℕ)) →
-    AnAbsent (Some holds) files ⊎ AllTheirBytes (Some holds) files
-files_told holds [] = inr ([], tt)
-files_told holds (first ∷ files) = first_told holds first files (holds first) refl (files_told holds files)
-
--- files that do not tell may hold nothing but empty texts
-none_told : (files : List (List ℕ)) → AllTheirBytes None files
-none_told [] = ([], tt)
-none_told (first ∷ files) = let others = none_told files in ([] ∷ others.0, (tt, others.1))
-
-any_told : (held : Held) (files : List (List ℕ)) → AnAbsent held files ⊎ AllTheirBytes held files
-any_told None files = inr (none_told files)
-any_told (Some holds) files = files_told holds files
 
 -- ---- commands
 
