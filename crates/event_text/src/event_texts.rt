@@ -37,8 +37,12 @@ pub fn event_line(alloc: Global, code: &Code, event: &Event) -> Result<String, O
     }
 }
 
-/// A message of a misbehaving host as it is printed.
-fn bad_message_text(alloc: Global, code: &Code, made: &BadMessage) -> Result<String, OutOfMemory>
+/// A message of a misbehaving host, as a script says it.
+pub fn bad_message_text(
+    alloc: Global,
+    code: &Code,
+    made: &BadMessage,
+) -> Result<String, OutOfMemory>
     ensures { IfOk result (λ said. string_bytes said ≡ bad_message_text code.now made.now) }
 {
     match made {

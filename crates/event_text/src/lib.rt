@@ -37,7 +37,7 @@ mod words;
 
 pub use acts::{printed_message, says_message};
 pub use event::{BadMessage, BadToken, Event};
-pub use event_texts::event_line;
+pub use event_texts::{bad_message_text, event_line};
 pub use journal_texts::{TURN_TEXT, done_text, journal_laws, send_text, take_text};
 pub use laws::script_laws;
 pub use lines::{Line, Lines, next_line};

@@ -8,9 +8,9 @@ ghost use Rattle.run_rows.specs.Rows.{WhatFits};
 ghost use Rattle.run_sheet.specs.RunEvents.{event_words, host_asking, host_moved, ignored_words, instruction_words};
 ghost use Rattle.run_sheet.specs.RunEvents.{told_by, told_letter};
 
-use crate::acts::act_text;
 use crate::reasons::reason_text;
 use crate::strokes::message_stroke;
+use event_text::bad_message_text;
 use host_code::{Code, Instr, Message, instruction_text, message_text};
 use ignored_reasons::Why;
 use js_base::{HostId, OutOfMemory};
@@ -48,7 +48,7 @@ pub fn event_text(alloc: Global, code: &Code, what: &What) -> Result<String, Out
     match what {
         What::Turn(host, at) => turn_text(alloc, code, code.instruction(*host, *at)),
         What::Take(_, _, message) => message_text(alloc, code, message),
-        What::Act(_, _, made) => act_text(alloc, code, made),
+        What::Act(_, _, made) => bad_message_text(alloc, code, made),
     }
 }
 

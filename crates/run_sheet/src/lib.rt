@@ -11,7 +11,7 @@
 //! misbehave may not affect it by the definition of which the laws of a run speak.
 //!
 //! - `source`: what a sheet is made of
-//! - `strokes`, `reasons`, `acts`: what messages are drawn with, why they are ignored, and what misbehaving hosts send
+//! - `strokes`, `reasons`: what messages are drawn with, and why they are ignored
 //! - `events`: what a row's event was, in words
 //! - `lanes`: how far beside a lifeline an arrow goes down
 //! - `statements`, `stacks`: the notes of a row
@@ -22,7 +22,6 @@
 //! - `laws`: what holds of it
 #![tactic(auto)]
 
-mod acts;
 mod columns;
 mod events;
 mod fields;
